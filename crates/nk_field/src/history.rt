@@ -1,0 +1,28 @@
+//! Histories.
+ghost use Rattle.std.specs.Prelude.{◌≡◌, IfOk};
+
+use crate::list::List;
+use crate::packet::Packet;
+use std::alloc::AllocError;
+
+/// A history: the recorded packets, oldest first, and the last packet.
+#[derive(PartialEq, Eq, Drop)]
+pub struct History {
+    /// The recorded packets, oldest first.
+    pub records: List<Packet>,
+    /// The packet at the end.
+    pub last: Packet,
+}
+
+impl History {
+    /// The same history once more.
+    pub fn copy(&self) -> Result<History, AllocError>
+        ensures { IfOk result (λ h. h ≡ self.now) }
+    {
+        let records = self.records.copy()?;
+        Ok(History {
+            records,
+            last: self.last,
+        })
+    }
+}
