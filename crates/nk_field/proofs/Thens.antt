@@ -4,22 +4,22 @@ use Rattle.std.proofs.lemmas.Bool.Decides.{nat_tests, eqb_tells, leb_tells}
 use Rattle.std.proofs.lemmas.List.{set_comm, set-set, drop_all, append-nil}
 use Rattle.nk_field.specs.Act.{applied, AscendsFrom, lay, act_then}
 
-order : (a b : ℕ) → (a < b) ⊎ ((a ≡ b) ⊎ (b < a))
+pub order : (a b : ℕ) → (a < b) ⊎ ((a ≡ b) ⊎ (b < a))
 order a b = elim (leb_tells a b) [
   | inl le ↦ elim (eqb_tells a b) [ inl same ↦ inr (inl same.1) | inr other ↦ inl (omega (arith, le.1, other.1)) ]
   | inr gt ↦ inr (inr gt.1)
 ]
 
-lay-less : (s t : ℕ × ℕ) (ss ts : List (ℕ × ℕ)) (rest : List (ℕ × ℕ) → List (ℕ × ℕ)) → s.0 < t.0 → lay s ss rest (t ∷ ts) ≡ s ∷ rest (t ∷ ts)
+pub lay-less : (s t : ℕ × ℕ) (ss ts : List (ℕ × ℕ)) (rest : List (ℕ × ℕ) → List (ℕ × ℕ)) → s.0 < t.0 → lay s ss rest (t ∷ ts) ≡ s ∷ rest (t ∷ ts)
 lay-less s t ss ts rest h = let e : ltb s.0 t.0 ≡ true = grind (arith, nat_tests) in rw e refl
 
-lay-same : (s t : ℕ × ℕ) (ss ts : List (ℕ × ℕ)) (rest : List (ℕ × ℕ) → List (ℕ × ℕ)) → s.0 ≡ t.0 → lay s ss rest (t ∷ ts) ≡ t ∷ rest ts
+pub lay-same : (s t : ℕ × ℕ) (ss ts : List (ℕ × ℕ)) (rest : List (ℕ × ℕ) → List (ℕ × ℕ)) → s.0 ≡ t.0 → lay s ss rest (t ∷ ts) ≡ t ∷ rest ts
 lay-same s t ss ts rest h =
     let e : ltb s.0 t.0 ≡ false = grind (arith, nat_tests) in
     let k : eqb s.0 t.0 ≡ true = grind (arith, nat_tests) in
     rw (e, k) refl
 
-lay-more : (s t : ℕ × ℕ) (ss ts : List (ℕ × ℕ)) (rest : List (ℕ × ℕ) → List (ℕ × ℕ)) → t.0 < s.0 → lay s ss rest (t ∷ ts) ≡ t ∷ lay s ss rest ts
+pub lay-more : (s t : ℕ × ℕ) (ss ts : List (ℕ × ℕ)) (rest : List (ℕ × ℕ) → List (ℕ × ℕ)) → t.0 < s.0 → lay s ss rest (t ∷ ts) ≡ t ∷ lay s ss rest ts
 lay-more s t ss ts rest h =
     let e : ltb s.0 t.0 ≡ false = grind (arith, nat_tests) in
     let k : eqb s.0 t.0 ≡ false = grind (arith, nat_tests) in
