@@ -100,8 +100,8 @@ impl Packet {
         }
     }
 
-    /// Writes a value at a field.
-    pub(crate) fn put(&mut self, f: Fid, value: u64)
+    /// Writes a value at a field, in its range or not.
+    pub fn put(&mut self, f: Fid, value: u64)
         ensures { self.new ≡ slice_set self.old f value }
     {
         self.values[f.place()] = value;
