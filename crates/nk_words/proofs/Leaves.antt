@@ -1,0 +1,18 @@
+-- The arguments of a command, one after another.
+use Rattle.std.proofs.Common.{◌≡◌, ◌<◌, ◌+◌, ℕ, List, [], ◌∷◌, length, map, take, get_or, refl, Bor}
+use Rattle.std.proofs.lemmas.List.{map_more, map-append}
+use Rattle.clap.specs.Walk.{Text}
+use Rattle.clap.specs.Simple.{App, with_rule}
+use Rattle.nk_words.specs.App.{leaf_app, wanted}
+
+-- a command with one more of its arguments
+pub more_leaf : (name : Text) (arguments : List (Bor Text)) (i : ℕ) (d : Bor Text) (a : App)
+    → i < length arguments
+    → a ≡ leaf_app name (map (λ t. t.now) (take i arguments))
+    → with_rule a (wanted (get_or arguments i d).now) ≡ leaf_app name (map (λ t. t.now) (take (i + 1) arguments))
+more_leaf name arguments i d a h e =
+    rw (
+      e,
+      map_more (λ (t : Bor Text). t.now) arguments i d h,
+      map-append wanted (map (λ (t : Bor Text). t.now) (take i arguments)) ((get_or arguments i d).now ∷ []),
+    ) refl

@@ -1,0 +1,33 @@
+-- The commands, as `clap` sees them.
+use Rattle.std.specs.Prelude.{true, List, [], ◌∷◌, map, codes}
+use Rattle.clap.specs.Walk.{Rule, Text}
+use Rattle.clap.specs.Simple.{App, Shape, new_rule, new_shape, with_subcommand}
+
+-- an argument that is wanted
+abbrev pub wanted : Text → Rule
+wanted id = record (new_rule id) { required = true }
+
+-- a command with arguments of these names, each of which is wanted
+abbrev pub leaf_shape : Text → List Text → Shape
+leaf_shape name arguments = record (new_shape name) { rules = map wanted arguments }
+
+-- the same as a command of its own
+abbrev pub leaf_app : Text → List Text → App
+leaf_app name arguments = record { top = leaf_shape name arguments; subs = [] }
+
+-- the program without its commands: a command is wanted, and help and version are switched off
+abbrev pub nk_top : App
+nk_top = record {
+  top = record (new_shape (codes "nk")) {
+    no_binary_name = true;
+    disable_help_flag = true;
+    disable_help_subcommand = true;
+    disable_version_flag = true;
+    subcommand_required = true;
+  };
+  subs = [];
+}
+
+-- the program with all of its commands
+unfoldable pub nk_app : App
+nk_app = with_subcommand nk_top (leaf_shape (codes "compile") (codes "NAME" ∷ []))

@@ -1,0 +1,45 @@
+-- The command that the words give, by `clap`'s own functions of the words.
+use Rattle.std.specs.Prelude.{◌≡◌, ◌==◌, ℕ, List, map, length, codes, Option, Some, None, option_map}
+use Rattle.std.specs.Prelude.{option_and_then, if◌then◌else◌, ⊤, String, string_bytes, Ok, Err}
+use Rattle.std.specs.Global.{Global}
+use Rattle.std.specs.declared.result.Result.{Result}
+use Rattle.std.specs.Str.{bytes_eq}
+use Rattle.clap.specs.Walk.{Row, Text, first_of}
+use Rattle.clap.specs.Simple.{subcommand_of}
+use Rattle.clap.specs.Faults.{fault_of}
+use Rattle.nk_words.specs.declared.words.Command.{Command}
+use Rattle.nk_words.specs.declared.words.Command.TheVariants.{Compile}
+use Rattle.nk_words.specs.declared.words.WordsError.{WordsError}
+use Rattle.nk_words.specs.declared.words.WordsError.TheVariants.{NoMemory, Usage}
+use Rattle.nk_words.specs.App.{nk_app}
+
+-- the words as texts
+abbrev pub texts : List (String Global) → List Text
+texts words = map (λ w. string_bytes w) words
+
+-- the command `compile NAME`, from what was found of its argument
+abbrev pub compile_of : List Row → Option Command
+compile_of rows = option_map (λ name. Compile name) (first_of (codes "NAME") rows)
+
+-- the command of this name, from what was found of its arguments
+abbrev pub command_with : Text → List Row → Option Command
+command_with name rows = if bytes_eq name (codes "compile") then compile_of rows else None
+
+-- the command of the subcommand that was found
+abbrev pub command_found : Option (Text × List Row) → Option Command
+command_found = option_and_then (λ p. command_with p.0 p.1)
+
+-- the command that the words give, where `clap` finds no fault in them
+abbrev pub command_of : List Text → Option Command
+command_of words =
+    if length (fault_of nk_app words) == 0 then command_found (subcommand_of nk_app words) else None
+
+-- the policy's name in a command
+abbrev pub name_of : Command → List ℕ
+name_of (Compile name) = name
+
+-- what was read, and Usage only where there is nothing to read
+abbrev pub Reads : {X : Type 0} → Option X → Result X WordsError → Type 0
+Reads o (Ok x) = o ≡ Some x
+Reads o (Err NoMemory) = ⊤
+Reads o (Err Usage) = o ≡ None

@@ -1,0 +1,173 @@
+//! The commands, read by `clap` with help and version switched off.
+ghost use Rattle.std.specs.Prelude.{◌≡◌, IfOk, option_map, map, false};
+ghost use Rattle.clap.specs.declared.builder.command.Command.TheViews.{out-Command as fields_of};
+ghost use Rattle.clap.specs.Matches.{found_of};
+ghost use Rattle.clap.specs.Simple.{app_of, subcommand_rows_of, with_rule, with_subcommand};
+ghost use Rattle.clap.specs.Walk.{first_of, rows_of};
+ghost use Rattle.nk_words.specs.App.{leaf_app, leaf_shape, nk_app, nk_top, wanted};
+ghost use Rattle.nk_words.specs.Words.{Reads, command_found, command_of, command_with, compile_of};
+ghost use Rattle.nk_words.specs.Words.{name_of, texts};
+
+use crate::Bytes;
+use clap::error::ErrorKind;
+use clap::{Arg, ArgMatches};
+use std::alloc::{AllocError, Global};
+use thiserror::Error;
+
+/// What the words ask for.
+#[derive(Drop)]
+pub enum Command {
+    /// `compile NAME`: the table of every switch for the policy of this name.
+    Compile(Bytes),
+}
+
+impl Command {
+    /// The name of the policy that is meant.
+    pub fn name(&self) -> &str
+        ensures { result.now ≡ name_of self.now }
+    {
+        match self {
+            Command::Compile(name) => name.as_str(),
+        }
+    }
+}
+
+/// Why the words give no command.
+#[derive(Clone, Copy, Debug, PartialEq, Eq, Error)]
+pub enum WordsError {
+    /// There is not enough memory.
+    #[error("no memory")]
+    NoMemory,
+    /// The words are not those of a command.
+    #[error("usage")]
+    Usage,
+}
+
+/// The command with one more argument, which is wanted.
+fn with_wanted<'a>(
+    alloc: Global,
+    command: clap::Command<'a>,
+    name: &'a str,
+) -> Result<clap::Command<'a>, AllocError>
+    ensures app { IfOk result (λ c.
+        app_of c ≡ with_rule (app_of command.entry) (wanted name.entry.now)) }
+    ensures local { IfOk result (λ c.
+        (fields_of c).has_globals ≡ (fields_of command.entry).has_globals) }
+{
+    let argument = Arg::new(alloc, name).required(true);
+    command.arg(argument)
+}
+
+/// A command of this name with so many arguments, each of which is wanted.
+fn leaf<'a>(
+    alloc: Global,
+    name: &'a str,
+    arguments: &[&'a str],
+) -> Result<clap::Command<'a>, AllocError>
+    ensures app { IfOk result (λ c.
+        app_of c ≡ leaf_app name.entry.now (map (λ a. a.now) arguments.entry.now)) }
+    ensures local { IfOk result (λ c. (fields_of c).has_globals ≡ false) }
+{
+    let mut command = clap::Command::new(alloc, name);
+    for argument in arguments {
+        command = with_wanted(alloc, command, argument)?;
+    }
+    Ok(command)
+}
+
+/// The command with one more subcommand, of this name and with so many arguments.
+fn with_leaf<'a>(
+    alloc: Global,
+    command: clap::Command<'a>,
+    name: &'a str,
+    arguments: &[&'a str],
+) -> Result<clap::Command<'a>, AllocError>
+    ensures { IfOk result (λ c. app_of c ≡ with_subcommand (app_of command.entry)
+        (leaf_shape name.entry.now (map (λ a. a.now) arguments.entry.now))) }
+{
+    let subcommand = leaf(alloc, name, arguments)?;
+    command.subcommand(subcommand)
+}
+
+/// The program without its commands.
+fn top<'a>(alloc: Global) -> clap::Command<'a>
+    ensures { app_of result ≡ nk_top }
+{
+    clap::Command::new(alloc, "nk")
+        .no_binary_name(true)
+        .disable_help_flag(true)
+        .disable_help_subcommand(true)
+        .disable_version_flag(true)
+        .subcommand_required(true)
+}
+
+/// The program with all of its commands.
+#[tactic(auto, unfolding(crate::specs::App::nk_app))]
+fn application<'a>(alloc: Global) -> Result<clap::Command<'a>, AllocError>
+    ensures { IfOk result (λ c. app_of c ≡ nk_app) }
+{
+    with_leaf(alloc, top(alloc), "compile", &["NAME"])
+}
+
+/// The command that the words give. `Usage` comes exactly where they give none.
+pub fn read_words(alloc: Global, words: &[String]) -> Result<Command, WordsError>
+    ensures { Reads (command_of (texts words.now)) result }
+{
+    let Ok(application) = application(alloc) else {
+        return Err(WordsError::NoMemory);
+    };
+    match application.try_get_matches_from(words) {
+        Ok(matches) => command_in(alloc, &matches),
+        Err(error) if error.kind() == ErrorKind::OutOfMemory => Err(WordsError::NoMemory),
+        Err(_) => Err(WordsError::Usage),
+    }
+}
+
+/// The command of the subcommand that was found.
+fn command_in(alloc: Global, matches: &ArgMatches) -> Result<Command, WordsError>
+    ensures { Reads (command_found (subcommand_rows_of matches.now)) result }
+{
+    match matches.subcommand() {
+        Some((name, found)) => command_named(alloc, name, found),
+        None => Err(WordsError::Usage),
+    }
+}
+
+/// The command of this name, with the arguments that were found.
+fn command_named(alloc: Global, name: &str, found: &ArgMatches) -> Result<Command, WordsError>
+    ensures { Reads (command_with name.now (rows_of (found_of found.now))) result }
+{
+    if name == "compile" {
+        compile(alloc, found)
+    } else {
+        Err(WordsError::Usage)
+    }
+}
+
+/// `compile NAME`.
+fn compile(alloc: Global, found: &ArgMatches) -> Result<Command, WordsError>
+    ensures { Reads (compile_of (rows_of (found_of found.now))) result }
+{
+    let name = text(alloc, found, "NAME")?;
+    Ok(Command::Compile(name))
+}
+
+/// The word of an argument.
+fn word<'a>(found: &ArgMatches<'a>, id: &str) -> Option<&'a str>
+    ensures { option_map (λ w. w.now) result ≡ first_of id.now (rows_of (found_of found.now)) }
+{
+    found.get_str(id)
+}
+
+/// The text of an argument.
+fn text(alloc: Global, found: &ArgMatches, id: &str) -> Result<Bytes, WordsError>
+    ensures { Reads (first_of id.now (rows_of (found_of found.now))) result }
+{
+    match word(found, id) {
+        Some(value) => match Bytes::of_text(alloc, value) {
+            Ok(bytes) => Ok(bytes),
+            Err(_) => Err(WordsError::NoMemory),
+        },
+        None => Err(WordsError::Usage),
+    }
+}
