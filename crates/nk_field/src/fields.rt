@@ -1,7 +1,7 @@
 //! The fields of a program.
-ghost use Rattle.std.specs.Prelude.{◌≡◌, ◌≤◌, ◌<◌, ◌↔◌, length, slice_index, slice_index_or, [], IsSome, IsNone, IfSome, IfOk, position, map, string_bytes, OnOk, OnErr};
+ghost use Rattle.std.specs.Prelude.{◌≡◌, ◌+◌, ◌≤◌, ◌<◌, ◌↔◌, length, slice_index, slice_index_or, [], IsSome, IsNone, IfSome, IfOk, position, map, string_bytes, OnOk, OnErr};
 ghost use Rattle.std.specs.Str.{bytes_eq};
-ghost use Rattle.nk_field.specs.Packet.{built_in, field_named, with_field};
+ghost use Rattle.nk_field.specs.Packet.{IsFieldTable, built_in, field_named, with_field};
 
 use crate::packet::Fid;
 use std::alloc::{AllocError, Global};
@@ -118,6 +118,14 @@ impl Fields {
         ensures { result ≡ length self.now.maxima }
     {
         self.maxima.len()
+    }
+
+    /// How many fields are declared, the switch and the port not among them: at most sixteen.
+    pub fn declared(&self) -> usize
+        ensures count { result + 2 ≡ length self.now.maxima }
+        ensures is { IsFieldTable self.now }
+    {
+        self.maxima.len() - 2
     }
 
     /// The field that carries the tag.

@@ -70,6 +70,11 @@ impl<T> List<T> {
         self.vec
     }
 
+    /// The allocator that the list grows with.
+    pub fn alloc(&self) -> Global {
+        *self.vec.allocator()
+    }
+
     /// How many items there are.
     pub fn len(&self) -> usize
         ensures { result ≡ length self.now }
