@@ -1,0 +1,94 @@
+//! Tables as values: rows, buckets and groups of each switch, and which row acts on a packet.
+#![tactic(auto)]
+
+mod copies;
+pub mod laws;
+mod search;
+#[cfg(test)]
+mod tests;
+
+use nk_field::{Act, Fid, Fields, List};
+use nk_topo::Topo;
+pub use search::lookup;
+
+/// Where a bucket sends a packet.
+#[derive(Clone, Copy, PartialEq, Eq, Hash, Debug)]
+pub enum Exit {
+    /// Back to the port where it came in.
+    Back,
+    /// To this port; nothing is sent where the packet came in there.
+    Port(u16),
+}
+
+/// What happens to one copy of a packet: assignments, then an exit.
+#[derive(PartialEq, Eq, Hash, Drop)]
+pub struct Bucket {
+    /// The assignments.
+    pub sets: Act,
+    /// Where the copy is sent.
+    pub exit: Exit,
+}
+
+/// What a row does.
+#[derive(Drop)]
+pub enum Target {
+    /// One bucket.
+    Bucket(Bucket),
+    /// The group with this number: each of its buckets on a copy of its own.
+    Group(u64),
+    /// Drops the packet.
+    Discard,
+}
+
+/// A row of a table.
+#[derive(Drop)]
+pub struct Row {
+    /// The higher one of two rows that match acts.
+    pub priority: u16,
+    /// The value that a packet must have at each of these fields.
+    pub matches: List<(Fid, u64)>,
+    /// What the row does.
+    pub target: Target,
+}
+
+/// A row with its whole bucket list.
+#[derive(Drop)]
+pub struct Plain {
+    /// The higher one of two rows that match acts.
+    pub priority: u16,
+    /// The value that a packet must have at each of these fields.
+    pub matches: List<(Fid, u64)>,
+    /// The buckets, none to drop the packet.
+    pub buckets: List<Bucket>,
+}
+
+/// A group of type all: each bucket runs on a copy of its own.
+#[derive(Drop)]
+pub struct Group {
+    /// The number by which rows of the same switch name it.
+    pub number: u64,
+    /// Its buckets.
+    pub buckets: List<Bucket>,
+}
+
+/// The table of one switch.
+#[derive(Drop)]
+pub struct Table {
+    /// The switch.
+    pub switch: u16,
+    /// Its groups.
+    pub groups: List<Group>,
+    /// Its rows.
+    pub rows: List<Row>,
+}
+
+/// The tables of all switches, with the fields and the topology.
+#[derive(Drop)]
+pub struct Tables {
+    /// The fields.
+    pub fields: Fields,
+    /// The switches and links.
+    pub topo: Topo,
+    /// The table of each switch.
+    pub tables: List<Table>,
+}

@@ -1,0 +1,5 @@
+pub mod Insides
+pub mod Kept
+pub mod Members
+pub mod Orders
+pub mod Places
