@@ -76,11 +76,13 @@ only_ports (s ∷ ss) sw pt up =
     or_false : (a b : Bool) → b ≡ false → (a || b) ≡ a
     or_false true b e = refl
     or_false false b e = e
+
     others : s.switch ≡ sw → (r : SwitchPorts) → In ss r → ((r.switch == sw) && list_any (λ p. p == pt) r.ports) ≡ false
     others e r i =
         let above = up.0 r i in
         let differs : (r.switch == sw) ≡ false = grind (arith, nat_tests, above, e) in
         ap (λ b. b && list_any (λ p. p == pt) r.ports) differs
+
     by : (b : Bool) → (s.switch == sw) ≡ b →
         list_any (λ r. (r.switch == sw) && list_any (λ p. p == pt) r.ports) ss ≡ list_any (λ p. p == pt) (ports_among ss sw) →
         ((b && list_any (λ p. p == pt) s.ports) || list_any (λ r. (r.switch == sw) && list_any (λ p. p == pt) r.ports) ss)
@@ -149,11 +151,14 @@ found_any test xs = some_of (nat_lt (position_or_len test xs) (length xs)) (posi
     some_of : (b : Bool) (n : ℕ) → is_some (cond b (Some n) None) ≡ b
     some_of true n = refl
     some_of false n = refl
+
     one_more : (b : Bool) (n k : ℕ) → nat_lt n k ≡ b → nat_lt (1 + n) (suc k) ≡ b
     one_more b n k e = grind (arith, nat_tests, e)
+
     by : (b : Bool) (n k : ℕ) (c : Bool) → nat_lt n k ≡ c → nat_lt (cond (not b) (1 + n) 0) (suc k) ≡ (b || c)
     by true n k c e = grind (arith, nat_tests)
     by false n k c e = one_more c n k e
+
     any_place : (ys : List _) → nat_lt (position_or_len test ys) (length ys) ≡ list_any test ys
     any_place [] = refl
     any_place (y ∷ ys) = by (test y) (position_or_len test ys) (length ys) (list_any test ys) (any_place ys)
@@ -204,8 +209,7 @@ inside_with_switch items ns ms vs ws ls t i n v is whole at more_numbers more_po
     let few : i ≤ length ns = subst (λ k. k ≤ length ns) (sym at) (prefix_len-le-length (λ m. nat_lt m n) ns) in
     let few_ports : i ≤ length vs = omega (arith, is.paired, few, length-map {B = List ℕ} vs items) in
     let numbers : length ms ≡ length ns + 1 = ap length more_numbers ∙ length-insert ns i n few in
-    let ports : length (map items ws) ≡ length vs + 1 = length-map {B = List ℕ} ws items ∙ ap length more_ports ∙ length-insert vs i v few_ports in
-    (
+    let ports : length (map items ws) ≡ length vs + 1 = length-map {B = List ℕ} ws items ∙ ap length more_ports ∙ length-insert vs i v few_ports in (
       record {
         paired = omega (arith, numbers, ports, is.paired, length-map {B = List ℕ} vs items);
         topology = subst IsTopology (sym value) kept;
@@ -266,6 +270,7 @@ among_at (l ∷ ls) sw pt up = by (starts_below sw pt l) refl (among_at ls sw pt
         (if b then Some (l.to_switch, l.to_port) else target_among ls sw pt) ≡ (if b then Some (l.to_switch, l.to_port) else None)
     same true e = refl
     same false e = e
+
     by : (b : Bool) → starts_below sw pt l ≡ b → target_among ls sw pt ≡ target_at ls (prefix_len (starts_below sw pt) ls) sw pt →
         target_among (l ∷ ls) sw pt ≡ target_at (l ∷ ls) (cond b (1 + prefix_len (starts_below sw pt) ls) 0) sw pt
     by true e rest =

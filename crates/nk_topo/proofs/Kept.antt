@@ -70,6 +70,7 @@ first_from (k ∷ ls) l up i = ⊎_elim this (λ j. later j (first_from ls l up.
         let at : ((k.from_switch == k.from_switch) && (k.from_port == k.from_port)) ≡ true = grind (arith, nat_tests) in
         subst (λ m. target_among (k ∷ ls) m.from_switch m.from_port ≡ Some (m.to_switch, m.to_port)) (sym e)
         (ap (λ b. if b then Some (k.to_switch, k.to_port) else target_among ls k.from_switch k.from_port) at)
+
     later : In ls l → target_among ls l.from_switch l.from_port ≡ Some (l.to_switch, l.to_port) →
         target_among (k ∷ ls) l.from_switch l.from_port ≡ Some (l.to_switch, l.to_port)
     later j rest =

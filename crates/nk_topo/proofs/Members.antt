@@ -53,14 +53,14 @@ pub order_from_pairs : {X : Type 0} (R : X → X → Type 0) (xs : List X) → A
 order_from_pairs R [] h = tt
 order_from_pairs R (x ∷ xs) h = (
   (λ y i.
-  let c = contains_from_in xs y i in
-  let lt : 0 < suc c.0 = omega arith in
-  let less : suc c.0 < length (x ∷ xs) = omega (arith, c.1) in
-  subst (R x) c.2 (h 0 (suc c.0) y lt less)),
+      let c = contains_from_in xs y i in
+      let lt : 0 < suc c.0 = omega arith in
+      let less : suc c.0 < length (x ∷ xs) = omega (arith, c.1) in
+      subst (R x) c.2 (h 0 (suc c.0) y lt less)),
   order_from_pairs R xs (λ i j d lt less.
-  let lt' : suc i < suc j = omega (arith, lt) in
-  let less' : suc j < length (x ∷ xs) = omega (arith, less) in
-  h (suc i) (suc j) d lt' less'),
+      let lt' : suc i < suc j = omega (arith, lt) in
+      let less' : suc j < length (x ∷ xs) = omega (arith, less) in
+      h (suc i) (suc j) d lt' less'),
 )
 
 -- and back to it

@@ -11,5 +11,6 @@ pub returns-else-place-numbers-clause-place : goal.returns-else-place-numbers-cl
 returns-else-place-numbers-clause-place c =
     sym (position_missed c.args.numbers.now c.args.n c.place_in-place.result c.requires c.place_in-place.ensures.place
     (λ lt e. elim c.else-place-numbers.branch [
-      else-place-numbers-via-then-place-numbers+else-numbers-place w ↦ w.if-numbers-place.false e
-      | else-place-numbers-via-else-place-numbers w ↦ omega arith ]))
+      | else-place-numbers-via-then-place-numbers+else-numbers-place w ↦ w.if-numbers-place.false e
+      | else-place-numbers-via-else-place-numbers w ↦ omega arith
+    ]))

@@ -27,7 +27,7 @@ returns-else-a-sw c =
     (omega arith) c.index.ensures in
     let other : ((c.index.result.now.0 == c.args.sw) && (c.index.result.now.1 == c.args.pt)) ≡ false =
     elim c.else-a-sw.branch [
-      else-a-sw-via-then-a-sw+else-m-pt w ↦ grind (arith, nat_tests)
+      | else-a-sw-via-then-a-sw+else-m-pt w ↦ grind (arith, nat_tests)
       | else-a-sw-via-else-a-sw w ↦ grind (arith, nat_tests)
     ] in
     sym (at ∙ ap (λ b. if b then Some (c.index.result.now.2, c.index.result.now.3) else None) other)

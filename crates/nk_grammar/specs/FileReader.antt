@@ -1,0 +1,32 @@
+-- What the code's reader of texts is to the machine.
+use Rattle.std.specs.Prelude.{List, map}
+use Rattle.nk_grammar.specs.declared.decl.Stage.{Stage}
+use Rattle.nk_grammar.specs.declared.decl.Stage.TheVariants as stage
+use Rattle.nk_grammar.specs.declared.text.Reader.{Reader}
+use Rattle.nk_grammar.specs.Machine.{State}
+use Rattle.nk_grammar.specs.Reader.{reader_state}
+use Rattle.nk_grammar.specs.File.{Declaration, declaration_of}
+use Rattle.nk_grammar.specs.FileMachine.{Phase, between, field_read, field_named, tag_read, switch_read, switch_numbered, port_wanted, port_read, link_read, let_read, let_named, in_policy, Reading, reading}
+
+-- what stands before the next token
+abbrev pub phase_of : Stage → State → Phase
+phase_of stage.Between s = between
+phase_of stage.Field s = field_read
+phase_of (stage.FieldNamed w) s = field_named w
+phase_of stage.Tag s = tag_read
+phase_of stage.Switch s = switch_read
+phase_of (stage.SwitchNumbered n) s = switch_numbered n
+phase_of (stage.Ports n ps) s = port_wanted n ps.items
+phase_of (stage.PortRead n ps) s = port_read n ps.items
+phase_of (stage.Link q) s = link_read q
+phase_of (stage.Let line) s = let_read line
+phase_of (stage.LetNamed w line) s = let_named w line
+phase_of (stage.Policy w line) s = in_policy w line s
+
+-- the declarations that are done in a reader
+abbrev pub declarations_in : Reader → List Declaration
+declarations_in r = map declaration_of r.decls.items
+
+-- what a reader is to the machine
+abbrev pub reading_of : Reader → Reading
+reading_of r = reading (phase_of r.stage (reader_state r.policy)) (declarations_in r)

@@ -1,0 +1,9 @@
+pub mod Terminal
+pub mod Tree
+pub mod Grammar
+pub mod Machine
+pub mod Reader
+pub mod File
+pub mod FileMachine
+pub mod FileReader
+pub mod Answer

@@ -1,0 +1,70 @@
+//! The syntax trees of policies, with a line for each name, number and `~`.
+ghost use Rattle.std.specs.Prelude.{◌≡◌};
+
+use nk_lex::Bytes;
+
+/// A name with its line.
+#[derive(Drop)]
+pub struct Word {
+    /// The name's bytes.
+    pub text: Bytes,
+    /// The line that it stands on.
+    pub line: u64,
+}
+
+/// A number with its line.
+#[derive(Clone, Copy, Debug, PartialEq, Eq)]
+pub struct Number {
+    /// The number's value.
+    pub value: u64,
+    /// The line that it stands on.
+    pub line: u64,
+}
+
+/// The parts of a sum or a sequence, in order.
+#[derive(Drop)]
+#[cycle(ast)]
+pub struct Asts {
+    /// The parts.
+    pub items: Vec<Ast>,
+}
+
+/// A policy as it is written. The empty sequence is `id`, and the empty sum is `drop`.
+#[derive(Drop)]
+#[cycle(ast)]
+pub enum Ast {
+    /// A name alone, which is a `let`'s.
+    Name(Word),
+    /// `NAME = NUMBER`.
+    Test(Word, Number),
+    /// `NAME := NUMBER`.
+    Set(Word, Number),
+    /// Several terms, or none, which is `drop`.
+    Sum(Asts),
+    /// Several factors, or none, which is `id`.
+    Seq(Asts),
+    /// `~ atom`, with the line of the `~`.
+    Not(Box<Ast>, u64),
+    /// A factor and a run of `*`.
+    Star(Box<Ast>),
+    /// `dup`.
+    Dup,
+    /// `NUMBER:NUMBER => NUMBER:NUMBER`: switch and port of the source, then of the target.
+    Link(Number, Number, Number, Number),
+}
+
+impl Asts {
+    /// The parts as a list, from a vector.
+    pub fn new(items: Vec<Ast>) -> Asts
+        ensures { result.items ≡ items }
+    {
+        Asts { items }
+    }
+
+    /// The parts in order.
+    pub fn as_slice(&self) -> &[Ast]
+        ensures { result.now ≡ self.now.items.items }
+    {
+        self.items.as_slice()
+    }
+}

@@ -1,0 +1,40 @@
+//! The grammar of program texts: declarations and policies, read token by token.
+//!
+//! ```text
+//! file    : decl*
+//! decl    : field NAME NUMBER
+//!         | tag NAME
+//!         | switch NUMBER ports NUMBER { , NUMBER }
+//!         | link NUMBER : NUMBER -> NUMBER : NUMBER
+//!         | let NAME = pol
+//! pol     : term { + term }
+//! term    : factor { ; factor }
+//! factor  : atom { * }
+//! atom    : ~ atom | id | drop | dup | NAME | NAME = NUMBER | NAME := NUMBER
+//!         | NUMBER : NUMBER => NUMBER : NUMBER | ( pol )
+//! ```
+//!
+//! One term alone is that term, several are one sum, and the same of factors and sequences. A run of
+//! `*` behind one atom is one star. Parentheses leave no trace of their own. `(` and `~` are open until
+//! the parenthesis or the atom ends, and no more than 256 may be open.
+#![tactic(auto)]
+
+mod ast;
+mod build;
+mod decl;
+mod frame;
+mod laws;
+mod parts;
+mod place;
+mod reader;
+#[cfg(test)]
+mod tests;
+mod text;
+
+pub use ast::{Ast, Asts, Number, Word};
+pub use decl::{Decl, File, GrammarError};
+pub use laws::{
+    a_text_has_one_tree, policies_are_read, texts_are_answered, texts_are_read,
+    what_is_read_is_a_policy, what_is_refused_goes_nowhere, what_is_taken_goes_on,
+};
+pub use text::file;

@@ -1,0 +1,49 @@
+//! What may come next in a policy.
+use crate::ast::{Number, Word};
+
+/// How much of `NUMBER : NUMBER => NUMBER : NUMBER` stands there.
+#[derive(Clone, Copy, Debug, PartialEq, Eq)]
+pub enum Quad {
+    /// Nothing yet.
+    Start,
+    /// The source's switch.
+    Switch(Number),
+    /// The source's switch and the colon.
+    SwitchColon(Number),
+    /// The source.
+    Port(Number, Number),
+    /// The source and the sign between the two ends.
+    Arrow(Number, Number),
+    /// The source and the target's switch.
+    ToSwitch(Number, Number, Number),
+    /// The source, the target's switch and the colon.
+    ToColon(Number, Number, Number),
+}
+
+/// A token read behind a part of a link.
+#[derive(Clone, Copy, Debug, PartialEq, Eq)]
+pub enum QuadNext {
+    /// No link goes on with it.
+    Refused,
+    /// The link goes on.
+    Going(Quad),
+    /// The link is whole.
+    Full(Number, Number, Number, Number),
+}
+
+/// What stands before the next token of a policy.
+#[derive(Drop)]
+pub enum Place {
+    /// An atom is wanted.
+    Want,
+    /// A name, which `=` or `:=` may follow.
+    Named(Word),
+    /// A name and `=`.
+    Tested(Word),
+    /// A name and `:=`.
+    Assigned(Word),
+    /// A part of a link literal.
+    Linked(Quad),
+    /// A factor, with a star or without.
+    After(bool),
+}

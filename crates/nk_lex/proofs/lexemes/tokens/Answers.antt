@@ -1,0 +1,16 @@
+use Rattle.std.proofs.Common.{drop}
+use Rattle.nk_lex.specs.Lex.{scan}
+use Rattle.nk_lex.proofs.Standing.{front_is_small}
+use Rattle.nk_lex.proofs.Steps.{kept}
+use Rattle.nk_lex.proofs.lexemes.tokens.Goals as goal
+
+pub lexemes-preserved : goal.lexemes-preserved
+lexemes-preserved c =
+    rw (c.in_ok-add.ensures.ok, c.line_past-line.ensures)
+    (kept c.args.text.now c.lexemes.at c.in_ok-len.len c.lexemes.line c.in_ok-len.token c.lexemes.tokens.items
+    c.lexemes-test.true c.lexemes.invariant c.in_ok-len.ensures.fits c.in_ok-len.ensures.cut)
+
+pub returns-clause-small : goal.returns-clause-small
+returns-clause-small c =
+    front_is_small c.args.text.now c.lexemes.tokens.items
+    (scan (drop c.lexemes.at c.args.text.now) 0 c.lexemes.line c.lexemes.at) c.lexemes.invariant.rest

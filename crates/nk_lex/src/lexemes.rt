@@ -1,0 +1,165 @@
+//! The tokens of a text.
+ghost use Rattle.std.specs.Prelude.{
+  ◌≡◌,
+  ◌<◌,
+  ◌≤◌,
+  ◌+◌,
+  ◌^◌,
+  ◌++◌,
+  [],
+  length,
+  Some,
+  None,
+  Ok,
+  Err,
+  IfOk,
+  IfErr,
+  OnOk,
+  option_to_list,
+  if◌then◌else◌,
+  nat_le,
+  take,
+};
+ghost use Rattle.std.specs.List.{All};
+ghost use Rattle.nk_lex.specs.Kinds.{kind_of_name};
+ghost use Rattle.nk_lex.specs.Lex.{
+  cut_front,
+  largest,
+  line_after,
+  number_of,
+  token,
+  tokens_of,
+  value_of,
+  Returns,
+};
+
+use crate::front::{Front, front_at};
+use crate::kind::kind_of_name;
+use crate::{Bytes, Kind, LARGEST, LexError, Token};
+use std::alloc::{AllocError, Global};
+
+/// The number that digits write, if it isn't too large.
+fn value(digits: &[u8]) -> Option<u64>
+    ensures { result ≡
+        (if nat_le (value_of digits.now) largest then Some (value_of digits.now) else None) }
+{
+    let mut value = 0u64;
+    for digit in digits {
+        let next = value * 10 + u64::from(digit.saturating_sub(b'0'));
+        value = next.min(LARGEST + 1);
+    }
+    if value <= LARGEST { Some(value) } else { None }
+}
+
+/// A symbol's or a number's token, which has no text.
+fn plain(alloc: Global, kind: Kind, at: usize, len: usize, line: u64, value: u64) -> Token
+    requires room { at + len < 2 ^ 63 }
+    ensures { result ≡ token kind at len line value [] }
+{
+    Token {
+        kind,
+        start: at,
+        end: at + len,
+        line,
+        value,
+        text: Bytes::new(alloc),
+    }
+}
+
+/// The token of a name or a keyword.
+fn word(alloc: Global, name: &[u8], at: usize, line: u64) -> Result<Token, AllocError>
+    requires room { at + length name.now < 2 ^ 63 }
+    ensures { IfOk result
+        (λ t. t ≡ token (kind_of_name name.now) at (length name.now) line 0 name.now) }
+{
+    let text = Bytes::of(alloc, name)?;
+    Ok(Token {
+        kind: kind_of_name(name),
+        start: at,
+        end: at + name.len(),
+        line,
+        value: 0,
+        text,
+    })
+}
+
+/// The token of a number, or the fault that it is too large.
+fn number(alloc: Global, digits: &[u8], at: usize, line: u64) -> Result<Token, LexError>
+    requires room { at + length digits.now < 2 ^ 63 }
+    ensures { result ≡ number_of digits.now at (length digits.now) line }
+{
+    match value(digits) {
+        Some(value) => Ok(plain(alloc, Kind::Number, at, digits.len(), line, value)),
+        None => Err(LexError::NumberTooLarge { line }),
+    }
+}
+
+/// The lexeme at the front: how many bytes it has, and its token, where it has one.
+fn lexeme(
+    alloc: Global,
+    bytes: &[u8],
+    at: usize,
+    line: u64,
+) -> Result<(usize, Option<Token>), LexError>
+    requires some { 0 < length bytes.now }
+    requires room { at + length bytes.now < 2 ^ 63 }
+    ensures cut { Returns (λ p. p) result (cut_front bytes.now line at) }
+    ensures fits { IfOk result (λ p. (0 < p.0) × (p.0 ≤ length bytes.now)) }
+{
+    let [first, rest @ ..] = bytes else {
+        return Err(LexError::NoMemory);
+    };
+    match front_at(*first, rest) {
+        Front::Blank(len) => Ok((len, None)),
+        Front::Name(len) => match word(alloc, &bytes[..len], at, line) {
+            Ok(token) => Ok((len, Some(token))),
+            Err(_) => Err(LexError::NoMemory),
+        },
+        Front::Number(len) => match number(alloc, &bytes[..len], at, line) {
+            Ok(token) => Ok((len, Some(token))),
+            Err(fault) => Err(fault),
+        },
+        Front::Symbol(len, kind) => Ok((len, Some(plain(alloc, kind, at, len, line, 0)))),
+        Front::Bad => Err(LexError::BadByte { line }),
+    }
+}
+
+/// Puts a token at the end, where there is one.
+fn add(tokens: &mut Vec<Token>, token: Option<Token>) -> Result<(), LexError>
+    ensures ok { OnOk result (tokens.new.items ≡ tokens.old.items ++ option_to_list token) }
+    ensures err { IfErr result (λ e. e ≡ LexError.NoMemory) }
+{
+    match token {
+        Some(token) => match tokens.push(token) {
+            Ok(()) => Ok(()),
+            Err(_) => Err(LexError::NoMemory),
+        },
+        None => Ok(()),
+    }
+}
+
+/// The line behind a byte.
+fn line_past(line: u64, byte: u8) -> u64
+    requires { line < 2 ^ 63 + 1 }
+    ensures { result ≡ line_after line byte }
+{
+    if byte == b'\n' { line + 1 } else { line }
+}
+
+/// The tokens of a text, in the order of the text. A byte that begins no lexeme is `BadByte`, a
+/// number above `LARGEST` is `NumberTooLarge`; the first fault in the text is answered, with its line.
+pub fn tokens(alloc: Global, text: &[u8]) -> Result<Vec<Token>, LexError>
+    ensures tokens { Returns (λ v. v.items) result (tokens_of text.now) }
+    ensures small { IfOk result (λ v. All (λ t. t.value ≤ largest) v.items) }
+{
+    let mut tokens = Vec::new(alloc);
+    let mut at = 0;
+    let mut line = 1u64;
+    'lexemes: while at < text.len() {
+        let (len, token) = lexeme(alloc, &text[at..], at, line)?;
+        add(&mut tokens, token)?;
+        line = line_past(line, text[at]);
+        at += len;
+    }
+    Ok(tokens)
+}

@@ -1,0 +1,26 @@
+//! The tokens of a text: names, keywords, numbers and symbols, each with its place and its line.
+//!
+//! White space is the space, tab, carriage return and line feed. `#` begins a comment that runs to
+//! the line feed or to the end. A name is a letter or `_`, then letters, digits and `_`; a number is
+//! one or more digits. Of two symbols that stand at one place the longer is taken. Any other byte
+//! is a bad byte. The line of a byte is 1 plus the line feeds before it.
+#![tactic(auto)]
+
+mod bytes;
+mod classes;
+mod front;
+mod kind;
+mod laws;
+mod lexemes;
+#[cfg(test)]
+mod tests;
+mod token;
+
+pub use bytes::Bytes;
+pub use kind::Kind;
+pub use laws::{
+    a_line_is_one_more_than_the_line_feeds_before, a_name_is_what_stands_there,
+    a_number_has_the_value_of_its_digits, spans_ascend, values_are_small,
+};
+pub use lexemes::tokens;
+pub use token::{LARGEST, LexError, Token};
