@@ -13,7 +13,7 @@ use Rattle.nk_field.specs.Packet.{FieldTable, IsFieldTable, field_named, with_fi
 abbrev pub table : List (List ℕ) → List ℕ → Option ℕ → FieldTable
 table names maxima tag = record { names = names; maxima = maxima; tag = tag }
 
--- how many of the images pass from the front on
+-- how many images pass from the front on is how many elements do whose images pass
 prefix_len-map : {X Y : Type 0} (f : X → Y) (p : Y → Bool) (xs : List X) →
     prefix_len p (map f xs) ≡ prefix_len (λ x. p (f x)) xs
 prefix_len-map f p [] = refl
@@ -29,24 +29,26 @@ pub position-map : {X Y : Type 0} (f : X → Y) (p : Y → Bool) (xs : List X) �
     position p (map f xs) ≡ position (λ x. p (f x)) xs
 position-map f p xs = rw (prefix_len-map f (λ y. not (p y)) xs, map_length f xs) refl
 
--- no place comes of a failed test alone
+-- where a test gives no place, it failed
 none_is : (b : Bool) (n : ℕ) → IsNone (cond b (Some n) None) → b ≡ false
 none_is true n h = cc
 none_is false n h = refl
 
--- what isn't found is none of the elements
-pub not_found : {X : Type 0} (p : X → Bool) (xs : List X) → IsNone (position p xs) → length xs ≤ position_or_len p xs
+-- what isn't found is counted past the last element
+pub not_found : {X : Type 0} (p : X → Bool) (xs : List X) → IsNone (position p xs) →
+    length xs ≤ position_or_len p xs
 not_found p xs none =
     let e : nat_lt (position_or_len p xs) (length xs) ≡ false = none_is _ _ none in
     grind (arith, nat_tests)
 
--- what fails its negation
+-- what passes a test's negation fails the test
 passes_not : (b : Bool) → not b ≡ true → b ≡ false
 passes_not true h = cc
 passes_not false h = refl
 
 -- each element fails a test that finds nothing
-pub fails_each : {X : Type 0} (p : X → Bool) (xs : List X) → IsNone (position p xs) → (k : ℕ) (d : X) → k < length xs →
+pub fails_each : {X : Type 0} (p : X → Bool) (xs : List X) → IsNone (position p xs) →
+    (k : ℕ) (d : X) → k < length xs →
     p (get_or xs k d) ≡ false
 fails_each p xs none k d lt =
     let within : k < position_or_len p xs = omega (arith, not_found p xs none) in
@@ -58,27 +60,34 @@ pub distinct_with : (names : List (List ℕ)) (name : List ℕ) → AllPairs (λ
 distinct_with names name apart none i j d less within =
     let bound : j < length names + 1 = omega (arith, within, length-append names (name ∷ [])) in
     let front : i < length names = omega arith in
-    let left : get_or (names ++ name ∷ []) i d ≡ get_or names i d = get_or_append_left names (name ∷ []) d i front in
+    let left : get_or (names ++ name ∷ []) i d ≡ get_or names i d =
+    get_or_append_left names (name ∷ []) d i front in
     elim (leb_tells (suc j) (length names)) [
       | inl there ↦
-          let right : get_or (names ++ name ∷ []) j d ≡ get_or names j d = get_or_append_left names (name ∷ []) d j (omega (arith, there.1)) in
+          let right : get_or (names ++ name ∷ []) j d ≡ get_or names j d =
+          get_or_append_left names (name ∷ []) d j (omega (arith, there.1)) in
           λ same. apart i j d less (omega (arith, there.1)) (sym left ∙ same ∙ right)
       | inr last ↦
           let place : j ≡ length names = omega (arith, last.1) in
-          let right : get_or (names ++ name ∷ []) j d ≡ name = ap (λ k. get_or (names ++ name ∷ []) k d) place ∙ get_or_at names name [] d (length names) refl in
-          let differs : bytes_eq name (get_or names i d) ≡ false = fails_each (bytes_eq name) names none i d front in
+          let right : get_or (names ++ name ∷ []) j d ≡ name =
+          ap (λ k. get_or (names ++ name ∷ []) k d) place ∙ get_or_at names name [] d (length names) refl in
+          let differs : bytes_eq name (get_or names i d) ≡ false =
+          fails_each (bytes_eq name) names none i d front in
           λ same.
           let equal : name ≡ get_or names i d = sym right ∙ sym same ∙ left in
-          let holds : bytes_eq name (get_or names i d) ≡ true = (bytes_eq-Decides name (get_or names i d)).1 equal in
+          let holds : bytes_eq name (get_or names i d) ≡ true =
+          (bytes_eq-Decides name (get_or names i d)).1 equal in
           cc
     ]
 
--- one more field in a table that has room, under a name that no field has
-pub with_field_is : (t : FieldTable) (name : List ℕ) (max : ℕ) → IsFieldTable t → IsNone (field_named t name) →
-    length t.maxima < 18 → IsFieldTable (with_field t name max)
+-- a table with room is one with one more field too, under a name that no field has
+pub with_field_is : (t : FieldTable) (name : List ℕ) (max : ℕ) → IsFieldTable t →
+    IsNone (field_named t name) → length t.maxima < 18 → IsFieldTable (with_field t name max)
 with_field_is t name max is none room =
-    let more_names : length (t.names ++ name ∷ []) ≡ length t.names + 1 = length-append t.names (name ∷ []) in
-    let more_maxima : length (t.maxima ++ max ∷ []) ≡ length t.maxima + 1 = length-append t.maxima (max ∷ []) in
+    let more_names : length (t.names ++ name ∷ []) ≡ length t.names + 1 =
+    length-append t.names (name ∷ []) in
+    let more_maxima : length (t.maxima ++ max ∷ []) ≡ length t.maxima + 1 =
+    length-append t.maxima (max ∷ []) in
     let two : length (take 2 t.maxima) ≡ 2 = ap length is.built_in_maxima in
     let some_maxima : 2 ≤ length t.maxima = omega (arith, sym (length-take 2 t.maxima) ∙ two) in
     let some_names : 2 ≤ length t.names = omega (arith, is.named) in
@@ -92,10 +101,12 @@ with_field_is t name max is none room =
     }
 
 -- where a name is found among the elements whose names are the table's
-pub place_is : {X : Type 0} (f : X → List ℕ) (xs ys : List X) (name : List ℕ) (t : FieldTable) → xs ≡ ys → map f ys ≡ t.names →
+pub place_is : {X : Type 0} (f : X → List ℕ) (xs ys : List X) (name : List ℕ) (t : FieldTable) →
+    xs ≡ ys → map f ys ≡ t.names →
     position (λ x. bytes_eq name (f x)) xs ≡ field_named t name
 place_is f xs ys name t same names =
-    ap (λ zs. position (λ x. bytes_eq name (f x)) zs) same ∙ sym (position-map f (bytes_eq name) ys) ∙ ap (λ ns. position (bytes_eq name) ns) names
+    ap (λ zs. position (λ x. bytes_eq name (f x)) zs) same ∙ sym (position-map f (bytes_eq name) ys)
+    ∙ ap (λ ns. position (bytes_eq name) ns) names
 
 -- a table is given by its parts
 pub same_table : (a b : List (List ℕ)) (c d : List ℕ) (tag : Option ℕ) → a ≡ b → c ≡ d →

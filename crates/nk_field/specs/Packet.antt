@@ -58,5 +58,6 @@ without (Some f) pk = slice_set pk f 0
 abbrev pub erased : FieldTable → List ℕ → List ℕ
 erased fields pk = without fields.tag pk
 
+-- the tag is 0 already, or there is none
 abbrev pub IsUntagged : FieldTable → List ℕ → Type 0
 IsUntagged fields pk = erased fields pk ≡ pk

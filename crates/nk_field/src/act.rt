@@ -7,8 +7,9 @@ use crate::short::Short;
 use std::alloc::{AllocError, Global};
 use std::marker::Model;
 
-/// Assignments, ascending by field, each field once.
-#[derive(PartialEq, Eq, PartialOrd, Ord, Hash, Drop)]
+/// What is assigned to a packet's fields: pairs of a field and a value, ascending by field, each field once. A contract
+/// sees it as the list of its pairs.
+#[derive(PartialEq, Eq, PartialOrd, Ord, Hash, Debug, Drop)]
 pub struct Act {
     sets: Short<(Fid, u64)>,
 }
@@ -36,7 +37,7 @@ impl Act {
         }
     }
 
-    /// The act that assigns one field.
+    /// The act that assigns one field. The only error is that memory ran out.
     pub fn one(alloc: Global, f: Fid, n: u64) -> Result<Act, AllocError>
         ensures { IfOk result (λ a. a ≡ (f, n) ∷ []) }
     {
@@ -52,7 +53,7 @@ impl Act {
         self.sets.as_slice()
     }
 
-    /// The same act once more.
+    /// The same act once more. The only error is that memory ran out.
     pub fn copy(&self) -> Result<Act, AllocError>
         ensures { IfOk result (λ a. a ≡ self.now) }
     {
@@ -60,26 +61,31 @@ impl Act {
         Ok(Act { sets })
     }
 
-    /// The act without the assignment of one field.
+    /// The act without the assignment of one field, the same act where it assigns the field nothing. The only error is
+    /// that memory ran out.
     pub fn without(&self, alloc: Global, f: Fid) -> Result<Act, AllocError>
         ensures { IfOk result (λ a. a ≡ left_without f self.now) }
     {
+        // A read, so that the proof has the order of the assignments.
         let _old = &self.sets;
         let sets = left_without(alloc, self.sets.as_slice(), f)?;
         Ok(Act { sets })
     }
 
-    /// This act, then that one: at a field that both assign, that one's value stands.
+    /// This act, then that one: at a field that both assign, that one's value stands. The only error is that memory ran
+    /// out.
     pub fn then(&self, h: &Act) -> Result<Act, AllocError>
         ensures is { IfOk result (λ a. a ≡ act_then self.now h.now) }
-        ensures does { IfOk result (λ a. (pk : Items ℕ) → applied a pk ≡ applied h.now (applied self.now pk)) }
+        ensures does { IfOk result (λ a.
+            (pk : Items ℕ) → applied a pk ≡ applied h.now (applied self.now pk)) }
     {
+        // A read, so that the proof has the order of that act's assignments.
         let _later = &h.sets;
         let sets = lay_under(self.sets.alloc(), self.sets.as_slice(), h.sets.as_slice())?;
         Ok(Act { sets })
     }
 
-    /// The packet with the assignments made.
+    /// The packet with the assignments made, in the fields' ranges or not.
     pub fn apply(&self, p: &Packet) -> Packet
         ensures { result ≡ applied self.now p.now }
     {
@@ -133,7 +139,7 @@ fn lay_under(
     Ok(all)
 }
 
-/// Appends the assignments from a place on.
+/// Puts the assignments from a place on at the end.
 fn push_from(
     all: &mut Short<(Fid, u64)>,
     sets: &[(Fid, u64)],

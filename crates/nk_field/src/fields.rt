@@ -30,7 +30,7 @@ pub enum FieldsError {
 
 /// The fields, by place: the switch, the port, then the declared ones. Each has a name of its own and a largest
 /// value, and one of the declared ones may be the tag.
-#[derive(Drop)]
+#[derive(Debug, Drop)]
 pub struct Fields {
     names: Vec<String>,
     maxima: Vec<u64>,
@@ -45,11 +45,13 @@ impl Model for Fields {
 
     ghost view = { λ f. record { names = map string_bytes f.names.items; maxima = f.maxima.items; tag = f.tag } };
 
-    ghost invariant = { λ f. IsFieldTable (record { names = map string_bytes f.names.items; maxima = f.maxima.items; tag = f.tag }) };
+    ghost invariant = { λ f.
+        IsFieldTable (record { names = map string_bytes f.names.items; maxima = f.maxima.items; tag = f.tag }) };
 }
 
 impl Fields {
-    /// The switch `sw` and the port `pt`, each 0 to 65,535, and no declared field.
+    /// The switch `sw` and the port `pt`, each 0 to 65,535, no declared field and no tag. The only error is that memory
+    /// ran out.
     pub fn new(alloc: Global) -> Result<Fields, AllocError>
         ensures { IfOk result (λ f. f ≡ built_in) }
     {
@@ -66,7 +68,8 @@ impl Fields {
         })
     }
 
-    /// Declares a field with values from 0 to `max`, behind the others.
+    /// Declares a field with values from 0 to `max`, behind the others. An `Err` leaves the fields as they were; a name
+    /// that a field has is `FieldTwice` even where there is no room.
     pub fn add(&mut self, name: &str, max: u64) -> Result<Fid, FieldsError>
         ensures place { IfOk result (λ f. f ≡ length self.old.maxima) }
         ensures added { OnOk result (self.new ≡ with_field self.old name.now max) }
@@ -103,7 +106,7 @@ impl Fields {
         Ok(())
     }
 
-    /// The field with the name.
+    /// The field with the name, if there is one.
     pub fn find(&self, name: &str) -> Option<Fid>
         ensures { result ≡ field_named self.now name.now }
     {
@@ -113,7 +116,7 @@ impl Fields {
         }
     }
 
-    /// How many fields there are, the switch and the port among them.
+    /// How many fields there are, the switch and the port among them: 2 to 18.
     pub fn len(&self) -> usize
         ensures { result ≡ length self.now.maxima }
     {
@@ -128,14 +131,14 @@ impl Fields {
         self.maxima.len() - 2
     }
 
-    /// The field that carries the tag.
+    /// The field that carries the tag, if one does: a declared one.
     pub fn tag(&self) -> Option<Fid>
         ensures { result ≡ self.now.tag }
     {
         self.tag
     }
 
-    /// Makes a declared field the tag.
+    /// Makes a declared field the tag, where there is none yet.
     pub fn set_tag(&mut self, f: Fid)
         requires declared { 2 ≤ f }
         requires field { f < length self.old.maxima }
@@ -163,7 +166,7 @@ impl Fields {
         self.maxima[f.place()]
     }
 
-    /// The same fields once more.
+    /// The same fields once more. The only error is that memory ran out.
     pub fn copy(&self) -> Result<Fields, AllocError>
         ensures { IfOk result (λ f. f ≡ self.now) }
     {

@@ -6,7 +6,7 @@ use crate::packet::Packet;
 use std::alloc::AllocError;
 
 /// A history: the recorded packets, oldest first, and the last packet.
-#[derive(PartialEq, Eq, Drop)]
+#[derive(PartialEq, Eq, Debug, Drop)]
 pub struct History {
     /// The recorded packets, oldest first.
     pub records: List<Packet>,
@@ -15,7 +15,7 @@ pub struct History {
 }
 
 impl History {
-    /// The same history once more.
+    /// The same history once more. The only error is that memory ran out.
     pub fn copy(&self) -> Result<History, AllocError>
         ensures { IfOk result (λ h. h ≡ self.now) }
     {

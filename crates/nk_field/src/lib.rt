@@ -7,6 +7,8 @@ mod history;
 mod list;
 mod packet;
 mod short;
+#[cfg(test)]
+mod tests;
 
 pub use act::Act;
 pub use fields::{Fields, FieldsError, MOST_FIELDS};

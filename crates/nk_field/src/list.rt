@@ -11,7 +11,7 @@ use std::hash::{Hash, Hasher};
 use std::marker::Model;
 
 /// A growing list of values. A contract sees it as the list of its items.
-#[derive(Drop)]
+#[derive(Debug, Drop)]
 pub struct List<T> {
     vec: Vec<T>,
 }
@@ -37,7 +37,7 @@ impl<T: Drop> List<T> {
         }
     }
 
-    /// Puts a value at the end.
+    /// Puts a value at the end. Where memory runs out the list stays as it was.
     pub fn push(&mut self, value: T) -> Result<(), AllocError>
         ensures ok { OnOk result (self.new ≡ self.old ++ value ∷ []) }
         ensures err { OnErr result (self.new ≡ self.old) }
@@ -89,7 +89,7 @@ impl<T> List<T> {
         self.vec.as_slice()
     }
 
-    /// The item at a place.
+    /// The item at a place, 0 being the first.
     pub fn at(&self, index: usize) -> &T
         requires { index < length self.now }
         ensures { result.now ≡ slice_index_or self.now index result.now }
@@ -106,7 +106,7 @@ impl<T> List<T> {
 }
 
 impl<T: Copy> List<T> {
-    /// The same list once more.
+    /// The same list once more. The only error is that memory ran out.
     pub fn copy(&self) -> Result<List<T>, AllocError>
         ensures { IfOk result (λ v. v ≡ self.now) }
     {

@@ -31,7 +31,7 @@ impl Fid {
     /// The port.
     pub const PORT: Fid = Fid { place: 1 };
 
-    /// The field at a place.
+    /// The field at a place, 0 to 17.
     pub fn new(place: u8) -> Fid
         requires { place < 18 }
         ensures { result ≡ place }
@@ -39,7 +39,7 @@ impl Fid {
         Fid { place }
     }
 
-    /// The place of the field.
+    /// The place of the field, 0 to 17.
     pub fn place(self) -> usize
         ensures is { result ≡ self }
         ensures below { result < 18 }
@@ -48,7 +48,8 @@ impl Fid {
     }
 }
 
-/// One value per field, and 0 at each place that no field has. A contract sees it as the list of its eighteen values.
+/// One value per field, and 0 at each place that no field has. A contract sees it as the list of its eighteen values,
+/// and `IsPacket` says that they are in the ranges of some fields.
 #[derive(Clone, Copy, PartialEq, Eq, Debug)]
 pub struct Packet {
     values: [u64; 18],
@@ -86,7 +87,6 @@ impl Packet {
         ensures is { self.new ≡ slice_set self.old f n }
         ensures packet { IsPacket fields.now self.old → IsPacket fields.now self.new }
     {
-        let _fields = fields.len();
         self.put(f, n);
     }
 

@@ -13,7 +13,7 @@ use std::hash::{Hash, Hasher};
 use std::marker::Model;
 
 /// A growing list of values, in place up to four. A contract sees it as the list of its items.
-#[derive(Drop)]
+#[derive(Debug, Drop)]
 pub struct Short<T> {
     vec: SmallVec<T, 4>,
 }
@@ -39,7 +39,7 @@ impl<T: MadeWith<Global> + Drop> Short<T> {
         }
     }
 
-    /// Puts a value at the end.
+    /// Puts a value at the end. Where memory runs out the list stays as it was.
     pub fn push(&mut self, value: T) -> Result<(), AllocError>
         ensures ok { OnOk result (self.new ≡ self.old ++ value ∷ []) }
         ensures err { OnErr result (self.new ≡ self.old) }
@@ -69,7 +69,7 @@ impl<T> Short<T> {
         self.vec.as_slice()
     }
 
-    /// The item at a place.
+    /// The item at a place, 0 being the first.
     pub fn at(&self, index: usize) -> &T
         requires { index < length self.now }
         ensures { result.now ≡ slice_index_or self.now index result.now }
@@ -79,7 +79,7 @@ impl<T> Short<T> {
 }
 
 impl<T: MadeWith<Global> + Copy> Short<T> {
-    /// The same list once more.
+    /// The same list once more. The only error is that memory ran out.
     pub fn copy(&self) -> Result<Short<T>, AllocError>
         ensures { IfOk result (λ v. v ≡ self.now) }
     {

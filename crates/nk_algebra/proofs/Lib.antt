@@ -1,0 +1,11 @@
+pub mod Parts
+pub mod Built
+pub mod Weaves
+pub mod Merges
+pub mod Restricted
+pub mod Sequences
+pub mod Sorted
+pub mod Acts
+pub mod Members
+pub mod Unite
+pub mod Predicates

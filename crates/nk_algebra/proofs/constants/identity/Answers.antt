@@ -1,0 +1,8 @@
+use Rattle.std.proofs.Common.{refl}
+use Rattle.std.proofs.lemmas.Result.{IfOk-weaker}
+use Rattle.nk_algebra.proofs.Predicates.{predicate_by}
+use Rattle.nk_algebra.proofs.constants.identity.Goals as goal
+
+pub returns-clause-predicate : goal.returns-clause-predicate
+returns-clause-predicate c = IfOk-weaker c.passing.result _ _
+    (λ d h. predicate_by c.passing.new.st d _ h (λ pk w. (refl, refl))) c.passing.ensures.ok

@@ -1,0 +1,7 @@
+use Rattle.std.proofs.lemmas.Result.{IfOk-weaker}
+use Rattle.nk_algebra.proofs.Predicates.{predicate_by, pass_absent}
+use Rattle.nk_algebra.proofs.leaves.negate.Goals as goal
+
+pub returns-clause-predicate : goal.returns-clause-predicate
+returns-clause-predicate c = IfOk-weaker c.merge.result _ _
+    (λ r h. predicate_by c.merge.new.st r _ h (λ pk w. pass_absent _ _)) c.merge.ensures.ok

@@ -1,0 +1,6 @@
+pub mod Subs
+pub mod Leaves
+pub mod Spans
+pub mod Seqs
+pub mod Unions
+pub mod Predicates

@@ -1,0 +1,135 @@
+//! Operations leaf by leaf.
+ghost use Rattle.std.specs.Prelude.{◌≡◌, ◌≤◌, ◌++◌, IfOk, OnOk, OnErr, drop, length};
+ghost use Rattle.nk_store.specs.Held.{IsId, look, Grows, HasLeaves};
+ghost use Rattle.nk_algebra.specs.Leaves.{merged, guarded, absent};
+ghost use Rattle.nk_algebra.specs.Predicates.{IsPredicate, Ends};
+
+use crate::pairs::{Join, merge};
+use nk_field::{Act, List};
+use nk_store::{Id, Out, Store};
+use std::alloc::{AllocError, Global};
+use std::cmp::Ordering;
+
+/// Both leaves together.
+struct Together;
+
+/// The second leaf where the first is not empty.
+struct Guard;
+
+/// The packet itself where the first leaf is empty.
+struct Absent;
+
+impl Join for Together {
+    ghost joined = { λ _. merged };
+
+    ghost allowed = { λ _ _. Unit {0} };
+
+    fn join(&self, alloc: Global, a: &[Out], b: &[Out]) -> Result<List<Out>, AllocError> {
+        join_sorted(alloc, a, b)
+    }
+}
+
+/// Two ascending lists as one.
+pub fn join_sorted(alloc: Global, a: &[Out], b: &[Out]) -> Result<List<Out>, AllocError>
+    ensures { IfOk result (λ r. r ≡ merged a.now b.now) }
+{
+    let mut all = List::new(alloc);
+    let mut i = 0;
+    let mut k = 0;
+    while i < a.len() && k < b.len() {
+        match a[i].cmp(&b[k]) {
+            Ordering::Less => {
+                all.push(a[i].copy()?)?;
+                i += 1;
+            }
+            Ordering::Equal => {
+                all.push(a[i].copy()?)?;
+                i += 1;
+                k += 1;
+            }
+            Ordering::Greater => {
+                all.push(b[k].copy()?)?;
+                k += 1;
+            }
+        }
+    }
+    copy_from(&mut all, a, i)?;
+    copy_from(&mut all, b, k)?;
+    Ok(all)
+}
+
+impl Join for Guard {
+    ghost joined = { λ _. guarded };
+
+    ghost allowed = { λ _ _. Unit {0} };
+
+    fn join(&self, alloc: Global, a: &[Out], b: &[Out]) -> Result<List<Out>, AllocError> {
+        let mut all = List::new(alloc);
+        if a.len() > 0 {
+            copy_from(&mut all, b, 0)?;
+        }
+        Ok(all)
+    }
+}
+
+impl Join for Absent {
+    ghost joined = { λ _. absent };
+
+    ghost allowed = { λ _ _. Unit {0} };
+
+    fn join(&self, alloc: Global, a: &[Out], _b: &[Out]) -> Result<List<Out>, AllocError> {
+        let mut all = List::new(alloc);
+        if a.len() == 0 {
+            all.push(Out {
+                act: Act::none(alloc),
+                target: 0,
+            })?;
+        }
+        Ok(all)
+    }
+}
+
+/// Appends the outs from a place on.
+fn copy_from(all: &mut List<Out>, outs: &[Out], from: usize) -> Result<(), AllocError>
+    requires { from ≤ length outs.now }
+    ensures { OnOk result (all.new ≡ all.old ++ drop from outs.now) }
+{
+    for i in from..outs.len() {
+        all.push(outs[i].copy()?)?;
+    }
+    Ok(())
+}
+
+/// Both leaves together.
+pub fn union(st: &mut Store, a: Id, b: Id) -> Result<Id, AllocError>
+    requires left { IsId st.old a }
+    requires right { IsId st.old b }
+    ensures grows { Grows st.old st.new }
+    ensures ok { IfOk result (λ d. HasLeaves st.new d (λ pk. merged (look st.old a pk) (look st.old b pk))) }
+    ensures predicate { IfOk result (λ d. IsPredicate st.old a → IsPredicate st.old b → IsPredicate st.new d) }
+    ensures ends { IfOk result (λ d. Ends (look st.old a) → Ends (look st.old b) → Ends (look st.new d)) }
+{
+    merge(st, &Together, a, b)
+}
+
+/// The diagram's leaf where the predicate holds, else none.
+pub fn both(st: &mut Store, pred: Id, d: Id) -> Result<Id, AllocError>
+    requires pred { IsId st.old pred }
+    requires right { IsId st.old d }
+    ensures grows { Grows st.old st.new }
+    ensures ok { IfOk result (λ r. HasLeaves st.new r (λ pk. guarded (look st.old pred pk) (look st.old d pk))) }
+    ensures predicate { IfOk result (λ r. IsPredicate st.old d → IsPredicate st.new r) }
+    ensures ends { IfOk result (λ r. Ends (look st.old d) → Ends (look st.new r)) }
+{
+    merge(st, &Guard, pred, d)
+}
+
+/// The packets where the predicate doesn't hold.
+pub fn negate(st: &mut Store, pred: Id) -> Result<Id, AllocError>
+    requires { IsId st.old pred }
+    ensures grows { Grows st.old st.new }
+    ensures ok { IfOk result (λ r. HasLeaves st.new r (λ pk. absent (look st.old pred pk) (look st.old pred pk))) }
+    ensures predicate { IfOk result (λ r. IsPredicate st.new r) }
+{
+    merge(st, &Absent, pred, pred)
+}

@@ -1,0 +1,22 @@
+//! Operations on diagrams.
+#![tactic(auto)]
+
+mod aims;
+mod constants;
+mod leaves;
+mod pairs;
+mod part;
+mod restricts;
+mod seqs;
+mod spans;
+mod unions;
+
+pub use aims::{aim, assign};
+pub use constants::{empty, identity};
+pub use leaves::{both, join_sorted, negate, union};
+pub use pairs::{Join, merge};
+pub use part::part_at;
+pub use restricts::restrict;
+pub use seqs::{after, out_count, put_after, seq, tested};
+pub use spans::{range, span, test};
+pub use unions::union_all;

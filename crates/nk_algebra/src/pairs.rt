@@ -1,0 +1,110 @@
+//! Two diagrams put together leaf by leaf.
+ghost use Rattle.std.specs.Prelude.{◌≡◌, ℕ, ◌≤◌, min, IfOk, MatchOption, List as Items, slice_index};
+ghost use Rattle.nk_store.specs.declared.node.Out.{Out};
+ghost use Rattle.nk_store.specs.Nodes.{child_at};
+ghost use Rattle.nk_store.specs.Leaves.{Strict, Every, Suits};
+ghost use Rattle.nk_store.specs.Held.{IsId, look, top, Grows, HasLeaves, IsWhole, AreParts};
+ghost use Rattle.nk_algebra.specs.Subs.{sub, IsFirst};
+
+use crate::part::part_at;
+use nk_field::{Fid, List};
+use nk_store::{Id, Node, Out, Store};
+use std::alloc::{AllocError, Global};
+
+/// How two leaves are put together.
+pub trait Join {
+    ghost joined: { Self → Items Out → Items Out → Items Out };
+
+    ghost allowed: { Self → Items ℕ → Type 0 };
+
+    fn join(&self, alloc: Global, a: &[Out], b: &[Out]) -> Result<List<Out>, AllocError>
+        requires left { Strict a.now }
+        requires right { Strict b.now }
+        ensures is { IfOk result (λ r. r ≡ joined self.now a.now b.now) }
+        ensures sorted { IfOk result (λ r. Strict r) }
+        ensures suits { IfOk result (λ r. (maxes : Items ℕ) → allowed self.now maxes → Every (Suits maxes) a.now → Every (Suits maxes) b.now → Every (Suits maxes) r) };
+}
+
+/// The first field that one of two diagrams tests, if any.
+fn first_field(st: &Store, a: Id, b: Id) -> Option<Fid>
+    requires left { IsId st.now a }
+    requires right { IsId st.now b }
+    ensures { MatchOption result ((top st.now a ≡ 18) × (top st.now b ≡ 18)) (λ f. IsFirst st.now a b f) }
+{
+    match (st.view(a), st.view(b)) {
+        (Node::Leaf(_), Node::Leaf(_)) => None,
+        (Node::Case(f, _), Node::Leaf(_)) => Some(*f),
+        (Node::Leaf(_), Node::Case(g, _)) => Some(*g),
+        (Node::Case(f, _), Node::Case(g, _)) => Some(if *f < *g { *f } else { *g }),
+    }
+}
+
+/// The diagram whose leaf at each packet is both leaves put together.
+#[cycle(merge)]
+pub fn merge<J: Join>(st: &mut Store, j: &J, a: Id, b: Id) -> Result<Id, AllocError>
+    requires left { IsId st.old a }
+    requires right { IsId st.old b }
+    requires allowed { J.allowed j.now st.old.maxes }
+    ensures grows { Grows st.old st.new }
+    ensures ok { IfOk result (λ d. HasLeaves st.new d (λ pk. J.joined j.now (look st.old a pk) (look st.old b pk))) }
+    ensures later { IfOk result (λ d. min (top st.old a) (top st.old b) ≤ top st.new d) }
+{
+    match first_field(st, a, b) {
+        None => merge_leaves(st, j, a, b),
+        Some(f) => {
+            let parts = merge_parts(st, j, f, a, b)?;
+            st.case(f, parts)
+        }
+    }
+}
+
+/// Both leaves put together, at diagrams that test nothing.
+fn merge_leaves<J: Join>(st: &mut Store, j: &J, a: Id, b: Id) -> Result<Id, AllocError>
+    requires left { IsId st.old a }
+    requires right { IsId st.old b }
+    requires allowed { J.allowed j.now st.old.maxes }
+    requires left_leaf { top st.old a ≡ 18 }
+    requires right_leaf { top st.old b ≡ 18 }
+    ensures grows { Grows st.old st.new }
+    ensures ok { IfOk result (λ d. HasLeaves st.new d (λ pk. J.joined j.now (look st.old a pk) (look st.old b pk))) }
+    ensures later { IfOk result (λ d. top st.new d ≡ 18) }
+{
+    let outs = match (st.view(a), st.view(b)) {
+        (Node::Leaf(x), Node::Leaf(y)) => j.join(st.alloc(), x.as_slice(), y.as_slice())?,
+        _ => unreachable!(),
+    };
+    st.leaf_in_order(outs)
+}
+
+/// The parts of the merged diagram by the first field of both.
+#[cycle(merge)]
+fn merge_parts<J: Join>(
+    st: &mut Store,
+    j: &J,
+    f: Fid,
+    a: Id,
+    b: Id,
+) -> Result<List<(u64, Id)>, AllocError>
+    requires left { IsId st.old a }
+    requires right { IsId st.old b }
+    requires first { IsFirst st.old a b f }
+    requires allowed { J.allowed j.now st.old.maxes }
+    ensures grows { Grows st.old st.new }
+    ensures parts { IfOk result (λ ps. AreParts st.new f ps) }
+    ensures ok { IfOk result (λ ps. (v : ℕ) (pk : Items ℕ) → IsWhole pk → look st.new (child_at 0 ps v) pk ≡ J.joined j.now (look st.old (sub st.old f v a) pk) (look st.old (sub st.old f v b) pk)) }
+{
+    let max = st.max(f);
+    let mut parts = List::new(st.alloc());
+    let mut from = 0;
+    loop {
+        let (end_a, child_a) = part_at(st, a, f, from);
+        let (end_b, child_b) = part_at(st, b, f, from);
+        let end = end_a.min(end_b);
+        let child = merge(st, j, child_a, child_b)?;
+        parts.push((end, child))?;
+        if end == max {
+            return Ok(parts);
+        }
+        from = end + 1;
+    }
+}

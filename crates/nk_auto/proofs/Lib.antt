@@ -1,0 +1,4 @@
+pub mod Made
+pub mod Means
+pub mod Misses
+pub mod Predicates

@@ -1,0 +1,152 @@
+//! The diagram of a policy without star, dup and link.
+ghost use Rattle.std.specs.Prelude.{◌∷◌, [], cond, leb, eqb, min, slice_index, IfOk};
+ghost use Rattle.nk_store.specs.Held.{Grows, HasLeaves};
+ghost use Rattle.nk_policy.specs.Tree.{tree_of, trees_of};
+ghost use Rattle.nk_auto.specs.Leaves.{leaf_of, sum_leaf, seq_leaves, one_out};
+
+use nk_algebra::{assign, negate, seq, test, union_all};
+use nk_field::{Act, Fid, List};
+use nk_policy::Pol;
+use nk_store::{Id, Out, Store};
+use std::alloc::AllocError;
+
+/// The diagram of a policy without star, dup and link literal, each complement over a predicate: it sends a packet on,
+/// to the target 0, as each packet at which the policy can end. A star, a dup and a link literal count as the empty
+/// sum, and so do a test of and an assignment to a value past its field's highest.
+#[cycle(diagram)]
+#[tactic(auto, using(nk_policy::proofs::Trees::tree_of_sum, nk_policy::proofs::Trees::tree_of_seq))]
+pub fn diagram(st: &mut Store, p: &Pol) -> Result<Id, AllocError>
+    ensures grows { Grows st.old st.new }
+    ensures ok { IfOk result (λ d. HasLeaves st.new d (leaf_of st.old.maxes (tree_of p.now))) }
+{
+    match p {
+        Pol::Test(f, n) => test_where(st, *f, *n),
+        Pol::Set(f, n) => set_where(st, *f, *n),
+        Pol::Sum(ps) => made_any(st, ps.as_slice()),
+        Pol::Seq(ps) => made_all(st, ps.as_slice()),
+        Pol::Not(q) => {
+            let d = diagram(st, q)?;
+            negate(st, d)
+        }
+        Pol::Star(_) => nothing(st),
+        Pol::Dup(_) => nothing(st),
+        Pol::Link(_, _, _, _, _) => nothing(st),
+    }
+}
+
+/// The diagram of a sum: those of its parts together.
+#[cycle(diagram)]
+fn made_any(st: &mut Store, ps: &[Pol]) -> Result<Id, AllocError>
+    ensures grows { Grows st.old st.new }
+    ensures ok { IfOk result (λ d. HasLeaves st.new d (sum_leaf st.old.maxes (trees_of ps.now))) }
+{
+    let mut ids = List::new(st.alloc());
+    for q in ps {
+        let d = diagram(st, q)?;
+        ids.push(d)?;
+    }
+    union_all(st, ids.as_slice())
+}
+
+/// The diagram of a sequence, built from its last part to its first.
+#[cycle(diagram)]
+fn made_all(st: &mut Store, ps: &[Pol]) -> Result<Id, AllocError>
+    ensures grows { Grows st.old st.new }
+    ensures ok { IfOk result (λ d. HasLeaves st.new d (seq_leaves st.old.maxes (trees_of ps.now))) }
+{
+    let mut rest = unchanged(st)?;
+    let mut i = ps.len();
+    while i > 0 {
+        i -= 1;
+        let d = diagram(st, &ps[i])?;
+        rest = seq(st, d, rest)?;
+    }
+    Ok(rest)
+}
+
+/// The packet itself where the field has the value; nothing for a value past the field's highest.
+fn test_where(st: &mut Store, f: Fid, n: u64) -> Result<Id, AllocError>
+    ensures grows { Grows st.old st.new }
+    ensures ok { IfOk result (λ d. HasLeaves st.new d
+        (λ pk. cond (eqb (min (slice_index pk f) (slice_index st.old.maxes f)) n)
+        (record { act = []; target = 0 } ∷ []) [])) }
+{
+    let _place = f.place();
+    if n <= st.max(f) {
+        test(st, f, n)
+    } else {
+        nothing(st)
+    }
+}
+
+/// The packet with the field set; nothing for a value past the field's highest.
+fn set_where(st: &mut Store, f: Fid, n: u64) -> Result<Id, AllocError>
+    ensures grows { Grows st.old st.new }
+    ensures ok { IfOk result (λ d. HasLeaves st.new d
+        (λ pk. cond (leb n (slice_index st.old.maxes f)) (one_out f n ∷ []) [])) }
+{
+    let _place = f.place();
+    if n <= st.max(f) {
+        assign(st, f, n)
+    } else {
+        nothing(st)
+    }
+}
+
+/// No packet.
+fn nothing(st: &mut Store) -> Result<Id, AllocError>
+    ensures grows { Grows st.old st.new }
+    ensures ok { IfOk result (λ d. HasLeaves st.new d (λ pk. [])) }
+{
+    st.leaf_in_order(List::new(st.alloc()))
+}
+
+/// The packet itself.
+fn unchanged(st: &mut Store) -> Result<Id, AllocError>
+    ensures grows { Grows st.old st.new }
+    ensures ok { IfOk result (λ d. HasLeaves st.new d (λ pk. record { act = []; target = 0 } ∷ [])) }
+{
+    let alloc = st.alloc();
+    let mut outs = List::new(alloc);
+    outs.push(Out {
+        act: Act::none(alloc),
+        target: 0,
+    })?;
+    st.leaf_in_order(outs)
+}
+
+#[cfg(test)]
+mod tests {
+    use super::*;
+    use nk_field::{Fields, Packet};
+    use nk_policy::Pols;
+    use std::test::Fail;
+
+    /// `dst=0; dst:=1 + ~dst=0` makes a `dst` of 0 one of 1, and leaves one of 2 as it is.
+    #[test]
+    fn a_policy_at_two_packets(rt: HostRuntime) -> Result<(), Fail> {
+        let alloc = rt.alloc();
+        let mut fields = Fields::new(alloc)?;
+        let dst = fields.add("dst", 3)?;
+        let mut st = Store::new(alloc, &fields)?;
+        let moved = vec![in alloc; Pol::Test(dst, 0), Pol::Set(dst, 1)]?;
+        let kept = Pol::Not(Box::new(alloc, Pol::Test(dst, 0))?);
+        let parts = vec![in alloc; Pol::Seq(Pols::new(moved)), kept]?;
+        let d = diagram(&mut st, &Pol::Sum(Pols::new(parts)))?;
+        let zero = Packet::zero();
+        let mut two = Packet::zero();
+        two.put(dst, 2);
+        let at_zero = st.look(d, &zero);
+        assert_eq!(rt; at_zero.len(), 1);
+        for out in at_zero {
+            assert_eq!(rt; out.act.apply(&zero).get(dst), 1);
+            assert_eq!(rt; out.target, 0);
+        }
+        let at_two = st.look(d, &two);
+        assert_eq!(rt; at_two.len(), 1);
+        for out in at_two {
+            assert_eq!(rt; out.act.apply(&two).get(dst), 2);
+        }
+        Ok(())
+    }
+}

@@ -1,0 +1,3 @@
+pub mod Exacts
+pub mod Laws
+pub mod Tables

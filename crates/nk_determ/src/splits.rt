@@ -1,0 +1,164 @@
+//! Diagrams whose acts assign exactly the fields that they change.
+ghost use Rattle.std.specs.Prelude.{◌≡◌, ℕ, ◌<◌, ◌≤◌, ◌↔◌, ◌∷◌, [], List as Items, IfOk, cond, eqb, min, true, slice_index, slice_index_or, length, drop};
+ghost use Rattle.nk_store.specs.Leaves.{IsActFrom};
+ghost use Rattle.nk_store.specs.Held.{IsId, IsPacket, look, top, Grows, HasLeaves};
+ghost use Rattle.nk_algebra.specs.Subs.{IsSplit};
+ghost use Rattle.nk_algebra.specs.Seqs.{prefixed, outs_of, no_out};
+ghost use Rattle.nk_determ.specs.Exact.{exact, split_leaf, AreExact, Sends};
+
+use nk_algebra::{both, out_count, part_at, put_after, range, span, tested, union};
+use nk_field::{Act, Fid, List};
+use nk_store::{Id, Node, Out, Store};
+use std::alloc::AllocError;
+
+/// The diagram with the same meaning whose acts assign exactly the fields that they change.
+pub fn split(st: &mut Store, d: Id) -> Result<Id, AllocError>
+    requires { IsId st.old d }
+    ensures grows { Grows st.old st.new }
+    ensures ok { IfOk result (λ r. HasLeaves st.new r (λ pk. split_leaf st.old.maxes pk (look st.old d pk))) }
+    ensures exact { IfOk result (λ r. AreExact st.new r) }
+    ensures means { IfOk result (λ r. (pk : Items ℕ) (y : Items ℕ) (t : ℕ) → IsPacket st.old pk → Sends st.new r pk y t ↔ Sends st.old d pk y t) }
+{
+    let _tidy = st.view(d);
+    divide(st, d)
+}
+
+/// The split diagram.
+#[cycle(divide)]
+fn divide(st: &mut Store, d: Id) -> Result<Id, AllocError>
+    requires { IsId st.old d }
+    ensures grows { Grows st.old st.new }
+    ensures ok { IfOk result (λ r. HasLeaves st.new r (λ pk. split_leaf st.old.maxes pk (look st.old d pk))) }
+{
+    match tested(st, d) {
+        None => split_outs(st, d),
+        Some(f) => split_parts(st, f, d),
+    }
+}
+
+/// The diagram for one assignment before those of another diagram: none where the field has the value.
+fn split_set(st: &mut Store, f: Fid, n: u64, to: Id) -> Result<Id, AllocError>
+    requires id { IsId st.old to }
+    requires field { f < 18 }
+    requires within { n ≤ slice_index st.old.maxes f }
+    requires later { f < top st.old to }
+    ensures grows { Grows st.old st.new }
+    ensures ok { IfOk result (λ r. HasLeaves st.new r (λ pk. cond (eqb (min (slice_index pk f) (slice_index st.old.maxes f)) n) (look st.old to pk) (prefixed ((f, n) ∷ []) (look st.old to pk)))) }
+    ensures later { IfOk result (λ r. f ≤ top st.new r) }
+{
+    let act = Act::one(st.alloc(), f, n)?;
+    let outside = put_after(st, to, &act)?;
+    span(st, f, n, n, to, outside)
+}
+
+/// The diagram for one out.
+fn split_out(st: &mut Store, act: &Act, target: u64) -> Result<Id, AllocError>
+    requires suits { IsActFrom st.old.maxes 0 act.now }
+    ensures grows { Grows st.old st.new }
+    ensures ok { IfOk result (λ r. HasLeaves st.new r (λ pk. record { act = exact st.old.maxes pk act.now; target = target } ∷ [])) }
+{
+    let sets = act.as_slice();
+    let mut to = ending(st, target)?;
+    let mut i = sets.len();
+    while i > 0 {
+        i -= 1;
+        let (f, n) = sets[i];
+        to = split_set(st, f, n, to)?;
+    }
+    Ok(to)
+}
+
+/// The packet itself, to a target.
+fn ending(st: &mut Store, target: u64) -> Result<Id, AllocError>
+    ensures grows { Grows st.old st.new }
+    ensures ok { IfOk result (λ r. HasLeaves st.new r (λ pk. record { act = []; target = target } ∷ [])) }
+    ensures later { IfOk result (λ r. top st.new r ≡ 18) }
+{
+    let alloc = st.alloc();
+    let mut outs = List::new(alloc);
+    outs.push(Out {
+        act: Act::none(alloc),
+        target,
+    })?;
+    st.leaf_in_order(outs)
+}
+
+/// One of a leaf's outs.
+fn out_at(st: &Store, d: Id, i: usize) -> Result<Out, AllocError>
+    requires id { IsId st.now d }
+    requires within { i < length (outs_of st.now d) }
+    ensures is { IfOk result (λ o. o ≡ slice_index_or (outs_of st.now d) i no_out) }
+    ensures suits { IfOk result (λ o. IsActFrom st.now.maxes 0 o.act) }
+{
+    match st.view(d) {
+        Node::Leaf(outs) => outs.at(i).copy(),
+        Node::Case(_, _) => unreachable!(),
+    }
+}
+
+/// The diagram for one of a leaf's outs.
+fn split_at(st: &mut Store, d: Id, i: usize) -> Result<Id, AllocError>
+    requires id { IsId st.old d }
+    requires within { i < length (outs_of st.old d) }
+    ensures grows { Grows st.old st.new }
+    ensures ok { IfOk result (λ r. HasLeaves st.new r (λ pk. let o = slice_index_or (outs_of st.old d) i no_out in record { act = exact st.old.maxes pk o.act; target = o.target } ∷ [])) }
+{
+    let out = out_at(st, d, i)?;
+    split_out(st, &out.act, out.target)
+}
+
+/// The diagram for a leaf.
+fn split_outs(st: &mut Store, d: Id) -> Result<Id, AllocError>
+    requires id { IsId st.old d }
+    requires leaf { top st.old d ≡ 18 }
+    ensures grows { Grows st.old st.new }
+    ensures ok { IfOk result (λ r. HasLeaves st.new r (λ pk. split_leaf st.old.maxes pk (look st.old d pk))) }
+{
+    let mut i = out_count(st, d);
+    let mut all = st.leaf_in_order(List::new(st.alloc()))?;
+    while i > 0 {
+        i -= 1;
+        let one = split_at(st, d, i)?;
+        all = union(st, one, all)?;
+    }
+    Ok(all)
+}
+
+/// The diagram for a choice by a field.
+#[cycle(divide)]
+fn split_parts(st: &mut Store, f: Fid, d: Id) -> Result<Id, AllocError>
+    requires id { IsId st.old d }
+    requires field { f < 18 }
+    requires first { top st.old d ≡ f }
+    requires split { IsSplit st.old f d }
+    ensures grows { Grows st.old st.new }
+    ensures ok { IfOk result (λ r. HasLeaves st.new r (λ pk. split_leaf st.old.maxes pk (look st.old d pk))) }
+{
+    let max = st.max(f);
+    let mut all = st.leaf_in_order(List::new(st.alloc()))?;
+    let mut from = 0;
+    loop {
+        let (end, child) = part_at(st, d, f, from);
+        let made = divide(st, child)?;
+        let guard = range(st, f, from, end)?;
+        let part = both(st, guard, made)?;
+        all = union(st, all, part)?;
+        if end == max {
+            return Ok(all);
+        }
+        from = end + 1;
+    }
+}
+
+/// Tells whether two diagrams whose acts are exact mean the same: their numbers are equal exactly then.
+pub fn mean_same(st: &Store, d: Id, e: Id) -> bool
+    requires left { IsId st.now d }
+    requires right { IsId st.now e }
+    requires left_exact { AreExact st.now d }
+    requires right_exact { AreExact st.now e }
+    ensures yes { result ≡ true → d ≡ e }
+    ensures means { ((pk : Items ℕ) (y : Items ℕ) (t : ℕ) → IsPacket st.now pk → Sends st.now d pk y t ↔ Sends st.now e pk y t) → result ≡ true }
+{
+    let _tidy = st.view(d);
+    st.same(d, e)
+}

@@ -1,0 +1,14 @@
+pub mod Acts
+pub mod Bits
+pub mod BucketLists
+pub mod Bridge
+pub mod Highest
+pub mod Lists
+pub mod Made
+pub mod Paths
+pub mod PlainRows
+pub mod Reached
+pub mod Shapes
+pub mod TableRows
+pub mod Trees
+pub mod Walks

@@ -1,0 +1,377 @@
+-- The steps of the walk over a diagram.
+use Rattle.std.proofs.Common.{◌≡◌, ◌≢◌, ℕ, zero, suc, ◌+◌, ◌-◌, ◌*◌, ◌^◌, ◌<◌, ◌≤◌, Bool, true, false, cond, min, inl, inr, List, [], ◌∷◌, ◌++◌, length, drop, Some, Result, Ok, Err, OnOk, refl, sym, ap, ◌∙◌, arith, append_assoc, append-nil, get_or, drop-cons, add-one, eqb}
+use Rattle.std.specs.Prelude.{◌==◌, ◌||◌, not, map, filter, nat_lt, count_by}
+use Rattle.std.specs.List.{flat_map}
+use Rattle.std.specs.Map.{lookup}
+use Rattle.std.proofs.Math.Pow.{pow_mono}
+use Rattle.std.proofs.Math.Nat.{pow-suc}
+use Rattle.std.proofs.lemmas.Bool.Decides.{nat_tests, eqb_tells}
+use Rattle.nk_store.specs.declared.node.Node.{Node}
+use Rattle.nk_store.specs.declared.node.Node.TheVariants.{Leaf, Case}
+use Rattle.nk_store.specs.declared.node.Out.{Out}
+use Rattle.nk_store.specs.Nodes.{node_at, Each}
+use Rattle.nk_store.specs.Held.{Held, IsId, node_of}
+use Rattle.nk_store.specs.Intervals.{counted}
+use Rattle.nk_store.proofs.Looks.{node_at-old, node_at-new}
+use Rattle.nk_table.specs.declared.Plain.{Plain}
+use Rattle.nk_extract.specs.RuleTree.{Path, is_drop_list, with_match, priority_of, put}
+use Rattle.nk_extract.specs.Ways.{Span, spans, size_of, largest, else_of, span_ways, node_ways, is_empty_leaf, ways_in, ways, row_behind, rows_behind, span_rows, or_none, kept, bucket_list}
+use Rattle.nk_extract.proofs.Lists.{filter_same, filter_map_is, filter_append_is, map_append_is}
+use Rattle.nk_extract.proofs.Bits.{counts, one_if}
+use Rattle.nk_extract.proofs.Paths.{flags}
+
+-- the rest of a list from an element on
+pub rest_is :
+    {A : Type 0} (xs : List A) (i : ℕ) (x : A) → i < length xs → x ≡ get_or xs i x
+    → drop i xs ≡ x ∷ drop (i + 1) xs
+rest_is xs i x h e = drop-cons xs i x h ∙ ap (λ y. y ∷ drop (suc i) xs) (sym e) ∙ ap (λ n. x ∷ drop n xs) (sym (add-one i))
+
+-- bits
+pub two_to : (n : ℕ) → n ≤ 18 → 2 ^ n ≤ 262144
+two_to n h = pow_mono {i = n} {j = 18} h
+
+-- one bit more
+pub bit_small : (b : Bool) (bit n : ℕ) → bit ≤ 2 ^ n → cond b (bit * 2) bit ≤ 2 ^ (n + 1)
+bit_small true bit n h = rw add-one (omega (arith, h, pow-suc 2 n))
+bit_small false bit n h = rw add-one (omega (arith, h, pow-suc 2 n))
+
+-- three factors
+three : (a b : ℕ) → (a * 2) * b ≡ a * (b * 2)
+three a b = grind arith
+
+-- a bit doubled or not
+bit_by : (b : Bool) (bit n : ℕ) → cond b (bit * 2) bit * 2 ^ n ≡ bit * 2 ^ (one_if b + n)
+bit_by true bit n =
+    let e : 1 + n ≡ suc n = omega arith in
+    let twice : 2 ^ (1 + n) ≡ 2 ^ n * 2 = ap (λ k. 2 ^ k) e ∙ pow-suc 2 n in
+    three bit (2 ^ n) ∙ ap (λ k. bit * k) (sym twice)
+bit_by false bit n = ap (λ k. bit * 2 ^ k) (let e : n ≡ 0 + n = omega arith in e)
+
+-- the bit with one more field looked at
+pub bit_step :
+    (p : ℕ → Bool) (bit g width : ℕ) → g < width
+    → cond (p g) (bit * 2) bit * 2 ^ count_by p (counted (g + 1) (width - (g + 1))) ≡ bit * 2 ^ count_by p (counted g (width - g))
+bit_step p bit g width h =
+    let more : width - g ≡ suc (width - (g + 1)) = omega (arith, h) in
+    bit_by (p g) bit (count_by p (counted (g + 1) (width - (g + 1))))
+    ∙ ap (λ n. bit * 2 ^ n) (sym (counts p g (counted (g + 1) (width - (g + 1)))))
+    ∙ ap (λ n. bit * 2 ^ count_by p (counted g n)) (sym more)
+
+-- a sum may be clamped before it is complete
+pub clamped :
+    (all bit rest : ℕ) → min 65535 (min (all + bit) 65535 + rest) ≡ min 65535 (all + (bit + rest))
+clamped all bit rest = omega arith
+
+-- sizes of children
+pub kept_put :
+    (old new : List (ℕ × ℕ)) (k n : ℕ)
+    → ((q : ℕ) → lookup (eqb q) new ≡ cond (eqb k q) (Some n) (lookup (eqb q) old)) → (q : ℕ)
+    → kept new q ≡ cond (eqb k q) n (kept old q)
+kept_put old new k n u q = ap or_none (u q) ∙ by (eqb k q)
+  where
+    by : (b : Bool) → or_none (cond b (Some n) (lookup (eqb q) old)) ≡ cond b n (kept old q)
+    by true = refl
+    by false = refl
+
+-- no count is above the values so far
+pub below_step :
+    (old new : List (ℕ × ℕ)) (k from next : ℕ) → ((c : ℕ) → kept old c ≤ from) → from ≤ next
+    → ((q : ℕ) → kept new q ≡ cond (eqb k q) (kept old k + (next - from)) (kept old q)) → (c : ℕ)
+    → kept new c ≤ next
+below_step old new k from next h l u c = rw (u c) (by (eqb k c))
+  where
+    by : (b : Bool) → cond b (kept old k + (next - from)) (kept old c) ≤ next
+    by true = omega (arith, h k, l)
+    by false = omega (arith, h c, l)
+
+-- the counts with one more part
+pub counts_step :
+    (old new : List (ℕ × ℕ)) (k end from : ℕ) (ps : List (ℕ × ℕ))
+    → ((q : ℕ) → kept new q ≡ cond (eqb k q) (kept old k + (end + 1 - from)) (kept old q)) → (c : ℕ)
+    → kept new c + size_of c (spans ps (end + 1)) ≡ kept old c + size_of c (spans ((end, k) ∷ ps) from)
+counts_step old new k end from ps u c = ap (λ n. n + size_of c (spans ps (end + 1))) (u c) ∙ by
+  where
+    by : cond (eqb k c) (kept old k + (end + 1 - from)) (kept old c) + size_of c (spans ps (end + 1)) ≡ kept old c + (cond (eqb c k) (end + 1 - from) 0 + size_of c (spans ps (end + 1)))
+    by = elim (eqb_tells k c) [
+      | inl same ↦
+          let back : eqb c k ≡ true = grind (arith, nat_tests, same.1) in
+          ap (λ b. cond b (kept old k + (end + 1 - from)) (kept old c) + size_of c (spans ps (end + 1))) same.0
+          ∙ ap (λ z. kept old z + (end + 1 - from) + size_of c (spans ps (end + 1))) same.1
+          ∙ omega arith
+          ∙ sym (ap (λ b. kept old c + (cond b (end + 1 - from) 0 + size_of c (spans ps (end + 1)))) back)
+      | inr other ↦
+          let back : eqb c k ≡ false = grind (arith, nat_tests, other.1) in
+          ap (λ b. cond b (kept old k + (end + 1 - from)) (kept old c) + size_of c (spans ps (end + 1))) other.0
+          ∙ omega arith
+          ∙ sym (ap (λ b. kept old c + (cond b (end + 1 - from) 0 + size_of c (spans ps (end + 1)))) back)
+    ]
+
+-- the larger of two children by their sizes is the best so far
+pub largest_step :
+    (all : List Span) (best : ℕ) (p : ℕ × ℕ) (ps : List (ℕ × ℕ)) (r : ℕ)
+    → r ≡ cond (nat_lt (size_of best all) (size_of p.1 all)) p.1 best
+    → largest all r ps ≡ largest all best (p ∷ ps)
+largest_step all best p ps r e = ap (λ z. largest all z ps) e ∙ by (nat_lt (size_of best all) (size_of p.1 all))
+  where
+    by :
+        (b : Bool)
+        → largest all (cond b p.1 best) ps ≡ cond b (largest all p.1 ps) (largest all best ps)
+    by true = refl
+    by false = refl
+
+-- the same by kept sizes
+pub larger_step :
+    (all : List Span) (rows : List (ℕ × ℕ)) (best : ℕ) (p : ℕ × ℕ) (ps : List (ℕ × ℕ)) (r : ℕ)
+    → ((q : ℕ) → kept rows q ≡ size_of q all)
+    → r ≡ cond (nat_lt (kept rows best) (kept rows p.1)) p.1 best
+    → largest all r ps ≡ largest all best (p ∷ ps)
+larger_step all rows best p ps r k e =
+    largest_step all best p ps r (e ∙ ap (λ x. cond (nat_lt x (kept rows p.1)) p.1 best) (k best) ∙ ap (λ x. cond (nat_lt (size_of best all) x) p.1 best) (k p.1))
+
+-- what holds of each child holds of the largest
+largest_has :
+    (P : ℕ → Type 0) (all : List Span) (best : ℕ) (ps : List (ℕ × ℕ)) → P best → Each P ps
+    → P (largest all best ps)
+largest_has P all best [] h e = h
+largest_has P all best (p ∷ ps) h e = by (nat_lt (size_of best all) (size_of p.1 all)) (largest_has P all p.1 ps e.0 e.1) (largest_has P all best ps h e.1)
+  where
+    by :
+        (b : Bool) → P (largest all p.1 ps) → P (largest all best ps)
+        → P (cond b (largest all p.1 ps) (largest all best ps))
+    by true x y = x
+    by false x y = y
+
+-- what holds of each child holds of the else-child
+pub else_has : (P : ℕ → Type 0) (ps : List (ℕ × ℕ)) → 0 < length ps → Each P ps → P (else_of ps)
+else_has P [] h e = absurd (omega arith)
+else_has P (p ∷ ps) h e = largest_has P (spans (p ∷ ps) 0) p.1 (p ∷ ps) e.0 e
+
+-- what holds of each part holds of the rest
+pub each_drop : (P : ℕ → Type 0) (ps : List (ℕ × ℕ)) (i : ℕ) → Each P ps → Each P (drop i ps)
+each_drop P [] zero e = tt
+each_drop P [] (suc i) e = tt
+each_drop P (q ∷ qs) zero e = e
+each_drop P (q ∷ qs) (suc i) e = each_drop P qs i e.1
+
+-- the ways of a node
+spans_same :
+    (f : ℕ) (drops : Bool) (other : ℕ) (w v : ℕ → List Path) (ps : List (ℕ × ℕ)) (from : ℕ)
+    → Each (λ c. w c ≡ v c) ps
+    → flat_map (span_ways f drops other w) (spans ps from) ≡ flat_map (span_ways f drops other v) (spans ps from)
+spans_same f drops other w v [] from e = refl
+spans_same f drops other w v (p ∷ ps) from e =
+    ap (λ l. cond (p.1 == other) [] (flat_map (λ x. map (with_match f drops x) l) (counted from (p.0 + 1 - from))) ++ flat_map (span_ways f drops other w) (spans ps (p.0 + 1))) e.0
+    ∙ ap (λ l. span_ways f drops other v record { first = from; last = p.0; child = p.1 } ++ l) (spans_same f drops other w v ps (p.0 + 1) e.1)
+
+-- a weaker property
+pub each_of : (P Q : ℕ → Type 0) (ps : List (ℕ × ℕ)) → ((c : ℕ) → P c → Q c) → Each P ps → Each Q ps
+each_of P Q [] f e = tt
+each_of P Q (p ∷ ps) f e = (f p.1 e.0, each_of P Q ps f e.1)
+
+-- a choice by other words for its children
+case_same :
+    (tag f : ℕ) (ps : List (ℕ × ℕ)) (d e : ℕ → Bool) (w v : ℕ → List Path) → 0 < length ps
+    → Each (λ c. (d c ≡ e c) × (w c ≡ v c)) ps
+    → node_ways tag (Case f ps) d w ≡ node_ways tag (Case f ps) e v
+case_same tag f ps d e w v h s =
+    let other = else_of ps in
+    let both = else_has (λ c. (d c ≡ e c) × (w c ≡ v c)) ps h s in
+    ap (λ b. flat_map (span_ways f b other w) (spans ps 0) ++ w other) both.0
+    ∙ ap (λ l. l ++ w other) (spans_same f (e other) other w v ps 0 (each_of (λ c. (d c ≡ e c) × (w c ≡ v c)) (λ c. w c ≡ v c) ps (λ c p. p.1) s))
+    ∙ ap (λ l. flat_map (span_ways f (e other) other v) (spans ps 0) ++ l) both.1
+
+-- an older node keeps its ways
+ways_old :
+    (tag : ℕ) (n : Node) (older : List Node) (c : ℕ) → c < length older
+    → ways_in tag (n ∷ older) c ≡ ways_in tag older c
+ways_old tag n older c h = ap (λ b. cond b (node_ways tag n (λ c. is_empty_leaf (node_at older c)) (λ c. ways_in tag older c)) (ways_in tag older c)) (let e : eqb c (length older) ≡ false = grind (arith, nat_tests, h) in e)
+
+-- the newest node has the ways of its children
+ways_new :
+    (tag : ℕ) (n : Node) (older : List Node) (c : ℕ) → c ≡ length older
+    → ways_in tag (n ∷ older) c ≡ node_ways tag n (λ c. is_empty_leaf (node_at older c)) (λ c. ways_in tag older c)
+ways_new tag n older c h = ap (λ b. cond b (node_ways tag n (λ c. is_empty_leaf (node_at older c)) (λ c. ways_in tag older c)) (ways_in tag older c)) (let e : eqb c (length older) ≡ true = grind (arith, nat_tests, h) in e)
+
+-- the ways of a choice, by its number
+pub ways_at_case :
+    (tag : ℕ) (ns : List Node) (i f : ℕ) (ps : List (ℕ × ℕ)) → i < length ns → node_at ns i ≡ Case f ps
+    → 0 < length ps → Each (λ c. c < i) ps
+    → ways_in tag ns i ≡ node_ways tag (Case f ps) (λ c. is_empty_leaf (node_at ns c)) (λ c. ways_in tag ns c)
+ways_at_case tag [] i f ps h e some below = absurd (omega arith)
+ways_at_case tag (n ∷ older) i f ps h e some below =
+    elim (eqb_tells i (length older)) [
+      | inl same ↦
+          let e' : n ≡ Case f ps = sym (node_at-new n older) ∙ ap (λ k. node_at (n ∷ older) k) (sym same.1) ∙ e in
+          ways_new tag n older i same.1
+          ∙ ap (λ m. node_ways tag m (λ c. is_empty_leaf (node_at older c)) (λ c. ways_in tag older c)) e'
+          ∙ case_same tag f ps (λ c. is_empty_leaf (node_at older c)) (λ c. is_empty_leaf (node_at (n ∷ older) c)) (λ c. ways_in tag older c) (λ c. ways_in tag (n ∷ older) c) some
+          (each_of (λ c. c < i) (λ c. (is_empty_leaf (node_at older c) ≡ is_empty_leaf (node_at (n ∷ older) c)) × (ways_in tag older c ≡ ways_in tag (n ∷ older) c)) ps (λ c l. let k : c < length older = omega (arith, l, same.1) in (ap is_empty_leaf (sym (node_at-old n older c k)), sym (ways_old tag n older c k))) below)
+      | inr other ↦
+          let below' : i < length older = omega (arith, other.1) in
+          ways_old tag n older i below'
+          ∙ ways_at_case tag older i f ps below' (sym (node_at-old n older i below') ∙ e) some below
+          ∙ case_same tag f ps (λ c. is_empty_leaf (node_at older c)) (λ c. is_empty_leaf (node_at (n ∷ older) c)) (λ c. ways_in tag older c) (λ c. ways_in tag (n ∷ older) c) some
+          (each_of (λ c. c < i) (λ c. (is_empty_leaf (node_at older c) ≡ is_empty_leaf (node_at (n ∷ older) c)) × (ways_in tag older c ≡ ways_in tag (n ∷ older) c)) ps (λ c l. let k : c < length older = omega (arith, l, below') in (ap is_empty_leaf (sym (node_at-old n older c k)), sym (ways_old tag n older c k))) below)
+    ]
+
+-- the ways of a choice in the store
+pub ways_case :
+    (tag : ℕ) (st : Held) (i f : ℕ) (ps : List (ℕ × ℕ)) → IsId st i → node_of st i ≡ Case f ps
+    → 0 < length ps → Each (λ c. c < i) ps
+    → ways tag st i ≡ node_ways tag (Case f ps) (λ c. is_empty_leaf (node_of st c)) (ways tag st)
+unfolding IsId node_of ways
+ways_case tag st i f ps h e some below = ways_at_case tag st.nodes i f ps h e some below
+
+-- the way of a leaf, by its number
+pub ways_at_leaf : (tag : ℕ) (ns : List Node) (i : ℕ) (outs : List Out) → i < length ns → node_at ns i ≡ Leaf outs → ways_in tag ns i ≡ record { matches = []; buckets = bucket_list tag outs; shown = false } ∷ []
+ways_at_leaf tag [] i outs h e = absurd (omega arith)
+ways_at_leaf tag (n ∷ older) i outs h e =
+    elim (eqb_tells i (length older)) [
+      | inl same ↦
+          let e' : n ≡ Leaf outs = sym (node_at-new n older) ∙ ap (λ k. node_at (n ∷ older) k) (sym same.1) ∙ e in
+          ways_new tag n older i same.1 ∙ ap (λ m. node_ways tag m (λ c. is_empty_leaf (node_at older c)) (λ c. ways_in tag older c)) e'
+      | inr other ↦
+          let below : i < length older = omega (arith, other.1) in
+          ways_old tag n older i below ∙ ways_at_leaf tag older i outs below (sym (node_at-old n older i below) ∙ e)
+    ]
+
+-- the way of a leaf in the store
+pub ways_leaf : (tag : ℕ) (st : Held) (i : ℕ) (outs : List Out) → IsId st i → node_of st i ≡ Leaf outs → ways tag st i ≡ record { matches = []; buckets = bucket_list tag outs; shown = false } ∷ []
+unfolding IsId node_of ways
+ways_leaf tag st i outs h e = ways_at_leaf tag st.nodes i outs h e
+
+-- rows behind a way
+map_twice :
+    {A B C : Type 0} (g : B → C) (h : A → B) (xs : List A) → map g (map h xs) ≡ map (λ x. g (h x)) xs
+map_twice g h [] = refl
+map_twice g h (x ∷ xs) = ap (λ l. g (h x) ∷ l) (map_twice g h xs)
+
+-- functions that agree have the same images
+map_same : {A B : Type 0} (g h : A → B) (xs : List A) → ((x : A) → g x ≡ h x) → map g xs ≡ map h xs
+map_same g h [] e = refl
+map_same g h (x ∷ xs) e = ap (λ y. y ∷ map g xs) (e x) ∙ ap (λ l. h x ∷ l) (map_same g h xs e)
+
+module _ (width tag t : ℕ) (ms : List (ℕ × ℕ)) (all : Bool) where
+  -- the rows of ways joined
+  behind_append :
+      (ps qs : List Path)
+      → rows_behind width tag t ms all (ps ++ qs) ≡ rows_behind width tag t ms all ps ++ rows_behind width tag t ms all qs
+  behind_append ps qs =
+      ap (map (row_behind width tag t ms)) (filter_append_is (λ p. (not (is_drop_list p.buckets) || p.shown) || all) ps qs)
+      ∙ map_append_is (row_behind width tag t ms) (filter (λ p. (not (is_drop_list p.buckets) || p.shown) || all) ps) (filter (λ p. (not (is_drop_list p.buckets) || p.shown) || all) qs)
+
+  -- the rows of ways with one more match
+  behind_match :
+      (f v : ℕ) (drops : Bool) (ps : List Path)
+      → rows_behind width tag t ms all (map (with_match f drops v) ps) ≡ rows_behind width tag t (ms ++ (f, v) ∷ []) (not drops || all) ps
+  behind_match f v drops ps =
+      ap (map (row_behind width tag t ms))
+      (filter_map_is (λ p. (not (is_drop_list p.buckets) || p.shown) || all) (with_match f drops v) ps
+      ∙ ap (map (with_match f drops v)) (filter_same _ (λ p. (not (is_drop_list p.buckets) || p.shown) || (not drops || all)) ps (λ q. flags (not (is_drop_list q.buckets)) drops q.shown all)))
+      ∙ map_twice (row_behind width tag t ms) (with_match f drops v) (filter (λ p. (not (is_drop_list p.buckets) || p.shown) || (not drops || all)) ps)
+      ∙ map_same _ (row_behind width tag t (ms ++ (f, v) ∷ [])) (filter (λ p. (not (is_drop_list p.buckets) || p.shown) || (not drops || all)) ps)
+      (λ q. ap (λ (l : List (ℕ × ℕ)). (record { priority = min 65535 (priority_of width tag l); matches = put (tag, t) l; buckets = q.buckets })) (sym (append_assoc ms ((f, v) ∷ []) q.matches)))
+
+  -- the rows of several values
+  behind_values :
+      (f : ℕ) (drops : Bool) (ps : List Path) (vs : List ℕ)
+      → rows_behind width tag t ms all (flat_map (λ v. map (with_match f drops v) ps) vs) ≡ flat_map (λ v. rows_behind width tag t (ms ++ (f, v) ∷ []) (not drops || all) ps) vs
+  behind_values f drops ps [] = refl
+  behind_values f drops ps (v ∷ vs) =
+      behind_append (map (with_match f drops v) ps) (flat_map (λ v. map (with_match f drops v) ps) vs)
+      ∙ ap (λ l. l ++ rows_behind width tag t ms all (flat_map (λ v. map (with_match f drops v) ps) vs)) (behind_match f v drops ps)
+      ∙ ap (λ l. rows_behind width tag t (ms ++ (f, v) ∷ []) (not drops || all) ps ++ l) (behind_values f drops ps vs)
+
+  -- the rows of an interval
+  behind_span :
+      (f : ℕ) (drops : Bool) (other : ℕ) (w : ℕ → List Path) (s : Span)
+      → rows_behind width tag t ms all (span_ways f drops other w s) ≡ span_rows width tag t ms f (not drops || all) other w s
+  behind_span f drops other w s = by (s.child == other)
+    where
+      by :
+          (b : Bool)
+          → rows_behind width tag t ms all (cond b [] (flat_map (λ v. map (with_match f drops v) (w s.child)) (counted s.first (s.last + 1 - s.first)))) ≡ cond b [] (flat_map (λ v. rows_behind width tag t (ms ++ (f, v) ∷ []) (not drops || all) (w s.child)) (counted s.first (s.last + 1 - s.first)))
+      by true = refl
+      by false = behind_values f drops (w s.child) (counted s.first (s.last + 1 - s.first))
+
+  -- the rows of intervals
+  behind_spans :
+      (f : ℕ) (drops : Bool) (other : ℕ) (w : ℕ → List Path) (ss : List Span)
+      → rows_behind width tag t ms all (flat_map (span_ways f drops other w) ss) ≡ flat_map (span_rows width tag t ms f (not drops || all) other w) ss
+  behind_spans f drops other w [] = refl
+  behind_spans f drops other w (s ∷ ss) =
+      behind_append (span_ways f drops other w s) (flat_map (span_ways f drops other w) ss)
+      ∙ ap (λ l. l ++ rows_behind width tag t ms all (flat_map (span_ways f drops other w) ss)) (behind_span f drops other w s)
+      ∙ ap (λ l. span_rows width tag t ms f (not drops || all) other w s ++ l) (behind_spans f drops other w ss)
+
+  -- the rows of a choice
+  pub behind_node :
+      (f : ℕ) (ps : List (ℕ × ℕ)) (d : ℕ → Bool) (w : ℕ → List Path)
+      → rows_behind width tag t ms all (node_ways tag (Case f ps) d w) ≡ flat_map (span_rows width tag t ms f (not (d (else_of ps)) || all) (else_of ps) w) (spans ps 0) ++ rows_behind width tag t ms all (w (else_of ps))
+  behind_node f ps d w =
+      behind_append (flat_map (span_ways f (d (else_of ps)) (else_of ps) w) (spans ps 0)) (w (else_of ps))
+      ∙ ap (λ l. l ++ rows_behind width tag t ms all (w (else_of ps))) (behind_spans f (d (else_of ps)) (else_of ps) w (spans ps 0))
+
+-- what holds of an Ok answer
+pub on_ok : {T E : Type 0} (r : Result T E) (P Q : Type 0) → (P → Q) → OnOk r P → OnOk r Q
+on_ok (Ok x) P Q f h = f h
+on_ok (Err e) P Q f h = h
+
+-- the end of the loop over parts
+pub case_returns :
+    (width tag t : ℕ) (ms : List (ℕ × ℕ)) (all : Bool) (f : ℕ) (ps : List (ℕ × ℕ)) (d : ℕ → Bool) (w : ℕ → List Path) (before mid after : List Plain) (other : ℕ) (shown : Bool) (rest : List (ℕ × ℕ)) (from : ℕ)
+    → other ≡ else_of ps → shown ≡ (not (d other) || all) → rest ≡ []
+    → mid ++ flat_map (span_rows width tag t ms f shown other w) (spans rest from) ≡ before ++ flat_map (span_rows width tag t ms f shown other w) (spans ps 0)
+    → after ≡ mid ++ rows_behind width tag t ms all (w other)
+    → after ≡ before ++ rows_behind width tag t ms all (node_ways tag (Case f ps) d w)
+case_returns width tag t ms all f ps d w before mid after other shown rest from is s none made h =
+    let mid_is : mid ≡ before ++ flat_map (span_rows width tag t ms f shown other w) (spans ps 0) =
+    sym (append-nil mid) ∙ ap (λ l. mid ++ flat_map (span_rows width tag t ms f shown other w) (spans l from)) (sym none) ∙ made in
+    let flag : shown ≡ (not (d (else_of ps)) || all) = s ∙ ap (λ o. not (d o) || all) is in
+    h
+    ∙ ap (λ l. l ++ rows_behind width tag t ms all (w other)) mid_is
+    ∙ append_assoc before (flat_map (span_rows width tag t ms f shown other w) (spans ps 0)) (rows_behind width tag t ms all (w other))
+    ∙ ap (λ o. before ++ (flat_map (span_rows width tag t ms f shown o w) (spans ps 0) ++ rows_behind width tag t ms all (w o))) is
+    ∙ ap (λ b. before ++ (flat_map (span_rows width tag t ms f b (else_of ps) w) (spans ps 0) ++ rows_behind width tag t ms all (w (else_of ps)))) flag
+    ∙ ap (λ l. before ++ l) (sym (behind_node width tag t ms all f ps d w))
+
+-- a step of the loop over parts
+pub case_step :
+    (g : Span → List Plain) (mid more all : List Plain) (p : ℕ × ℕ) (ps : List (ℕ × ℕ)) (whole : List (ℕ × ℕ)) (from : ℕ)
+    → whole ≡ p ∷ ps → mid ++ flat_map g (spans whole from) ≡ all
+    → more ≡ mid ++ g record { first = from; last = p.0; child = p.1 }
+    → more ++ flat_map g (spans ps (p.0 + 1)) ≡ all
+case_step g mid more all p ps whole from split made h =
+    ap (λ l. l ++ flat_map g (spans ps (p.0 + 1))) h
+    ∙ append_assoc mid (g record { first = from; last = p.0; child = p.1 }) (flat_map g (spans ps (p.0 + 1)))
+    ∙ ap (λ l. mid ++ flat_map g (spans l from)) (sym split)
+    ∙ made
+
+-- a step of the loop over values
+pub values_step :
+    (g : ℕ → List Plain) (mid more all : List Plain) (v last : ℕ) → v ≤ last
+    → mid ++ flat_map g (counted v (last + 1 - v)) ≡ all → more ≡ mid ++ g v
+    → more ++ flat_map g (counted (v + 1) (last + 1 - (v + 1))) ≡ all
+values_step g mid more all v last h made e =
+    let one : last + 1 - v ≡ suc (last + 1 - (v + 1)) = omega (arith, h) in
+    ap (λ l. l ++ flat_map g (counted (v + 1) (last + 1 - (v + 1)))) e
+    ∙ append_assoc mid (g v) (flat_map g (counted (v + 1) (last + 1 - (v + 1))))
+    ∙ ap (λ n. mid ++ flat_map g (counted v n)) (sym one)
+    ∙ made
+
+-- its end
+pub values_end :
+    (g : ℕ → List Plain) (mid more all : List Plain) (v last : ℕ) → v ≡ last
+    → mid ++ flat_map g (counted v (last + 1 - v)) ≡ all → more ≡ mid ++ g v → more ≡ all
+values_end g mid more all v last h made e =
+    let none : last + 1 - (v + 1) ≡ 0 = omega (arith, h) in
+    sym (append-nil more) ∙ ap (λ n. more ++ flat_map g (counted (v + 1) n)) (sym none) ∙ values_step g mid more all v last (omega (arith, h)) made e
+
+-- the rows of an interval that is not of the else-child
+pub span_is :
+    (width tag t : ℕ) (ms : List (ℕ × ℕ)) (f : ℕ) (shown : Bool) (other : ℕ) (w : ℕ → List Path) (s : Span)
+    → s.child ≢ other
+    → span_rows width tag t ms f shown other w s ≡ flat_map (λ v. rows_behind width tag t (ms ++ (f, v) ∷ []) shown (w s.child)) (counted s.first (s.last + 1 - s.first))
+span_is width tag t ms f shown other w s n =
+    let e : (s.child == other) ≡ false = grind (arith, nat_tests, n) in
+    ap (λ b. cond b [] (flat_map (λ v. rows_behind width tag t (ms ++ (f, v) ∷ []) shown (w s.child)) (counted s.first (s.last + 1 - s.first)))) e

@@ -1,0 +1,77 @@
+use Rattle.std.proofs.Common.{arith, ◌≡◌, ◌<◌, ◌∙◌, subst, sym, ap, ◌+◌, ◌-◌, ℕ, [], ◌∷◌, ◌++◌, length, drop, get_or, not, ◌||◌, List, false}
+use Rattle.std.specs.List.{flat_map}
+use Rattle.nk_store.specs.Nodes.{Each, Rises}
+use Rattle.nk_store.specs.Held.{IsId, node_of, IsNodeOf, IsCase, IsChild}
+use Rattle.nk_store.proofs.Looks.{joined_some}
+use Rattle.nk_store.specs.declared.node.Node.TheVariants.{Case}
+use Rattle.nk_store.specs.Intervals.{counted}
+use Rattle.nk_table.specs.declared.Plain.{Plain}
+use Rattle.std.proofs.lemmas.List.{drop_all}
+use Rattle.nk_extract.specs.Ways.{ways, rows_behind, bucket_list, node_ways, is_empty_leaf}
+use Rattle.nk_extract.proofs.Walks.{rest_is, ways_leaf, ways_case, else_has, each_of, each_drop, on_ok, case_returns, values_step}
+use Rattle.nk_extract.proofs.walk.+walk.Goals as goal
+
+pub walk-returns-in-Leaf : goal.walk-returns-in-Leaf
+walk-returns-in-Leaf t c =
+    on_ok c.leaf_row.result _ _
+    (λ h. h ∙ ap (λ l. c.args.rows.now.items ++ rows_behind c.args.frame.now.width c.args.frame.now.tag c.args.frame.now.to c.args.way.now.matches c.args.way.now.shown l)
+    (ap (λ outs. record { matches = []; buckets = bucket_list c.args.frame.now.tag outs; shown = false } ∷ []) c.as_slice.ensures ∙ sym (ways_leaf c.args.frame.now.tag c.args.st.now c.args.d c.in-Leaf.outs c.requires.id (sym c.view.ensures.node ∙ c.in-Leaf.is))))
+    c.leaf_row.ensures
+
+case_is : (t : ℕ) (c : goal.walk-After-walk_case t) → IsCase c.args.st.now c.args.d c.in-Case.f c.in-Case.parts
+case_is t c = subst (IsNodeOf c.args.st.now c.args.d) c.in-Case.is c.view.ensures.means
+
+pub walk-returns-in-Case : goal.walk-returns-in-Case
+walk-returns-in-Case t c =
+    on_ok c.walk_case.result _ _
+    (λ h. h ∙ ap (λ l. c.args.rows.now.items ++ rows_behind c.args.frame.now.width c.args.frame.now.tag c.args.frame.now.to c.args.way.now.matches c.args.way.now.shown l)
+    (ap (λ ps. node_ways c.args.frame.now.tag (Case c.in-Case.f ps) (λ k. is_empty_leaf (node_of c.args.st.now k)) (ways c.args.frame.now.tag c.args.st.now)) c.as_slice-in-Case.ensures
+    ∙ sym (ways_case c.args.frame.now.tag c.args.st.now c.args.d c.in-Case.f c.in-Case.parts c.requires.id (sym c.view.ensures.node ∙ c.in-Case.is) (joined_some c.in-Case.parts (case_is t c).joined) (case_is t c).below)))
+    c.walk_case.ensures
+
+pub walk_case-is_drop-requires : goal.walk_case-is_drop-requires
+walk_case-is_drop-requires t c = subst (IsId c.args.st.now) (sym c.in_ok-other.ensures)
+    (else_has (IsId c.args.st.now) c.args.parts.now (joined_some c.args.parts.now c.requires.case.joined) (each_of (IsChild c.args.st.now c.args.f) (IsId c.args.st.now) c.args.parts.now (λ k l. l.id) c.requires.case.parts_ok.children))
+
+item_has : (P : ℕ → Type 0) (ps : List (ℕ × ℕ)) (i : ℕ) (p : ℕ × ℕ) → i < length ps → p ≡ get_or ps i p → Each P ps → P p.1
+item_has P ps i p h e each = (subst (Each P) (rest_is ps i p h e) (each_drop P ps i each)).0
+
+pub walk_case-walk_values-requires : goal.walk_case-walk_values-requires
+walk_case-walk_values-requires t c =
+    let ps = c.args.parts.now in
+    let i = c.loop-end.end-index in
+    let p = c.loop-end-item.result in
+    let below : p.1 < c.args.d = item_has (λ k. k < c.args.d) ps i p c.loop-end-test.true c.loop-end-item.is c.requires.case.below in
+    let child : IsChild c.args.st.now c.args.f p.1 = item_has (IsChild c.args.st.now c.args.f) ps i p c.loop-end-test.true c.loop-end-item.is c.requires.case.parts_ok.children in
+    let rise : Rises c.max-high.result c.loop-end.from (p ∷ drop (i + 1) ps) = subst (Rises c.max-high.result c.loop-end.from) (rest_is ps i p c.loop-end-test.true c.loop-end-item.is) c.loop-end.invariant.rise in
+    (omega (arith, below, c.decreases), (child.id, (c.requires.width, rise.0)))
+
+pub walk_case-walk-requires : goal.walk_case-walk-requires
+walk_case-walk-requires t c =
+    let some = joined_some c.args.parts.now c.requires.case.joined in
+    let below : c.in_ok-other.other < c.args.d = subst (λ k. k < c.args.d) (sym c.in_ok-other.ensures) (else_has (λ k. k < c.args.d) c.args.parts.now some c.requires.case.below) in
+    let id : IsId c.args.st.now c.in_ok-other.other = subst (IsId c.args.st.now) (sym c.in_ok-other.ensures) (else_has (IsId c.args.st.now) c.args.parts.now some (each_of (IsChild c.args.st.now c.args.f) (IsId c.args.st.now) c.args.parts.now (λ k l. l.id) c.requires.case.parts_ok.children)) in
+    (omega (arith, below, c.decreases), (id, c.requires.width))
+
+pub walk_case-returns : goal.walk_case-returns
+walk_case-returns t c =
+    on_ok c.walk.result _ _
+    (case_returns c.args.frame.now.width c.args.frame.now.tag c.args.frame.now.to c.args.way.now.matches c.args.way.now.shown c.args.f c.args.parts.now (λ k. is_empty_leaf (node_of c.args.st.now k)) (ways c.args.frame.now.tag c.args.st.now) c.args.rows.now.items c.loop-end.rows.items c.walk.new.rows.items c.in_ok-other.other c.printed-shown.result (drop c.loop-end.end-index c.args.parts.now) c.loop-end.from
+    c.in_ok-other.ensures
+    (c.printed-shown.ensures ∙ ap (λ b. not b || c.args.way.now.shown) c.is_drop.ensures)
+    (drop_all c.loop-end.end-index c.args.parts.now c.loop-end-test.false)
+    c.loop-end.invariant.made)
+    c.walk.ensures
+
+pub walk_values-loop-next-preserved : goal.walk_values-loop-next-preserved
+walk_values-loop-next-preserved t c =
+    let g : ℕ → List Plain = λ v. rows_behind c.args.frame.now.width c.args.frame.now.tag c.args.frame.now.to (c.args.way.now.matches ++ (c.args.f, v) ∷ []) c.args.shown (ways c.args.frame.now.tag c.args.st.now c.args.c) in
+    let e : c.walk.new.rows.items ≡ c.loop-next.rows.items ++ g c.loop-next.v =
+    c.in_ok-walk.ensures
+    ∙ ap (λ ms. c.loop-next.rows.items ++ rows_behind c.args.frame.now.width c.args.frame.now.tag c.args.frame.now.to ms c.in_ok-next.next.shown (ways c.args.frame.now.tag c.args.st.now c.args.c)) c.in_ok-next.ensures.matches
+    ∙ ap (λ b. c.loop-next.rows.items ++ rows_behind c.args.frame.now.width c.args.frame.now.tag c.args.frame.now.to (c.args.way.now.matches ++ (c.args.f, c.loop-next.v) ∷ []) b (ways c.args.frame.now.tag c.args.st.now c.args.c)) c.in_ok-next.ensures.shown in
+    record {
+      low = omega (arith, c.loop-next.invariant.low);
+      high = omega (arith, c.loop-next.invariant.high, c.if-v-last.false);
+      made = values_step g c.loop-next.rows.items c.walk.new.rows.items (c.args.rows.now.items ++ flat_map g (counted c.args.first (c.args.last + 1 - c.args.first))) c.loop-next.v c.args.last c.loop-next.invariant.high c.loop-next.invariant.made e;
+    }

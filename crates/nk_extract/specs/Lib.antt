@@ -1,0 +1,6 @@
+pub mod Buckets
+pub mod Chosen
+pub mod Example
+pub mod RowsOf
+pub mod RuleTree
+pub mod Ways

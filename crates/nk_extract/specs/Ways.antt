@@ -1,0 +1,139 @@
+-- The ways through a diagram of the store, node by node, and what a way's row is. The else-child is found by number.
+use Rattle.std.specs.Prelude.{◌≡◌, ℕ, ◌+◌, ◌-◌, ◌≤◌, ◌==◌, ◌||◌, Bool, true, false, not, nat_lt, min, cond, eqb, if◌then◌else◌, List, [], ◌∷◌, ◌++◌, length, map, filter, Option, Some, None}
+use Rattle.std.specs.List.{flat_map}
+use Rattle.std.specs.Map.{lookup}
+use Rattle.nk_field.specs.Act.{act_then, left_without}
+use Rattle.nk_store.specs.declared.node.Node.{Node}
+use Rattle.nk_store.specs.declared.node.Node.TheVariants.{Leaf, Case}
+use Rattle.nk_store.specs.declared.node.Out.{Out}
+use Rattle.nk_store.specs.Nodes.{node_at, child_at}
+use Rattle.nk_store.specs.Held.{Held}
+use Rattle.nk_store.specs.Diagram.{Diagram, Branches, leaf, case, no_branch, branch}
+use Rattle.nk_store.specs.Intervals.{counted}
+use Rattle.nk_table.specs.declared.Bucket.{Bucket}
+use Rattle.nk_table.specs.declared.Exit.{Exit}
+use Rattle.nk_table.specs.declared.Exit.TheVariants.{Back, Port}
+use Rattle.nk_table.specs.declared.Plain.{Plain}
+use Rattle.nk_extract.specs.RuleTree.{Path, paths_of, is_drop_list, with_match, put, priority_of, bit_of, rows_for}
+use Rattle.nk_extract.specs.Chosen.{IsRowTree}
+
+-- the port that the assignments set, or back
+abbrev pub exit_of : List (ℕ × ℕ) → Exit
+exit_of [] = Back
+exit_of (s ∷ ss) = if s.0 == 1 then Port (min s.1 65535) else exit_of ss
+
+-- the bucket of an out: its assignments but the port's, the tag, and its port
+abbrev pub bucket_for : ℕ → Out → Bucket
+bucket_for tag o = record { sets = act_then (left_without 1 o.act) ((tag, o.target) ∷ []); exit = exit_of o.act }
+
+abbrev pub bucket_list : ℕ → List Out → List Bucket
+bucket_list tag outs = map (bucket_for tag) outs
+
+-- an interval of values with the number of its child
+pub record Span : Type 0 where
+  pub first : ℕ
+  pub last : ℕ
+  pub child : ℕ
+
+-- the intervals of a node, from a value on
+abbrev pub spans : List (ℕ × ℕ) → ℕ → List Span
+spans [] from = []
+spans (p ∷ ps) from = record { first = from; last = p.0; child = p.1 } ∷ spans ps (p.0 + 1)
+
+-- how many values have the child
+abbrev pub size_of : ℕ → List Span → ℕ
+size_of c [] = 0
+size_of c (s ∷ ss) = (if c == s.child then s.last + 1 - s.first else 0) + size_of c ss
+
+-- the child with the most values of all, the first of several
+abbrev pub largest : List Span → ℕ → List (ℕ × ℕ) → ℕ
+largest all best [] = best
+largest all best (p ∷ ps) = if nat_lt (size_of best all) (size_of p.1 all) then largest all p.1 ps else largest all best ps
+
+abbrev pub else_of : List (ℕ × ℕ) → ℕ
+else_of [] = 0
+else_of (p ∷ ps) = largest (spans (p ∷ ps) 0) p.1 (p ∷ ps)
+
+-- the ways of the exact values of an interval
+abbrev pub span_ways : ℕ → Bool → ℕ → (ℕ → List Path) → Span → List Path
+span_ways f drops other ways s =
+    if s.child == other then [] else flat_map (λ v. map (with_match f drops v) (ways s.child)) (counted s.first (s.last + 1 - s.first))
+
+-- the ways of a node, by those of its children
+abbrev pub node_ways : ℕ → Node → (ℕ → Bool) → (ℕ → List Path) → List Path
+node_ways tag (Leaf outs) drops ways = record { matches = []; buckets = bucket_list tag outs; shown = false } ∷ []
+node_ways tag (Case f parts) drops ways =
+    flat_map (span_ways f (drops (else_of parts)) (else_of parts) ways) (spans parts 0) ++ ways (else_of parts)
+
+-- whether a node is the empty leaf
+abbrev pub is_empty_leaf : Node → Bool
+is_empty_leaf (Leaf []) = true
+is_empty_leaf (Leaf (o ∷ os)) = false
+is_empty_leaf (Case f parts) = false
+
+-- the ways of the node of a number
+abbrev pub ways_in : ℕ → List Node → ℕ → List Path
+ways_in tag [] i = []
+ways_in tag (n ∷ older) i =
+    cond (eqb i (length older)) (node_ways tag n (λ c. is_empty_leaf (node_at older c)) (λ c. ways_in tag older c)) (ways_in tag older i)
+
+-- the ways of a diagram of the store
+unfoldable pub ways : ℕ → Held → ℕ → List Path
+ways tag st d = ways_in tag st.nodes d
+
+-- the row of a way behind the matches made before it
+abbrev pub row_behind : ℕ → ℕ → ℕ → List (ℕ × ℕ) → Path → Plain
+row_behind width tag t before p = record {
+  priority = min 65535 (priority_of width tag (before ++ p.matches));
+  matches = put (tag, t) (before ++ p.matches);
+  buckets = p.buckets;
+}
+
+-- the rows of ways, all of them where all holds
+abbrev pub rows_behind : ℕ → ℕ → ℕ → List (ℕ × ℕ) → Bool → List Path → List Plain
+rows_behind width tag t before all ps =
+    map (row_behind width tag t before) (filter (λ p. (not (is_drop_list p.buckets) || p.shown) || all) ps)
+
+-- the number that is kept for a child, 0 for none
+abbrev pub or_none : Option ℕ → ℕ
+or_none None = 0
+or_none (Some n) = n
+
+abbrev pub kept : List (ℕ × ℕ) → ℕ → ℕ
+kept rows c = or_none (lookup (eqb c) rows)
+
+-- the rows of an interval's values, behind a way
+abbrev pub span_rows : ℕ → ℕ → ℕ → List (ℕ × ℕ) → ℕ → Bool → ℕ → (ℕ → List Path) → Span → List Plain
+span_rows width tag t before f all other ways s =
+    if s.child == other then []
+    else flat_map (λ v. rows_behind width tag t (before ++ (f, v) ∷ []) all (ways s.child)) (counted s.first (s.last + 1 - s.first))
+
+-- the child of a node for a switch, or the diagram itself where it doesn't test the switch
+abbrev pub at_switch : ℕ → ℕ → Node → ℕ
+at_switch sw d (Leaf outs) = d
+at_switch sw d (Case f parts) = if f == 0 then child_at 0 parts sw else d
+
+-- the branches of a node, by the trees of its children
+abbrev pub branches_of : List (ℕ × ℕ) → (ℕ → Diagram (List Bucket)) → Branches (List Bucket)
+branches_of [] tree = no_branch
+branches_of (p ∷ ps) tree = branch p.0 (tree p.1) (branches_of ps tree)
+
+-- a node as a tree, by the trees of its children
+abbrev pub node_tree : ℕ → Node → (ℕ → Diagram (List Bucket)) → Diagram (List Bucket)
+node_tree tag (Leaf outs) tree = leaf (bucket_list tag outs)
+node_tree tag (Case f parts) tree = case f (branches_of parts tree)
+
+-- the tree of bucket lists of a number
+abbrev pub tree_in : ℕ → List Node → ℕ → Diagram (List Bucket)
+tree_in tag [] i = leaf []
+tree_in tag (n ∷ older) i = cond (eqb i (length older)) (node_tree tag n (λ c. tree_in tag older c)) (tree_in tag older i)
+
+-- the tree of a diagram of the store
+unfoldable pub tree_of : ℕ → Held → ℕ → Diagram (List Bucket)
+tree_of tag st d = tree_in tag st.nodes d
+
+-- the rows made of a tree's ways are its rows, where all bits fit
+abbrev pub RowsAreMade : Type 0
+RowsAreMade =
+    (maxima : List ℕ) (tag t : ℕ) (d : Diagram (List Bucket)) → IsRowTree maxima tag d → bit_of (length maxima) tag 0 ≤ 65536
+    → rows_behind (length maxima) tag t [] false (paths_of d) ≡ rows_for (length maxima) tag t d

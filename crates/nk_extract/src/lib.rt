@@ -1,0 +1,20 @@
+//! The rows of a switch's table for one tag, from the diagram of the tag's state: those of the reduced tree of its
+//! bucket lists. Laws: of the rows that match a packet one alone is highest and has the leaf's buckets, or none
+//! matches and the leaf is empty.
+#![tactic(auto)]
+
+mod bucket;
+pub mod laws;
+mod other;
+mod row;
+mod rows;
+mod walk;
+
+ghost use Rattle.nk_extract.specs.Example.{WorkedRules};
+
+pub use rows::rows_of;
+
+/// Three small trees and their rows, among them a printed drop row.
+pub fn worked_rules()
+    ensures { WorkedRules }
+{}

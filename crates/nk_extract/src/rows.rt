@@ -1,0 +1,136 @@
+//! The rows of a diagram at a switch.
+ghost use Rattle.std.specs.Prelude.{◌≡◌, ◌≤◌, ◌<◌, ℕ, Some, length, IfOk};
+ghost use Rattle.nk_store.specs.Held.{IsId, node_of};
+ghost use Rattle.nk_store.specs.Nodes.{child_at};
+ghost use Rattle.nk_extract.specs.Ways.{at_switch};
+ghost use Rattle.nk_extract.specs.RowsOf.{IsFrame, IsPrintable, AreRowsOf};
+
+use crate::row::{Frame, Way};
+use crate::walk::walk;
+use nk_field::List;
+use nk_store::{Id, Node, Store};
+use nk_table::Plain;
+use std::alloc::{AllocError, Global};
+
+/// The rows of a diagram at a switch for one tag: those of the reduced tree whose leaf at each packet of the switch is
+/// the bucket list of the diagram's leaf there. They stand by exact values ascending, the else-child last.
+///
+/// The store has a tag, and at each packet of the switch each act of the leaf assigns what it changes, neither the
+/// switch nor the tag; the leaf is the same whatever the tag. Fails where memory runs out.
+pub fn rows_of(
+    alloc: Global,
+    st: &Store,
+    d: Id,
+    switch: u16,
+    to: u64,
+) -> Result<Vec<Plain>, AllocError>
+    requires id { IsId st.now d }
+    requires frame { (tag : ℕ) × (st.now.tag ≡ Some tag)
+        × IsFrame st.now st.now.width tag × IsPrintable st.now tag switch d }
+    ensures { IfOk result (λ rows. (tag : ℕ) → st.now.tag ≡ Some tag
+        → AreRowsOf st.now st.now.width tag switch to d rows.items) }
+{
+    match st.tag() {
+        Some(tag) => {
+            let frame = Frame {
+                width: st.width(),
+                tag,
+                to,
+            };
+            rows_in(alloc, st, d, switch, &frame)
+        }
+        None => Ok(Vec::new(alloc)),
+    }
+}
+
+/// The rows of a diagram at a switch, in a given frame.
+fn rows_in(
+    alloc: Global,
+    st: &Store,
+    d: Id,
+    switch: u16,
+    frame: &Frame,
+) -> Result<Vec<Plain>, AllocError>
+    requires id { IsId st.now d }
+    requires frame { IsFrame st.now frame.now.width frame.now.tag }
+    requires printable { IsPrintable st.now frame.now.tag switch d }
+    ensures { IfOk result (λ rows.
+        AreRowsOf st.now frame.now.width frame.now.tag switch frame.now.to d rows.items) }
+{
+    let mut rows = Vec::new(alloc);
+    let way = Way {
+        matches: List::new(alloc),
+        shown: false,
+    };
+    let _laws = st.laws();
+    walk(st, frame, root(st, d, switch as u64), &way, &mut rows)?;
+    Ok(rows)
+}
+
+/// The part of a diagram for a switch, or the diagram where it doesn't test the switch.
+fn root(st: &Store, d: Id, switch: u64) -> Id
+    requires { IsId st.now d }
+    ensures is { result ≡ at_switch switch d (node_of st.now d) }
+    ensures id { IsId st.now result }
+{
+    match st.view(d) {
+        Node::Leaf(_) => d,
+        Node::Case(f, parts) => {
+            if f.place() == 0 {
+                part(parts.as_slice(), switch)
+            } else {
+                d
+            }
+        }
+    }
+}
+
+/// The child of the part that holds the value.
+fn part(parts: &[(u64, Id)], value: u64) -> Id
+    requires { 0 < length parts.now }
+    ensures { result ≡ child_at 0 parts.now value }
+{
+    let mut child = parts[0].1;
+    for (end, c) in parts {
+        if value <= *end {
+            return *c;
+        }
+        child = *c;
+    }
+    child
+}
+
+#[cfg(test)]
+mod tests {
+    use super::*;
+    use nk_field::{Act, Fields};
+    use nk_store::Out;
+    use nk_table::Exit;
+    use std::test::Fail;
+
+    /// A diagram that sends each packet on as it is, with tag 5, has one row: it matches the tag alone.
+    #[test]
+    fn one_row_for_all_packets(rt: HostRuntime) -> Result<(), Fail> {
+        let alloc = rt.alloc();
+        let mut fields = Fields::new(alloc)?;
+        fields.add("dst", 3)?;
+        let tag = fields.add("vlan", 7)?;
+        fields.set_tag(tag);
+        let mut st = Store::new(alloc, &fields)?;
+        let mut outs = List::new(alloc);
+        outs.push(Out {
+            act: Act::none(alloc),
+            target: 5,
+        })?;
+        let d = st.leaf_in_order(outs)?;
+        let rows = rows_of(alloc, &st, d, 1, 2)?;
+        assert_eq!(rt; rows.len(), 1);
+        assert_eq!(rt; rows[0].priority, 0);
+        assert_eq!(rt; rows[0].matches.len(), 1);
+        assert!(rt; *rows[0].matches.at(0) == (tag, 2));
+        assert_eq!(rt; rows[0].buckets.len(), 1);
+        assert!(rt; rows[0].buckets.at(0).exit == Exit::Back);
+        assert!(rt; rows[0].buckets.at(0).sets == Act::one(alloc, tag, 5)?);
+        Ok(())
+    }
+}

@@ -1,0 +1,115 @@
+//! The walk through a diagram, down each way, that makes the rows in order.
+ghost use Rattle.std.specs.Prelude.{◌≡◌, ◌≤◌, ◌++◌, not, ◌||◌, OnOk};
+ghost use Rattle.nk_store.specs.Held.{IsId, node_of, IsCase};
+ghost use Rattle.nk_store.specs.declared.node.Node.TheVariants.{Case};
+ghost use Rattle.nk_extract.specs.Ways.{node_ways, span_rows, ways, rows_behind, is_empty_leaf};
+
+use crate::other::else_child;
+use crate::row::{Frame, Way, leaf_row};
+use nk_field::Fid;
+use nk_store::{Id, Node, Store};
+use nk_table::Plain;
+use std::alloc::AllocError;
+
+/// The rows of a diagram behind a way.
+#[cycle(walk)]
+pub(crate) fn walk(
+    st: &Store,
+    frame: &Frame,
+    d: Id,
+    way: &Way,
+    rows: &mut Vec<Plain>,
+) -> Result<(), AllocError>
+    requires id { IsId st.now d }
+    requires width { frame.now.width ≤ 18 }
+    ensures { OnOk result (rows.new.items ≡ rows.old.items
+        ++ rows_behind frame.now.width frame.now.tag frame.now.to way.now.matches way.now.shown
+        (ways frame.now.tag st.now d)) }
+{
+    match st.view(d) {
+        Node::Leaf(outs) => leaf_row(st.alloc(), frame, outs.as_slice(), way, rows),
+        Node::Case(f, parts) => walk_case(st, frame, d, *f, parts.as_slice(), way, rows),
+    }
+}
+
+/// The rows of a choice behind a way: those of the exact values ascending, and the else-child's last.
+#[cycle(walk)]
+fn walk_case(
+    st: &Store,
+    frame: &Frame,
+    d: Id,
+    f: Fid,
+    parts: &[(u64, Id)],
+    way: &Way,
+    rows: &mut Vec<Plain>,
+) -> Result<(), AllocError>
+    requires case { IsCase st.now d f parts.now }
+    requires width { frame.now.width ≤ 18 }
+    ensures { OnOk result (rows.new.items ≡ rows.old.items
+        ++ rows_behind frame.now.width frame.now.tag frame.now.to way.now.matches way.now.shown
+        (node_ways frame.now.tag (Case f parts.now) (λ c. is_empty_leaf (node_of st.now c))
+        (ways frame.now.tag st.now))) }
+{
+    let high = st.max(f);
+    let other = else_child(st.alloc(), high, parts)?;
+    let shown = printed(is_drop(st, other), way.shown);
+    let mut from: u128 = 0;
+    for (end, c) in parts {
+        walk_values(st, frame, f, shown, other, *c, from as u64, *end, way, rows)?;
+        from = *end as u128 + 1;
+    }
+    walk(st, frame, other, way, rows)
+}
+
+/// The rows of a child that isn't the else-child, for each value from one to another, behind a way.
+#[cycle(walk)]
+fn walk_values(
+    st: &Store,
+    frame: &Frame,
+    f: Fid,
+    shown: bool,
+    other: Id,
+    c: Id,
+    first: u64,
+    last: u64,
+    way: &Way,
+    rows: &mut Vec<Plain>,
+) -> Result<(), AllocError>
+    requires id { IsId st.now c }
+    requires width { frame.now.width ≤ 18 }
+    requires order { first ≤ last }
+    ensures { OnOk result (rows.new.items ≡ rows.old.items
+        ++ span_rows frame.now.width frame.now.tag frame.now.to way.now.matches f shown other
+        (ways frame.now.tag st.now) (record { first = first; last = last; child = c })) }
+{
+    if c == other {
+        return Ok(());
+    }
+    let mut v = first;
+    loop {
+        let next = way.with(st.alloc(), f, v, shown)?;
+        walk(st, frame, c, &next, rows)?;
+        if v == last {
+            return Ok(());
+        }
+        v += 1;
+    }
+}
+
+/// Whether a diagram is the empty leaf.
+fn is_drop(st: &Store, d: Id) -> bool
+    requires { IsId st.now d }
+    ensures { result ≡ is_empty_leaf (node_of st.now d) }
+{
+    match st.view(d) {
+        Node::Leaf(outs) => outs.len() == 0,
+        Node::Case(_, _) => false,
+    }
+}
+
+/// Whether a drop is printed behind an exact value, by the else-child's being the empty leaf.
+fn printed(else_drops: bool, shown: bool) -> bool
+    ensures { result ≡ (not else_drops || shown) }
+{
+    !else_drops || shown
+}

@@ -1,0 +1,152 @@
+-- From declaration to declaration: what is said after all of them, and what stays true of the policies.
+use Rattle.std.proofs.Common.{◌≡◌, ℕ, zero, suc, ◌+◌, ◌<◌, ◌≤◌, Option, Some, None, Ok, Err, List, [], ◌∷◌, ◌++◌, length, get_or, drop, map, refl, sym, ap, subst, ◌∙◌, arith, length-append}
+use Rattle.std.specs.declared.result.Result.{Result}
+use Rattle.std.specs.Prelude.{slice_index, All}
+use Rattle.std.proofs.lemmas.List.{get_or_append_left}
+use Rattle.std.proofs.lemmas.List.Elements.{All-push}
+use Rattle.nk_field.specs.Packet.{FieldTable, IsFieldTable, IsValue, field_named, with_field}
+use Rattle.nk_policy.specs.Policy.{Policy, marked_from, depth_of, size_of}
+use Rattle.nk_policy.specs.Tree.{tree_of}
+use Rattle.nk_policy.specs.declared.policy.Pol.{Pol}
+use Rattle.nk_grammar.specs.declared.ast.Word.{Word}
+use Rattle.nk_grammar.specs.declared.decl.Decl.{Decl}
+use Rattle.nk_grammar.specs.Tree.{Tree}
+use Rattle.nk_grammar.specs.File.{Declaration, field, tag, switch, declared_link, definition, declaration_of}
+use Rattle.nk_names.specs.declared.fault.NamesError.{NamesError}
+use Rattle.nk_names.specs.declared.fault.NamesError.TheVariants.{Fault, NoMemory}
+use Rattle.nk_names.specs.Meant.{Lets, MaybeFault, lets_of, policy_for}
+use Rattle.nk_names.specs.ProgramOf.{Said, unless, going_on, said_with, said_after, nothing_said, IsFault, IsWritten, let_fault, field_fault, tag_fault, switch_fault, link_fault}
+use Rattle.nk_names.specs.ProgramValue.{IsLet}
+use Rattle.nk_policy.specs.Ranges.{IsOver}
+use Rattle.nk_names.specs.Complements.{NegatesPredicates}
+use Rattle.nk_names.proofs.Finding.{rest_is}
+use Rattle.nk_names.proofs.Places.{image_at}
+use Rattle.nk_names.proofs.Good.{marked_again, size_marked, depth_marked, over_marked, over_in_range, negates_marked, over_more}
+use Rattle.nk_names.proofs.Declarations.{faultless}
+use Rattle.nk_names.proofs.Meanings.{over_meant, negates_meant, all_head, all_tail}
+
+-- what is left of the declarations begins with the one at the place
+rest_declared : (ds : List Decl) (i : ℕ) (d : Decl) → i < length ds → d ≡ get_or ds i d
+    → map declaration_of (drop i ds) ≡ declaration_of d ∷ map declaration_of (drop (i + 1) ds)
+rest_declared ds i d lt is = ap (map declaration_of) (rest_is ds i d d lt is)
+
+-- after a declaration without fault the rest says the same
+pub said_more : (ds : List Decl) (i : ℕ) (d : Decl) (s s' : Said) (all : Result Said NamesError) → i < length ds → d ≡ get_or ds i d
+    → said_with s (declaration_of d) ≡ Ok s' → said_after (map declaration_of (drop i ds)) s ≡ all
+    → said_after (map declaration_of (drop (i + 1) ds)) s' ≡ all
+said_more ds i d s s' all lt is e h =
+    sym (ap (λ l. said_after l s) (rest_declared ds i d lt is) ∙ ap (λ r. going_on r (said_after (map declaration_of (drop (i + 1) ds)))) e) ∙ h
+
+-- a fault of a declaration is the fault of the text
+pub fault_of_all : (ds : List Decl) (i : ℕ) (d : Decl) (s : Said) (all : Result Said NamesError) (e : NamesError) → i < length ds → d ≡ get_or ds i d
+    → IsFault e (said_with s (declaration_of d)) → said_after (map declaration_of (drop i ds)) s ≡ all → IsFault e all
+fault_of_all ds i d s all NoMemory lt is f h = tt
+fault_of_all ds i d s all (Fault k line) lt is f h =
+    sym h ∙ ap (λ l. said_after l s) (rest_declared ds i d lt is) ∙ ap (λ r. going_on r (said_after (map declaration_of (drop (i + 1) ds)))) f
+
+-- each declaration is written as the grammar has it
+pub written_at : (ds : List Decl) (i : ℕ) (d : Decl) → All IsWritten (map declaration_of ds) → i < length ds → d ≡ get_or ds i d → IsWritten (declaration_of d)
+written_at ds i d h lt is =
+    let s = declaration_of d in
+    subst IsWritten (image_at declaration_of ds i d s lt ∙ ap declaration_of (sym is))
+    (h i s (omega (arith, lt, length_is declaration_of ds)))
+  where
+    length_is : {A B : Type 0} (f : A → B) (xs : List A) → length (map f xs) ≡ length xs
+    length_is f [] = refl
+    length_is f (x ∷ xs) = ap suc (length_is f xs)
+
+-- the largest values are numbers of a text, and the policies are those of a program
+pub record HasLets (s : Said) : Type 0 where
+  pub maxima : All (λ m. m ≤ 281474976710655) s.fields.maxima
+  pub policies : All (λ l. IsLet s.fields l.1) s.lets
+
+-- nothing said has none
+pub no_lets : HasLets nothing_said
+no_lets = record { maxima = λ k d lt. two k d lt; policies = λ k d lt. absurd (omega (arith, lt)) }
+  where
+    two : (k d : ℕ) → k < 2 → get_or nothing_said.fields.maxima k d ≤ 281474976710655
+    two zero d lt = omega arith
+    two (suc zero) d lt = omega arith
+    two (suc (suc k)) d lt = absurd (omega (arith, lt))
+
+-- a policy stays one over more fields
+more_fields : (fields more : FieldTable) → ((f v : ℕ) → IsValue fields f v → IsValue more f v) → (p : Policy) → IsLet fields p → IsLet more p
+more_fields fields more wider p h =
+    let over = over_more fields more wider p h.over in
+    record {
+      numbered = h.numbered;
+      small = h.small;
+      shallow = h.shallow;
+      over = over;
+      in_range = over_in_range more p over;
+      complements = h.complements;
+    }
+
+-- what holds of all, and then another
+all_kept : {X : Type 0} (P Q : X → Type 0) (xs : List X) → ((x : X) → P x → Q x) → All P xs → All Q xs
+all_kept P Q xs f h = λ k d lt. f (get_or xs k d) (h k d lt)
+
+-- a value of a field is one with one more field
+one_wider : (fields : FieldTable) (name : List ℕ) (max f v : ℕ) → IsValue fields f v → IsValue (with_field fields name max) f v
+one_wider fields name max f v h =
+    let kept : slice_index (fields.maxima ++ max ∷ []) f ≡ slice_index fields.maxima f = get_or_append_left fields.maxima (max ∷ []) 0 f h.0 in
+    (omega (arith, h.0, length-append fields.maxima (max ∷ [])), omega (arith, h.1, kept))
+
+-- the policy of a tree without fault is one of a program
+let_is : (fields : FieldTable) (lets : Lets) (w : Word) (t : Tree) (line : ℕ) → IsFieldTable fields
+    → let_fault fields lets w t line ≡ None → All (λ l. IsLet fields l.1) lets → IsLet fields (marked_from (policy_for fields lets t) 1)
+let_is fields lets w t line table none known =
+    let f = faultless fields lets w t line none in
+    let p = policy_for fields lets t in
+    let over = over_marked fields p 1 (over_meant fields table lets (all_kept (λ l. IsLet fields l.1) (λ l. IsOver fields l.1) lets (λ l h. h.over) known) t f.known) in
+    record {
+      numbered = marked_again p 1 1;
+      small = omega (arith, size_marked p 1, f.small);
+      shallow = omega (arith, depth_marked p 1, f.shallow);
+      over = over;
+      in_range = over_in_range fields (marked_from p 1) over;
+      complements = negates_marked p 1 (negates_meant fields lets (all_kept (λ l. IsLet fields l.1) (λ l. NegatesPredicates l.1) lets (λ l h. h.complements) known) t f.placed);
+    }
+
+-- without a fault what is said is what is said
+said_is : (o : MaybeFault) (said s : Said) → unless o said ≡ Ok s → said ≡ s
+said_is None said s h = cc
+said_is (Some e) said s h = absurd cc
+
+-- and there is no fault
+no_fault : (o : MaybeFault) (said s : Said) → unless o said ≡ Ok s → o ≡ None
+no_fault None said s h = refl
+no_fault (Some e) said s h = absurd cc
+
+-- one more declaration keeps that
+pub lets_kept : (s s' : Said) (d : Declaration) → IsFieldTable s.fields → IsWritten d → said_with s d ≡ Ok s' → HasLets s → HasLets s'
+lets_kept s s' (field w n) table written h good =
+    subst HasLets (said_is (field_fault s.fields w) _ s' h) (record {
+      maxima = All-push (λ m. m ≤ 281474976710655) s.fields.maxima n.value good.maxima written.1;
+      policies = all_kept (λ l. IsLet s.fields l.1) (λ l. IsLet (with_field s.fields w.text n.value) l.1) s.lets (λ l g. more_fields s.fields (with_field s.fields w.text n.value) (one_wider s.fields w.text n.value) l.1 g) good.policies;
+    })
+lets_kept s s' (tag w) table written h good =
+    let more : FieldTable = record s.fields { tag = field_named s.fields w.text } in
+    subst HasLets (said_is (tag_fault s.fields w) _ s' h) (record {
+      maxima = good.maxima;
+      policies = all_kept (λ l. IsLet s.fields l.1) (λ l. IsLet more l.1) s.lets (λ l g. more_fields s.fields more (λ f v x. x) l.1 g) good.policies;
+    })
+lets_kept s s' (switch n ps) table written h good =
+    subst HasLets (said_is (switch_fault s.topo n ps) _ s' h) (record { maxima = good.maxima; policies = good.policies })
+lets_kept s s' (declared_link a m b n) table written h good =
+    subst HasLets (said_is (link_fault s.topo a m b n) _ s' h) (record { maxima = good.maxima; policies = good.policies })
+lets_kept s s' (definition w t line) table written h good =
+    let none = no_fault (let_fault s.fields s.lets w t line) _ s' h in
+    subst HasLets (said_is (let_fault s.fields s.lets w t line) _ s' h) (record {
+      maxima = good.maxima;
+      policies = All-push (λ l. IsLet s.fields l.1) s.lets (w.text, marked_from (policy_for s.fields s.lets t) 1) good.policies (let_is s.fields s.lets w t line table none good.policies);
+    })
+
+-- what holds of the policies that are said holds of those in memory
+pub lets_in_memory : (fields : FieldTable) (ls : List (List ℕ × Pol)) → All (λ l. IsLet fields l.1) (lets_of ls) → All (λ l. IsLet fields (tree_of l.1)) ls
+lets_in_memory fields [] h = λ k d lt. absurd (omega (arith, lt))
+lets_in_memory fields (l ∷ ls) h = λ k d lt. at k d lt (all_head (λ m. IsLet fields m.1) _ (lets_of ls) h) (lets_in_memory fields ls (all_tail (λ m. IsLet fields m.1) _ (lets_of ls) h))
+  where
+    at : (k : ℕ) (d : List ℕ × Pol) → k < length (l ∷ ls) → IsLet fields (tree_of l.1) → All (λ l. IsLet fields (tree_of l.1)) ls → IsLet fields (tree_of (get_or (l ∷ ls) k d).1)
+    at zero d lt first rest = first
+    at (suc k) d lt first rest = rest k d (omega (arith, lt))

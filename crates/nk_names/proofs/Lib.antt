@@ -1,0 +1,10 @@
+pub mod Building
+pub mod Declarations
+pub mod Declared
+pub mod Finding
+pub mod Going
+pub mod Good
+pub mod Keys
+pub mod Meanings
+pub mod Misplaced
+pub mod Places

@@ -1,0 +1,7 @@
+pub mod Accepted
+pub mod Complements
+pub mod Meant
+pub mod Named
+pub mod ProgramOf
+pub mod ProgramValue
+pub mod Shape

@@ -1,0 +1,115 @@
+-- What a policy as it is written stands for, once each name in it is written out as the policy above that has it; and
+-- what may be wrong with it.
+use Rattle.std.specs.Prelude.{ℕ, Bool, not, nat_lt, Option, Some, None, is_none, if◌then◌else◌, unwrap_or, map, min, List, [], ◌∷◌, slice_index}
+use Rattle.std.specs.Option.{option_or}
+use Rattle.std.specs.Str.{bytes_eq}
+use Rattle.nk_field.specs.Packet.{FieldTable, field_named}
+use Rattle.nk_policy.specs.Policy.{Policy, Policies, is_predicate}
+use Rattle.nk_policy.specs.Policy as policy
+use Rattle.nk_policy.specs.Tree.{tree_of}
+use Rattle.nk_policy.specs.declared.policy.Pol.{Pol}
+use Rattle.nk_grammar.specs.declared.ast.Word.{Word}
+use Rattle.nk_grammar.specs.declared.ast.Number.{Number}
+use Rattle.nk_grammar.specs.Tree.{Tree, Trees, name_of, test, assign, sum_of, seq_of, not_of, star_of, dup, link, no_part, part}
+use Rattle.nk_names.specs.declared.fault.FaultKind.{FaultKind}
+use Rattle.nk_names.specs.declared.fault.FaultKind.TheVariants as kind
+use Rattle.nk_names.specs.declared.fault.NamesError.{NamesError}
+use Rattle.nk_names.specs.declared.fault.NamesError.TheVariants.{Fault}
+
+-- policies by name, in the order of the text
+abbrev pub Lets : Type 0
+Lets = List (List ℕ × Policy)
+
+-- the policies that a program holds
+abbrev pub lets_of : List (List ℕ × Pol) → Lets
+lets_of ls = map (λ l. (l.0, tree_of l.1)) ls
+
+-- the policy of a name
+abbrev pub policy_among : Lets → List ℕ → Option Policy
+policy_among [] name = None
+policy_among (l ∷ ls) name = if bytes_eq l.0 name then Some l.1 else policy_among ls name
+
+-- a fault, or none
+abbrev pub MaybeFault : Type 0
+MaybeFault = Option NamesError
+
+-- the fault of this kind, where a test passes
+abbrev pub fault_if : Bool → FaultKind → ℕ → MaybeFault
+fault_if wrong k line = if wrong then Some (Fault k line) else None
+
+-- the first fault, else the second
+abbrev pub first_of : MaybeFault → MaybeFault → MaybeFault
+first_of first second = option_or first second
+
+-- a number above a bound
+abbrev pub above : ℕ → Number → MaybeFault
+above most n = fault_if (nat_lt most n.value) kind.ValueOutOfRange n.line
+
+-- the four numbers of a link, which are a switch and a port, twice
+abbrev pub links_ends : Number → Number → Number → Number → MaybeFault
+links_ends a m b n = first_of (first_of (first_of (above 65535 a) (above 65535 m)) (above 65535 b)) (above 65535 n)
+
+-- the place of a field, and its largest value
+abbrev pub place_in : FieldTable → Word → ℕ
+place_in fields w = unwrap_or (field_named fields w.text) 0
+
+abbrev pub most_in : FieldTable → Word → ℕ
+most_in fields w = slice_index fields.maxima (place_in fields w)
+
+-- Each name is written out as its policy. A name of no policy or of no field and a number out of range are at fault; here
+-- they count as `drop`, as the first field and as the largest number. The dups are numbered later.
+abbrev mutual
+  pub policy_for : FieldTable → Lets → Tree → Policy
+  policy_for fields lets (name_of w) = unwrap_or (policy_among lets w.text) (policy.sum_of policy.no_part)
+  policy_for fields lets (test w n) = policy.test (place_in fields w) n.value
+  policy_for fields lets (assign w n) = policy.assign (place_in fields w) n.value
+  policy_for fields lets (sum_of ts) = policy.sum_of (policies_for fields lets ts)
+  policy_for fields lets (seq_of ts) = policy.seq_of (policies_for fields lets ts)
+  policy_for fields lets (not_of t line) = policy.not_of (policy_for fields lets t)
+  policy_for fields lets (star_of t) = policy.star_of (policy_for fields lets t)
+  policy_for fields lets dup = policy.dup 0
+  policy_for fields lets (link a m b n) = policy.link (min a.value 65535) (min m.value 65535) (min b.value 65535) (min n.value 65535) 0
+
+  pub policies_for : FieldTable → Lets → Trees → Policies
+  policies_for fields lets no_part = policy.no_part
+  policies_for fields lets (part t ts) = policy.part (policy_for fields lets t) (policies_for fields lets ts)
+
+-- a field and its value
+abbrev pub no_value : FieldTable → Word → Number → MaybeFault
+no_value fields w n =
+    first_of (fault_if (is_none (field_named fields w.text)) kind.UnknownField w.line) (above (most_in fields w) n)
+
+-- the first name of no policy, name of no field or number out of range, from left to right
+abbrev mutual
+  pub unknown_in : FieldTable → Lets → Tree → MaybeFault
+  unknown_in fields lets (name_of w) = fault_if (is_none (policy_among lets w.text)) kind.UnknownName w.line
+  unknown_in fields lets (test w n) = no_value fields w n
+  unknown_in fields lets (assign w n) = no_value fields w n
+  unknown_in fields lets (sum_of ts) = unknown_among fields lets ts
+  unknown_in fields lets (seq_of ts) = unknown_among fields lets ts
+  unknown_in fields lets (not_of t line) = unknown_in fields lets t
+  unknown_in fields lets (star_of t) = unknown_in fields lets t
+  unknown_in fields lets dup = None
+  unknown_in fields lets (link a m b n) = links_ends a m b n
+
+  pub unknown_among : FieldTable → Lets → Trees → MaybeFault
+  unknown_among fields lets no_part = None
+  unknown_among fields lets (part t ts) = first_of (unknown_in fields lets t) (unknown_among fields lets ts)
+
+-- the first `~` over what is no predicate
+abbrev mutual
+  pub misplaced_in : FieldTable → Lets → Tree → MaybeFault
+  misplaced_in fields lets (name_of w) = None
+  misplaced_in fields lets (test w n) = None
+  misplaced_in fields lets (assign w n) = None
+  misplaced_in fields lets (sum_of ts) = misplaced_among fields lets ts
+  misplaced_in fields lets (seq_of ts) = misplaced_among fields lets ts
+  misplaced_in fields lets (not_of t line) =
+      first_of (fault_if (not (is_predicate (policy_for fields lets t))) kind.NotAPredicate line) (misplaced_in fields lets t)
+  misplaced_in fields lets (star_of t) = misplaced_in fields lets t
+  misplaced_in fields lets dup = None
+  misplaced_in fields lets (link a m b n) = None
+
+  pub misplaced_among : FieldTable → Lets → Trees → MaybeFault
+  misplaced_among fields lets no_part = None
+  misplaced_among fields lets (part t ts) = first_of (misplaced_in fields lets t) (misplaced_among fields lets ts)

@@ -1,0 +1,66 @@
+//! Programs, and the program that the declarations of a text make.
+#![tactic(auto)]
+
+ghost use Rattle.std.specs.Prelude.{◌≡◌, option_map};
+ghost use Rattle.nk_policy.specs.Tree.{tree_of};
+ghost use Rattle.nk_names.specs.Named.{policy_named};
+
+mod build;
+mod check;
+mod declare;
+mod fault;
+pub mod laws;
+mod lets;
+mod names;
+pub mod reading;
+mod shape;
+#[cfg(test)]
+mod tests;
+
+pub use fault::{FaultKind, NamesError};
+use nk_field::{Fields, List};
+use nk_policy::Pol;
+use nk_topo::Topo;
+use std::marker::Model;
+
+/// A program: its fields, its topology, and its named policies in the order of the text. Each policy's dups are
+/// numbered from 1 in text order; it has at most 1,048,576 elements and is at most 256 deep.
+#[derive(Drop)]
+pub struct Program {
+    /// The fields; the largest value of each is at most 281,474,976,710,655.
+    pub fields: Fields,
+    /// The switches with their ports, and the links.
+    pub topo: Topo,
+    /// The names of the policies, in bytes, each with its policy.
+    pub lets: List<(List<u8>, Pol)>,
+}
+
+impl Model for Program {
+    ghost use Rattle.nk_names.specs.ProgramValue.{ProgramValue, IsProgram};
+
+    ghost Value = { ProgramValue };
+
+    ghost use Rattle.nk_policy.specs.contracts.policy.Pol as pol;
+    ghost use Rattle.std.specs.Coded.{codes};
+
+    ghost coded = { Prim.hlevel (codes, pol.the_row.coded) };
+
+    ghost view = { λ p. record { fields = p.fields; topo = p.topo; lets = p.lets } };
+
+    ghost invariant = { λ p. IsProgram p.fields p.topo p.lets };
+}
+
+impl Program {
+    /// The policy with the name.
+    pub fn find(&self, name: &str) -> Option<&Pol>
+        ensures { option_map (λ q. tree_of q.now) result ≡ policy_named self.now name.now }
+    {
+        let name = name.as_bytes();
+        for known in self.lets.as_slice() {
+            if known.0.as_slice() == name {
+                return Some(&known.1);
+            }
+        }
+        None
+    }
+}

@@ -1,0 +1,32 @@
+//! The program of a text.
+ghost use Rattle.std.specs.Prelude.{All, map};
+ghost use Rattle.nk_grammar.specs.File.{declaration_of};
+ghost use Rattle.nk_names.specs.ProgramOf.{Returns, IsWritten, said_by, program_of};
+
+use crate::Program;
+use crate::declare::{no_names, with_decl};
+use crate::fault::NamesError;
+use crate::names::Names;
+use nk_grammar::File;
+use std::alloc::Global;
+
+/// The program of a text's declarations, or the first fault of the text.
+///
+/// The declarations are taken in order, and a name means what stands above it. The names in a policy are written out.
+/// The text's fields have names that are text, and numbers of at most 281,474,976,710,655, as the grammar reads them.
+pub fn program(alloc: Global, f: &File) -> Result<Program, NamesError>
+    requires { All IsWritten (map declaration_of f.now.decls) }
+    ensures { Returns said_by result (program_of (map declaration_of f.now.decls)) }
+{
+    let mut names = no_names(alloc)?;
+    for decl in f.decls.as_slice() {
+        names = with_decl(alloc, names, decl)?;
+    }
+    let Names { fields, topo, lets } = names;
+    let _switches = topo.switches();
+    Ok(Program {
+        fields,
+        topo,
+        lets: lets.into_list(),
+    })
+}

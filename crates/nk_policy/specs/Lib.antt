@@ -1,0 +1,16 @@
+pub mod After
+pub mod Crossings
+pub mod Distinct
+pub mod Histories
+pub mod Labels
+pub mod Leaves
+pub mod Literals
+pub mod Meaning
+pub mod Policy
+pub mod PositionSets
+pub mod Progress
+pub mod Ranges
+pub mod Tags
+pub mod Text
+pub mod Tree
+pub mod Worked

@@ -1,0 +1,68 @@
+//! Nodes.
+ghost use Rattle.std.specs.Prelude.{◌≡◌, ℕ, IfOk};
+
+use nk_field::{Act, Fid, List};
+use std::alloc::AllocError;
+use std::marker::Model;
+
+/// The number of a node of a store.
+#[derive(Clone, Copy, PartialEq, Eq, PartialOrd, Ord, Hash)]
+pub struct Id {
+    place: usize,
+}
+
+impl Model for Id {
+    ghost Value = { ℕ };
+
+    ghost view = { λ d. d.place };
+
+    ghost inverse = { λ n. record { place = n } };
+}
+
+impl Id {
+    /// The number of a place.
+    pub(crate) fn new(place: usize) -> Id
+        ensures { result ≡ place }
+    {
+        Id { place }
+    }
+
+    /// The place of a number.
+    pub(crate) fn place(self) -> usize
+        ensures { result ≡ self }
+    {
+        self.place
+    }
+}
+
+/// What a leaf sends: the packet changed by the act, to the target.
+#[derive(PartialEq, Eq, PartialOrd, Ord, Hash, Drop)]
+pub struct Out {
+    /// The assignments that are made.
+    pub act: Act,
+    /// Where the packet goes.
+    pub target: u64,
+}
+
+impl Out {
+    /// The same out once more.
+    pub fn copy(&self) -> Result<Out, AllocError>
+        ensures { IfOk result (λ o. o ≡ self.now) }
+    {
+        let act = self.act.copy()?;
+        Ok(Out {
+            act,
+            target: self.target,
+        })
+    }
+}
+
+/// A leaf with its outs, or a choice by the value of a field: pairs of an interval's upper end and its child.
+#[derive(PartialEq, Eq, Hash, Drop)]
+pub enum Node {
+    /// A leaf: its outs ascend, each once.
+    Leaf(List<Out>),
+    /// A choice by the value of a field: ends rise to the field's largest value, two parts or more, neighbours with
+    /// different children.
+    Case(Fid, List<(u64, Id)>),
+}

@@ -1,0 +1,8 @@
+use Rattle.std.proofs.Common.{◌≡◌, ◌++◌, drop}
+use Rattle.nk_tabtext.specs.Text.{sets_text}
+use Rattle.nk_tabtext.proofs.rules.some_sets.Given as goal
+
+-- what is made so far, then the rest, is the whole
+abbrev pub invariant-loop-f : goal.invariant-loop-f
+invariant-loop-f l =
+    l.out.items ++ sets_text l.fs l.tag (drop l.f-index l.sets) ≡ l.fn.out.items ++ sets_text l.fs l.tag l.sets

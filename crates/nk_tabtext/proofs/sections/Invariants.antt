@@ -1,0 +1,10 @@
+use Rattle.std.proofs.Common.{◌≡◌, ◌++◌, drop}
+use Rattle.std.specs.List.{flat_map}
+use Rattle.nk_tabtext.specs.Text.{section_text}
+use Rattle.nk_tabtext.proofs.sections.Given as goal
+
+-- what is made so far, then the rest, is the whole
+abbrev pub invariant-loop-n : goal.invariant-loop-n
+invariant-loop-n l =
+    l.out.items ++ flat_map (λ n. section_text l.t.fields l.t.tables n) (drop l.n-index l.numbers)
+    ≡ l.fn.out.items ++ flat_map (λ n. section_text l.t.fields l.t.tables n) l.numbers

@@ -1,0 +1,50 @@
+//! The text of tables.
+#![tactic(auto)]
+
+ghost use Rattle.std.specs.Prelude.{◌≡◌, ◌++◌, IfOk, OnOk};
+ghost use Rattle.std.specs.Fmt.{decimal};
+ghost use Rattle.std.specs.List.{flat_map};
+ghost use Rattle.nk_tabtext.specs.Text.{table_bytes, section_text};
+
+mod head;
+mod rules;
+#[cfg(test)]
+mod tests;
+
+use itoa::Buffer;
+use nk_table::Tables;
+use std::alloc::{AllocError, Global};
+
+/// The printed text of tables: `tables 1`, then a line for each declared field, for the tag, each switch and each link,
+/// and the table of each switch with its groups and rows.
+pub fn table_text(alloc: Global, t: &Tables) -> Result<Vec<u8>, AllocError>
+    ensures { IfOk result (λ v. v.items ≡ table_bytes t.now) }
+{
+    let mut out = Vec::new(alloc);
+    out.extend_from_slice(b"tables 1\n")?;
+    head::fields(&mut out, &t.fields)?;
+    head::tag(&mut out, &t.fields)?;
+    head::topology(&mut out, &t.topo)?;
+    sections(&mut out, t, t.topo.switches())?;
+    Ok(out)
+}
+
+/// The tables of the switches with these numbers.
+fn sections(out: &mut Vec<u8>, t: &Tables, numbers: &[u16]) -> Result<(), AllocError>
+    ensures { OnOk result (out.new.items
+        ≡ out.old.items ++ flat_map (λ n. section_text t.now.fields t.now.tables n) numbers.now) }
+{
+    for n in numbers {
+        rules::section(out, &t.fields, t.tables.as_slice(), *n)?;
+    }
+    Ok(())
+}
+
+/// Puts a number behind a text.
+fn number(out: &mut Vec<u8>, n: u64) -> Result<(), AllocError>
+    ensures { OnOk result (out.new.items ≡ out.old.items ++ decimal n) }
+{
+    let mut buffer = Buffer::new();
+    out.extend_from_slice(buffer.format(n).as_bytes())?;
+    Ok(())
+}

@@ -1,0 +1,224 @@
+//! Matches, buckets, groups, rows and sections, each put behind a text.
+ghost use Rattle.std.specs.Prelude.{◌≡◌, ◌++◌, codes, OnOk};
+ghost use Rattle.std.specs.List.{flat_map};
+ghost use Rattle.nk_tabtext.specs.Text.{is_tag, name_of, match_text, set_text, where_same, matches_text, sets_text, exit_text, bucket_text, target_text, row_text, group_text, rules_text, section_text};
+
+use crate::number;
+use nk_field::{Fid, Fields};
+use nk_table::{Bucket, Exit, Group, Row, Table, Target};
+use std::alloc::AllocError;
+
+/// Whether a field is the tag.
+fn is_the_tag(fs: &Fields, f: Fid) -> bool
+    ensures { result ≡ is_tag fs.now f }
+{
+    match fs.tag() {
+        Some(g) => f == g,
+        None => false,
+    }
+}
+
+/// A match, with a space behind it.
+fn one_match(out: &mut Vec<u8>, fs: &Fields, f: Fid, n: u64) -> Result<(), AllocError>
+    ensures { OnOk result (out.new.items ≡ out.old.items ++ match_text fs.now (f, n)) }
+{
+    out.extend_from_slice(fs.name(f).as_bytes())?;
+    out.extend_from_slice(b"=")?;
+    number(out, n)?;
+    out.extend_from_slice(b" ")?;
+    Ok(())
+}
+
+/// An assignment, with a space behind it.
+fn one_set(out: &mut Vec<u8>, fs: &Fields, f: Fid, n: u64) -> Result<(), AllocError>
+    ensures { OnOk result (out.new.items ≡ out.old.items ++ set_text fs.now (f, n)) }
+{
+    out.extend_from_slice(fs.name(f).as_bytes())?;
+    out.extend_from_slice(b":=")?;
+    number(out, n)?;
+    out.extend_from_slice(b" ")?;
+    Ok(())
+}
+
+/// The matches of the tag, or the other ones.
+fn some_matches(
+    out: &mut Vec<u8>,
+    fs: &Fields,
+    ms: &[(Fid, u64)],
+    tag: bool,
+) -> Result<(), AllocError>
+    ensures { OnOk result (out.new.items ≡ out.old.items ++ matches_text fs.now tag ms.now) }
+{
+    for (f, n) in ms {
+        match_if(out, fs, *f, *n, tag)?;
+    }
+    Ok(())
+}
+
+/// A match, where it is of the tag or not as is asked.
+fn match_if(out: &mut Vec<u8>, fs: &Fields, f: Fid, n: u64, tag: bool) -> Result<(), AllocError>
+    ensures { OnOk result (out.new.items ≡ out.old.items ++ where_same (is_tag fs.now f) tag (match_text fs.now (f, n))) }
+{
+    if is_the_tag(fs, f) == tag {
+        one_match(out, fs, f, n)
+    } else {
+        Ok(())
+    }
+}
+
+/// The assignments of the tag, or the other ones.
+fn some_sets(
+    out: &mut Vec<u8>,
+    fs: &Fields,
+    sets: &[(Fid, u64)],
+    tag: bool,
+) -> Result<(), AllocError>
+    ensures { OnOk result (out.new.items ≡ out.old.items ++ sets_text fs.now tag sets.now) }
+{
+    for (f, n) in sets {
+        set_if(out, fs, *f, *n, tag)?;
+    }
+    Ok(())
+}
+
+/// An assignment, where it is of the tag or not as is asked.
+fn set_if(out: &mut Vec<u8>, fs: &Fields, f: Fid, n: u64, tag: bool) -> Result<(), AllocError>
+    ensures { OnOk result (out.new.items ≡ out.old.items ++ where_same (is_tag fs.now f) tag (set_text fs.now (f, n))) }
+{
+    if is_the_tag(fs, f) == tag {
+        one_set(out, fs, f, n)
+    } else {
+        Ok(())
+    }
+}
+
+/// A bucket.
+fn bucket(out: &mut Vec<u8>, fs: &Fields, b: &Bucket) -> Result<(), AllocError>
+    ensures { OnOk result (out.new.items ≡ out.old.items ++ bucket_text fs.now b.now) }
+{
+    out.extend_from_slice(b"[")?;
+    some_sets(out, fs, b.sets.as_slice(), false)?;
+    some_sets(out, fs, b.sets.as_slice(), true)?;
+    exit(out, &b.exit)?;
+    out.extend_from_slice(b"]")?;
+    Ok(())
+}
+
+/// Where a bucket sends a packet.
+fn exit(out: &mut Vec<u8>, e: &Exit) -> Result<(), AllocError>
+    ensures { OnOk result (out.new.items ≡ out.old.items ++ exit_text e.now) }
+{
+    match e {
+        Exit::Back => {
+            out.extend_from_slice(b"out in")?;
+            Ok(())
+        }
+        Exit::Port(n) => {
+            out.extend_from_slice(b"out ")?;
+            number(out, *n as u64)
+        }
+    }
+}
+
+/// What a row does.
+fn target(out: &mut Vec<u8>, fs: &Fields, t: &Target) -> Result<(), AllocError>
+    ensures { OnOk result (out.new.items ≡ out.old.items ++ target_text fs.now t.now) }
+{
+    match t {
+        Target::Bucket(b) => bucket(out, fs, b),
+        Target::Group(n) => {
+            out.extend_from_slice(b"group ")?;
+            number(out, *n)
+        }
+        Target::Discard => {
+            out.extend_from_slice(b"drop")?;
+            Ok(())
+        }
+    }
+}
+
+/// The line of a row.
+fn row(out: &mut Vec<u8>, fs: &Fields, r: &Row) -> Result<(), AllocError>
+    ensures { OnOk result (out.new.items ≡ out.old.items ++ row_text fs.now r.now) }
+{
+    out.extend_from_slice(b"row ")?;
+    number(out, r.priority as u64)?;
+    out.extend_from_slice(b" : ")?;
+    some_matches(out, fs, r.matches.as_slice(), true)?;
+    some_matches(out, fs, r.matches.as_slice(), false)?;
+    out.extend_from_slice(b"-> ")?;
+    target(out, fs, &r.target)?;
+    out.extend_from_slice(b"\n")?;
+    Ok(())
+}
+
+/// The buckets of a group, a space before each.
+fn spaced(out: &mut Vec<u8>, fs: &Fields, bs: &[Bucket]) -> Result<(), AllocError>
+    ensures { OnOk result (out.new.items ≡ out.old.items ++ flat_map (λ b. codes " " ++ bucket_text fs.now b) bs.now) }
+{
+    for b in bs {
+        out.extend_from_slice(b" ")?;
+        bucket(out, fs, b)?;
+    }
+    Ok(())
+}
+
+/// The line of a group.
+fn group(out: &mut Vec<u8>, fs: &Fields, g: &Group) -> Result<(), AllocError>
+    ensures { OnOk result (out.new.items ≡ out.old.items ++ group_text fs.now g.now) }
+{
+    out.extend_from_slice(b"group ")?;
+    number(out, g.number)?;
+    out.extend_from_slice(b" =")?;
+    spaced(out, fs, g.buckets.as_slice())?;
+    out.extend_from_slice(b"\n")?;
+    Ok(())
+}
+
+/// The groups of a switch.
+fn groups(out: &mut Vec<u8>, fs: &Fields, gs: &[Group]) -> Result<(), AllocError>
+    ensures { OnOk result (out.new.items ≡ out.old.items ++ flat_map (group_text fs.now) gs.now) }
+{
+    for g in gs {
+        group(out, fs, g)?;
+    }
+    Ok(())
+}
+
+/// The rows of a switch.
+fn rows(out: &mut Vec<u8>, fs: &Fields, rs: &[Row]) -> Result<(), AllocError>
+    ensures { OnOk result (out.new.items ≡ out.old.items ++ flat_map (row_text fs.now) rs.now) }
+{
+    for r in rs {
+        row(out, fs, r)?;
+    }
+    Ok(())
+}
+
+/// The groups and rows of a switch.
+fn rules(out: &mut Vec<u8>, fs: &Fields, tables: &[Table], sw: u16) -> Result<(), AllocError>
+    ensures { OnOk result (out.new.items ≡ out.old.items ++ rules_text fs.now tables.now sw) }
+{
+    for table in tables {
+        if table.switch == sw {
+            groups(out, fs, table.groups.as_slice())?;
+            return rows(out, fs, table.rows.as_slice());
+        }
+    }
+    Ok(())
+}
+
+/// The table of a switch.
+pub(crate) fn section(
+    out: &mut Vec<u8>,
+    fs: &Fields,
+    tables: &[Table],
+    sw: u16,
+) -> Result<(), AllocError>
+    ensures { OnOk result (out.new.items ≡ out.old.items ++ section_text fs.now tables.now sw) }
+{
+    out.extend_from_slice(b"table ")?;
+    number(out, sw as u64)?;
+    out.extend_from_slice(b"\n")?;
+    rules(out, fs, tables, sw)
+}
