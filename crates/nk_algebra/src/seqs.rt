@@ -219,3 +219,60 @@ fn seq_parts(st: &mut Store, f: Fid, a: Id, b: Id) -> Result<Id, AllocError>
         from = end + 1;
     }
 }
+
+#[cfg(test)]
+mod tests {
+    use super::*;
+    use crate::aims::{aim, assign};
+    use crate::leaves::negate;
+    use crate::spans::test;
+    use crate::unions::union_all;
+    use nk_field::{Fields, Packet};
+    use std::test::Fail;
+
+    /// `dst:=1` and then `dst=0` passes nothing; `dst=0` and then `dst:=1` passes the packet with `dst` 0. A second
+    /// call with the same diagrams makes no node.
+    #[test]
+    fn order_matters(rt: HostRuntime) -> Result<(), Fail> {
+        let alloc = rt.alloc();
+        let mut fields = Fields::new(alloc)?;
+        let dst = fields.add("dst", 1)?;
+        let mut st = Store::new(alloc, &fields)?;
+        let _place = dst.place();
+        assert_eq!(rt; st.max(dst), 1);
+        let set = assign(&mut st, dst, 1)?;
+        let is = test(&mut st, dst, 0)?;
+        let first = seq(&mut st, set, is)?;
+        let second = seq(&mut st, is, set)?;
+        let zero = Packet::zero();
+        assert_eq!(rt; st.look(first, &zero).len(), 0);
+        assert_eq!(rt; st.look(second, &zero).len(), 1);
+        let nodes = st.len();
+        let again = seq(&mut st, is, set)?;
+        assert!(rt; again == second);
+        assert_eq!(rt; st.len(), nodes);
+        Ok(())
+    }
+
+    /// Of `dst=0`, `~dst=0` and `dst=0` aimed at 5: together a packet with `dst` 0 goes to 0 and to 5.
+    #[test]
+    fn leaves_are_united(rt: HostRuntime) -> Result<(), Fail> {
+        let alloc = rt.alloc();
+        let mut fields = Fields::new(alloc)?;
+        let dst = fields.add("dst", 1)?;
+        let mut st = Store::new(alloc, &fields)?;
+        let _place = dst.place();
+        let is = test(&mut st, dst, 0)?;
+        let not = negate(&mut st, is)?;
+        let far = aim(&mut st, is, 5)?;
+        let nowhere = both(&mut st, not, is)?;
+        let near = union(&mut st, is, nowhere)?;
+        assert!(rt; near == is);
+        let part = restrict(&mut st, not, dst, 1)?;
+        let all = union_all(&mut st, &[near, far])?;
+        let zero = Packet::zero();
+        assert_eq!(rt; st.look(all, &zero).len(), 2);
+        assert_eq!(rt; st.look(part, &zero).len(), 1);
+        Ok(())
+    }
+}

@@ -1,15 +1,13 @@
 -- What split keeps, and why equal meanings are equal leaves.
-use Rattle.std.proofs.Common.{◌≡◌, ◌≢◌, ℕ, zero, suc, ◌+◌, ◌<◌, ◌≤◌, min, Bool, true, false, cond, eqb, List, [], ◌∷◌, length, refl, sym, ◌∙◌, ap, subst, arith, get_or, set, get_or-set_same, get_or-set_other, ◌⊎◌, ◌↔◌, inl, inr}
-use Rattle.std.specs.List.{Contains}
-use Rattle.std.proofs.lemmas.Bool.Decides.{nat_tests, eqb_tells, leb_tells}
+use Rattle.std.proofs.Common.{◌≡◌, ◌≢◌, ℕ, zero, suc, ◌+◌, ◌<◌, ◌≤◌, min, cond, List, [], ◌∷◌, length, refl, sym, ◌∙◌, ap, subst, arith, get_or, set, get_or-set_same, get_or-set_other, ◌↔◌, inl, inr}
+use Rattle.std.proofs.lemmas.Bool.Decides.{eqb_tells}
 use Rattle.std.proofs.lemmas.List.{length-set}
 use Rattle.nk_field.specs.Act.{applied}
 use Rattle.nk_field.proofs.Thens.{order}
 use Rattle.nk_store.specs.declared.node.Out.{Out}
 use Rattle.nk_store.specs.Nodes.{InRange}
-use Rattle.nk_store.specs.Leaves.{IsActFrom, Every, Suits, Strict}
-use Rattle.nk_store.specs.Held.{Held, IsId, IsWhole, IsPacket, look, Grows, HasLeaves, AreTidy, Agree}
-use Rattle.nk_algebra.specs.Leaves.{gathered}
+use Rattle.nk_store.specs.Leaves.{IsActFrom, Every, Suits}
+use Rattle.nk_store.specs.Held.{Held, IsWhole, IsPacket, look, Grows, HasLeaves, AreTidy, Agree}
 use Rattle.nk_algebra.proofs.Members.{Has, has_contains, contains_has, every_has, every_from, gathered_has, has_gathered, strict_same}
 use Rattle.nk_determ.specs.Exact.{exact, exact_out, split_leaf, IsExact, AreExact, Sends}
 
@@ -20,7 +18,8 @@ set_there (x ∷ xs) zero n l e = ap (λ y. y ∷ xs) (sym e)
 set_there (x ∷ xs) (suc f) n l e = ap (λ ys. x ∷ ys) (set_there xs f n (omega arith) e)
 
 -- a packet keeps its values of fields before those that the act assigns
-pub applied_keeps : (maxes : List ℕ) (low f : ℕ) (g : List (ℕ × ℕ)) (pk : List ℕ) → IsActFrom maxes low g → f < low → get_or (applied g pk) f 0 ≡ get_or pk f 0
+pub applied_keeps : (maxes : List ℕ) (low f : ℕ) (g : List (ℕ × ℕ)) (pk : List ℕ) → IsActFrom maxes low g →
+    f < low → get_or (applied g pk) f 0 ≡ get_or pk f 0
 applied_keeps maxes low f [] pk a l = refl
 applied_keeps maxes low f (s ∷ ss) pk a l =
     let ne : f ≢ s.0 = omega (arith, a.0) in
@@ -35,7 +34,9 @@ not_there : (v high n : ℕ) → v ≤ high → (min v high ≡ n → ⊥) → v
 not_there v high n l k e = k (omega (arith, e))
 
 -- the assignments that change the packet make of it what all make
-pub exact_applied : (maxes pk qk : List ℕ) (low : ℕ) (g : List (ℕ × ℕ)) → InRange maxes pk → IsWhole qk → IsActFrom maxes low g → ((k : ℕ) → low ≤ k → get_or qk k 0 ≡ get_or pk k 0) → applied (exact maxes pk g) qk ≡ applied g qk
+pub exact_applied : (maxes pk qk : List ℕ) (low : ℕ) (g : List (ℕ × ℕ)) → InRange maxes pk → IsWhole qk →
+    IsActFrom maxes low g → ((k : ℕ) → low ≤ k → get_or qk k 0 ≡ get_or pk k 0) →
+    applied (exact maxes pk g) qk ≡ applied g qk
 exact_applied maxes pk qk low [] r w a same = refl
 exact_applied maxes pk qk low (s ∷ ss) r w a same =
     let v = get_or pk s.0 0 in
@@ -63,18 +64,21 @@ exact_changes maxes pk (s ∷ ss) r =
     ]
 
 -- a write before the fields of an act leaves it exact
-exact_set : (maxes pk : List ℕ) (f n low : ℕ) (g : List (ℕ × ℕ)) → IsActFrom maxes low g → f < low → IsExact pk g → IsExact (set pk f n) g
+exact_set : (maxes pk : List ℕ) (f n low : ℕ) (g : List (ℕ × ℕ)) → IsActFrom maxes low g → f < low →
+    IsExact pk g → IsExact (set pk f n) g
 exact_set maxes pk f n low [] a l e = tt
 exact_set maxes pk f n low (s ∷ ss) a l e =
     let ne : s.0 ≢ f = omega (arith, a.0) in
     (λ k. e.0 (sym (get_or-set_other pk f s.0 n 0 ne) ∙ k), exact_set maxes pk f n (s.0 + 1) ss a.3 (omega (arith, a.0)) e.1)
 
 -- what an act's first assignment writes is there in the end
-first_there : (maxes pk : List ℕ) (low : ℕ) (s : ℕ × ℕ) (ss : List (ℕ × ℕ)) → IsWhole pk → IsActFrom maxes low (s ∷ ss) → get_or (applied (s ∷ ss) pk) s.0 0 ≡ s.1
+first_there : (maxes pk : List ℕ) (low : ℕ) (s : ℕ × ℕ) (ss : List (ℕ × ℕ)) → IsWhole pk →
+    IsActFrom maxes low (s ∷ ss) → get_or (applied (s ∷ ss) pk) s.0 0 ≡ s.1
 first_there maxes pk low s ss w a = applied_keeps maxes (s.0 + 1) s.0 ss (set pk s.0 s.1) a.3 (omega arith) ∙ get_or-set_same pk s.0 s.1 0 (omega (arith, a.1, w))
 
 -- two exact acts that make one packet of a packet are one
-pub exact_one : (maxes pk : List ℕ) (low : ℕ) (g h : List (ℕ × ℕ)) → IsWhole pk → IsActFrom maxes low g → IsActFrom maxes low h → IsExact pk g → IsExact pk h → applied g pk ≡ applied h pk → g ≡ h
+pub exact_one : (maxes pk : List ℕ) (low : ℕ) (g h : List (ℕ × ℕ)) → IsWhole pk → IsActFrom maxes low g →
+    IsActFrom maxes low h → IsExact pk g → IsExact pk h → applied g pk ≡ applied h pk → g ≡ h
 exact_one maxes pk low [] [] w a b x y e = refl
 exact_one maxes pk low [] (t ∷ ts) w a b x y e = absurd (y.0 (ap (λ p. get_or p t.0 0) e ∙ first_there maxes pk low t ts w b))
 exact_one maxes pk low (s ∷ ss) [] w a b x y e = absurd (x.0 (ap (λ p. get_or p s.0 0) (sym e) ∙ first_there maxes pk low s ss w a))
@@ -92,13 +96,17 @@ exact_one maxes pk low (s ∷ ss) (t ∷ ts) w a b x y e =
     ]
 
 -- two diagrams with exact acts that mean the same give the same leaves
-pub same_meaning : (st : Held) (d e : ℕ) → AreTidy st → AreExact st d → AreExact st e → ((pk y : List ℕ) (t : ℕ) → IsPacket st pk → Sends st d pk y t ↔ Sends st e pk y t) → Agree st d e
+pub same_meaning : (st : Held) (d e : ℕ) → AreTidy st → AreExact st d → AreExact st e →
+    ((pk y : List ℕ) (t : ℕ) → IsPacket st pk → Sends st d pk y t ↔ Sends st e pk y t) → Agree st d e
 same_meaning st d e tidy xd xe same = λ pk r.
     strict_same (look st d pk) (look st e pk) ((tidy d).sorted pk) ((tidy e).sorted pk)
     (λ o h. one_way d e pk r (xd pk r) (xe pk r) (λ y t s. (same pk y t r).0 s) o h)
     (λ o h. one_way e d pk r (xe pk r) (xd pk r) (λ y t s. (same pk y t r).1 s) o h)
   where
-    one_way : (a b : ℕ) (pk : List ℕ) → IsPacket st pk → Every (λ o. IsExact pk o.act) (look st a pk) → Every (λ o. IsExact pk o.act) (look st b pk) → ((y : List ℕ) (t : ℕ) → Sends st a pk y t → Sends st b pk y t) → (o : Out) → Has (look st a pk) o → Has (look st b pk) o
+    one_way : (a b : ℕ) (pk : List ℕ) → IsPacket st pk → Every (λ o. IsExact pk o.act) (look st a pk) →
+        Every (λ o. IsExact pk o.act) (look st b pk) →
+        ((y : List ℕ) (t : ℕ) → Sends st a pk y t → Sends st b pk y t) → (o : Out) → Has (look st a pk) o →
+        Has (look st b pk) o
     one_way a b pk r xa xb go o h =
         let s = go (applied o.act pk) o.target (o.act, has_contains (look st a pk) o h, refl) in
         let k : Has (look st b pk) (record { act = s.0; target = o.target }) = contains_has (look st b pk) (record { act = s.0; target = o.target }) s.1 in
@@ -112,7 +120,8 @@ only (inl e) = e
 only (inr k) = absurd k
 
 -- a split diagram's acts are exact
-pub split_exact : (old new : Held) (d r : ℕ) → Grows old new → HasLeaves new r (λ pk. split_leaf old.maxes pk (look old d pk)) → AreExact new r
+pub split_exact : (old new : Held) (d r : ℕ) → Grows old new →
+    HasLeaves new r (λ pk. split_leaf old.maxes pk (look old d pk)) → AreExact new r
 split_exact old new d r g k = λ pk p.
     let range : InRange old.maxes pk = subst (λ ms. InRange ms pk) g.maxes p in
     subst (Every (λ o. IsExact pk o.act)) (sym (k.leaf pk p.0)) (every_from (λ o. IsExact pk o.act) (split_leaf old.maxes pk (look old d pk)) (λ o h.
@@ -120,7 +129,9 @@ split_exact old new d r g k = λ pk p.
     subst (λ (x : Out). IsExact pk x.act) (only s.2) (exact_changes old.maxes pk s.0.act range)))
 
 -- a split diagram means what it was made of means
-pub split_means : (old new : Held) (d r : ℕ) → AreTidy old → Grows old new → HasLeaves new r (λ pk. split_leaf old.maxes pk (look old d pk)) → (pk y : List ℕ) (t : ℕ) → IsPacket old pk → Sends new r pk y t ↔ Sends old d pk y t
+pub split_means : (old new : Held) (d r : ℕ) → AreTidy old → Grows old new →
+    HasLeaves new r (λ pk. split_leaf old.maxes pk (look old d pk)) → (pk y : List ℕ) (t : ℕ) →
+    IsPacket old pk → Sends new r pk y t ↔ Sends old d pk y t
 split_means old new d r tidy g k pk y t p = (
   λ s.
       let h = has_gathered (λ x. exact_out old.maxes pk x ∷ []) (look old d pk) (record { act = s.0; target = t }) (subst (λ os. Has os (record { act = s.0; target = t })) (k.leaf pk p.0) (contains_has (look new r pk) (record { act = s.0; target = t }) s.1)) in

@@ -229,3 +229,38 @@ fn maxima(fields: &Fields) -> [u64; 18]
     }
     all
 }
+
+#[cfg(test)]
+mod tests {
+    use super::*;
+    use nk_field::Act;
+    use std::test::Fail;
+
+    /// The leaf without an out stands once, and a choice between one child twice is that child.
+    #[test]
+    fn equal_diagrams_are_one(rt: HostRuntime) -> Result<(), Fail> {
+        let alloc = rt.alloc();
+        let mut fields = Fields::new(alloc)?;
+        let dst = fields.add("dst", 3)?;
+        let tag = fields.add("vlan", 7)?;
+        fields.set_tag(tag);
+        let mut st = Store::new(alloc, &fields)?;
+        assert_eq!(rt; st.width(), 4);
+        assert_eq!(rt; st.max(dst), 3);
+        assert!(rt; st.tag() == Some(tag));
+        let none = st.leaf_in_order(List::new(alloc))?;
+        let again = st.leaf_in_order(List::new(alloc))?;
+        assert!(rt; st.same(none, again));
+        assert_eq!(rt; st.len(), 1);
+        let mut outs = List::new(alloc);
+        outs.push(Out {
+            act: Act::none(alloc),
+            target: 0,
+        })?;
+        let all = st.leaf_in_order(outs)?;
+        assert!(rt; !st.same(none, all));
+        assert_eq!(rt; st.len(), 2);
+        assert_eq!(rt; st.look(all, &Packet::zero()).len(), 1);
+        Ok(())
+    }
+}

@@ -1,4 +1,4 @@
-use Rattle.std.proofs.Common.{◌≡◌, ℕ, ◌+◌, ◌*◌, ◌-◌, ◌≤◌, List}
+use Rattle.std.proofs.Common.{◌+◌, ◌*◌, ◌-◌, ◌≤◌}
 use Rattle.nk_store.specs.Held.{HasLeaves, Grows}
 use Rattle.nk_determ.specs.Exact.{split_leaf}
 use Rattle.nk_determ.proofs.Exacts.{below}
@@ -14,7 +14,7 @@ abbrev pub invariant-split_parts-loop-made : goal.invariant-split_parts-loop-mad
 invariant-split_parts-loop-made l = record {
   grows : Grows l.fn.st l.st;
   within : l.from ≤ l.max;
-  gives : HasLeaves l.st l.all (λ pk. below (split_leaf l.fn.st.maxes) l.fn.st l.f l.d l.from pk);
+  leaves : HasLeaves l.st l.all (λ pk. below (split_leaf l.fn.st.maxes) l.fn.st l.f l.d l.from pk);
 }
 
 abbrev pub decreases-split_parts-loop-made : goal.decreases-split_parts-loop-made

@@ -1,12 +1,11 @@
-use Rattle.std.proofs.Common.{◌≡◌, ◌<◌, ◌∙◌, sym, ap, subst, length}
+use Rattle.std.proofs.Common.{◌<◌, ◌∙◌, sym, subst, length}
 use Rattle.std.proofs.lemmas.Result.{IfOk-weaker}
-use Rattle.nk_store.specs.declared.node.Out.{Out}
 use Rattle.nk_store.specs.declared.node.Node.TheVariants.{Leaf}
-use Rattle.nk_store.specs.Leaves.{Suits, IsActFrom}
+use Rattle.nk_store.specs.Leaves.{Suits}
 use Rattle.nk_store.specs.Held.{IsNodeOf}
 use Rattle.nk_algebra.proofs.Acts.{every_at}
 use Rattle.nk_algebra.proofs.Sequences.{outs_leaf, not_case, out_read}
-use Rattle.nk_algebra.specs.Seqs.{outs_of, no_out}
+use Rattle.nk_algebra.specs.Seqs.{no_out}
 use Rattle.nk_determ.proofs.splits.out_at.Goals as goal
 
 pub at-requires : goal.at-requires

@@ -1,4 +1,4 @@
-use Rattle.std.proofs.Common.{◌≡◌, ℕ, ◌<◌, ◌≤◌, ◌-◌, List, [], ◌∷◌, ◌∙◌, sym, ap, subst, arith, length, drop, get_or}
+use Rattle.std.proofs.Common.{◌-◌, [], ◌∷◌, sym, subst, arith, length, get_or}
 use Rattle.std.proofs.lemmas.List.{drop_all}
 use Rattle.nk_store.specs.Leaves.{IsActFrom}
 use Rattle.nk_store.specs.Held.{HasLeaves}
@@ -14,7 +14,7 @@ loop-i-init c =
     record {
       within = omega arith;
       grows = c.ending.ensures.grows;
-      gives = subst (λ ss. HasLeaves c.ending.new.st c.in_ok-to.to (λ pk. record { act = exact c.args.st.now.maxes pk ss; target = c.args.target } ∷ [])) (sym (drop_all (length sets) sets (omega arith))) c.in_ok-to.ensures.ok;
+      leaves = subst (λ ss. HasLeaves c.ending.new.st c.in_ok-to.to (λ pk. record { act = exact c.args.st.now.maxes pk ss; target = c.args.target } ∷ [])) (sym (drop_all (length sets) sets (omega arith))) c.in_ok-to.ensures.ok;
       later = start_later c.args.st.now.maxes sets _ (0, 0) acts c.in_ok-to.ensures.later;
     }
 
@@ -43,6 +43,6 @@ loop-i-preserved c =
     record {
       within = omega (arith, c.loop-i.invariant.within);
       grows = grows_on _ _ _ c.loop-i.invariant.grows c.split_set.ensures.grows;
-      gives = set_push c.args.st.now c.loop-i.st c.split_set.new.st sets i c.args.target c.loop-i.to c.in_ok-to-2.to f n c.loop-i.invariant.grows acts c.loop-i-test.true c.loop-i.invariant.within at c.loop-i.invariant.gives c.in_ok-to-2.ensures.ok;
+      leaves = set_push c.args.st.now c.loop-i.st c.split_set.new.st sets i c.args.target c.loop-i.to c.in_ok-to-2.to f n c.loop-i.invariant.grows acts c.loop-i-test.true c.loop-i.invariant.within at c.loop-i.invariant.leaves c.in_ok-to-2.ensures.ok;
       later = set_later c.args.st.now.maxes sets i _ f n (0, 0) acts c.loop-i-test.true c.loop-i.invariant.within at c.in_ok-to-2.ensures.later;
     }

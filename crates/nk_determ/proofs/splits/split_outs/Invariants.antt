@@ -1,4 +1,4 @@
-use Rattle.std.proofs.Common.{◌≡◌, ℕ, ◌≤◌, List, drop, length}
+use Rattle.std.proofs.Common.{◌≤◌, drop, length}
 use Rattle.nk_store.specs.Held.{HasLeaves, Grows}
 use Rattle.nk_algebra.specs.Seqs.{outs_of}
 use Rattle.nk_determ.specs.Exact.{split_leaf}
@@ -8,7 +8,7 @@ abbrev pub invariant-loop-i : goal.invariant-loop-i
 invariant-loop-i l = record {
   within : l.i ≤ length (outs_of l.fn.st l.d);
   grows : Grows l.fn.st l.st;
-  gives : HasLeaves l.st l.all (λ pk. split_leaf l.fn.st.maxes pk (drop l.i (outs_of l.fn.st l.d)));
+  leaves : HasLeaves l.st l.all (λ pk. split_leaf l.fn.st.maxes pk (drop l.i (outs_of l.fn.st l.d)));
 }
 
 abbrev pub decreases-loop-i : goal.decreases-loop-i
