@@ -66,8 +66,6 @@ impl Act {
     pub fn without(&self, alloc: Global, f: Fid) -> Result<Act, AllocError>
         ensures { IfOk result (λ a. a ≡ left_without f self.now) }
     {
-        // A read, so that the proof has the order of the assignments.
-        let _old = &self.sets;
         let sets = left_without(alloc, self.sets.as_slice(), f)?;
         Ok(Act { sets })
     }
@@ -79,8 +77,6 @@ impl Act {
         ensures does { IfOk result (λ a.
             (pk : Items ℕ) → applied a pk ≡ applied h.now (applied self.now pk)) }
     {
-        // A read, so that the proof has the order of that act's assignments.
-        let _later = &h.sets;
         let sets = lay_under(self.sets.alloc(), self.sets.as_slice(), h.sets.as_slice())?;
         Ok(Act { sets })
     }

@@ -1,9 +1,8 @@
 //! A short list, kept in place up to four items, that contracts see as a list.
-ghost use Rattle.std.specs.Prelude.{◌≡◌, ℕ, ◌<◌, [], ◌∷◌, ◌++◌, length, take, IfOk, OnOk, OnErr, is_ok, if◌then◌else◌, slice_index_or};
-ghost use Rattle.std.specs.Cmp.{on_equiv, on_per};
+ghost use Rattle.std.specs.Prelude.{◌≡◌, ◌<◌, [], ◌∷◌, ◌++◌, length, IfOk, OnOk, OnErr, slice_index_or};
 ghost use Rattle.std.specs.Cmp.Lexicographic.{pointwise, slice_cmp, slice_partial_cmp, lists_per, lists_equiv, lists_po, lists_total, lists_agrees, lists_ties};
 ghost use Rattle.std.specs.Hash as fed;
-ghost use Rattle.std.specs.Hash.{on_Alike, items_Alike};
+ghost use Rattle.std.specs.Hash.{items_Alike};
 
 use smallvec::SmallVec;
 use std::alloc::{AllocError, Global};
