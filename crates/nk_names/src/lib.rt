@@ -4,6 +4,7 @@
 ghost use Rattle.std.specs.Prelude.{◌≡◌, option_map};
 ghost use Rattle.nk_policy.specs.Tree.{tree_of};
 ghost use Rattle.nk_names.specs.Named.{policy_named};
+ghost use Rattle.nk_names.specs.ProgramValue.{IsProgram};
 
 mod build;
 mod check;
@@ -53,7 +54,8 @@ impl Model for Program {
 impl Program {
     /// The policy with the name.
     pub fn find(&self, name: &str) -> Option<&Pol>
-        ensures { option_map (λ q. tree_of q.now) result ≡ policy_named self.now name.now }
+        ensures found { option_map (λ q. tree_of q.now) result ≡ policy_named self.now name.now }
+        ensures is { IsProgram self.now.fields self.now.topo self.now.lets }
     {
         let name = name.as_bytes();
         for known in self.lets.as_slice() {
