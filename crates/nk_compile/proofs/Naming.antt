@@ -1,0 +1,49 @@
+-- From the answer for a policy to that for its name.
+use Rattle.std.proofs.Common.{◌≡◌, ℕ, List, subst, Some}
+use Rattle.std.specs.Prelude.{Result, Ok, Err, IfOk, IfErr}
+use Rattle.nk_field.proofs.Ascending.{members_from_all}
+use Rattle.nk_policy.specs.Policy.{Policy}
+use Rattle.nk_policy.specs.Tree.{tree_of}
+use Rattle.nk_policy.specs.declared.policy.Pol.{Pol}
+use Rattle.nk_names.specs.declared.Program.{Program}
+use Rattle.nk_names.specs.Named.{policy_named}
+use Rattle.nk_names.specs.ProgramValue.{IsProgram, IsLet}
+use Rattle.nk_names.specs.Accepted.{IsAccepted}
+use Rattle.nk_table.specs.declared.Tables.{Tables}
+use Rattle.nk_compile.specs.Refusals.{IsRefused, IsReason}
+use Rattle.nk_compile.specs.Answers.{IsMade, IsError, IsAnswer}
+use Rattle.nk_compile.specs.declared.refusal.Refusal.{Refusal}
+use Rattle.nk_compile.specs.declared.refusal.Refusal.TheVariants.{NoPolicy, NoTag, TagUsed, LooseDup, SwitchSet, NoSuchLink, NotYet, OffEdge}
+use Rattle.nk_compile.specs.declared.refusal.CompileError.{CompileError}
+use Rattle.nk_compile.specs.declared.refusal.CompileError.TheVariants.{NoMemory, Refused}
+use Rattle.nk_compile.proofs.Making.{seen_named}
+use Rattle.nk_compile.proofs.Printed.{named_in, accepted_carries}
+
+-- what holds of a program's policies holds of one that a name has
+pub let_named : (program : Program) (name : List ℕ) (p : Policy) → IsProgram program.fields program.topo program.lets →
+    policy_named program name ≡ Some p → IsLet program.fields p
+let_named program name p ok named =
+    let l = named_in program.lets name p named in
+    subst (IsLet program.fields) l.2 (members_from_all (λ (k : List ℕ × Pol). IsLet program.fields (tree_of k.1)) program.lets ok.policies l.0 l.1)
+
+-- the reason for the policy is that for its name
+reason_named : (program : Program) (name : List ℕ) (p : Policy) → policy_named program name ≡ Some p →
+    (r : Refusal) → IsReason program.fields program.topo p r → IsRefused program name r
+reason_named program name p named NoPolicy e = absurd (seen_named program.fields.tag program.topo p e)
+reason_named program name p named NoTag e = (p, named, e)
+reason_named program name p named TagUsed e = (p, named, e)
+reason_named program name p named LooseDup e = (p, named, e)
+reason_named program name p named SwitchSet e = (p, named, e)
+reason_named program name p named NoSuchLink e = (p, named, e)
+reason_named program name p named NotYet e = (p, named, e)
+reason_named program name p named OffEdge e = (p, named, e)
+
+-- the answer for the policy is that for its name
+pub answer_named : (program : Program) (name : List ℕ) (p : Policy) (r : Result Tables CompileError) →
+    IsProgram program.fields program.topo program.lets → policy_named program name ≡ Some p →
+    IfOk r (IsMade program.fields program.topo p) → IfErr r (IsError program.fields program.topo p) → IsAnswer program name r
+answer_named program name p (Ok t) ok named made error =
+    let accepted : IsAccepted program p = (made.compilable, made.few) in
+    (p, named, accepted, made.printed, accepted_carries program name p t ok named accepted made.printed)
+answer_named program name p (Err NoMemory) ok named made error = tt
+answer_named program name p (Err (Refused r)) ok named made error = reason_named program name p named r error

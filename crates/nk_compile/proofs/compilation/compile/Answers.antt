@@ -1,0 +1,23 @@
+use Rattle.std.proofs.Common.{sym, subst}
+use Rattle.std.specs.Prelude.{IfOk, IfErr}
+use Rattle.nk_policy.specs.Ranges.{IsInRange}
+use Rattle.nk_names.specs.ProgramValue.{ProgramValue}
+use Rattle.nk_compile.specs.Answers.{IsMade, IsError}
+use Rattle.nk_policy.specs.Tree.{tree_of}
+use Rattle.nk_compile.proofs.Naming.{let_named, answer_named}
+use Rattle.nk_compile.proofs.compilation.compile.Goals as goal
+
+pub policy_tables-requires-clause-complements : goal.policy_tables-requires-clause-complements
+policy_tables-requires-clause-complements c =
+    (let_named c.args.program.now c.args.name.now (tree_of c.in-Some.p.now) c.find.ensures.is (sym c.in-Some.ensures.found)).complements
+
+pub policy_tables-requires-clause-range : goal.policy_tables-requires-clause-range
+policy_tables-requires-clause-range c =
+    subst (λ (v : ProgramValue). IsInRange (tree_of c.in-Some.p.now) v.fields) (sym c.program.view_is)
+    (let_named c.args.program.now c.args.name.now (tree_of c.in-Some.p.now) c.find.ensures.is (sym c.in-Some.ensures.found)).in_range
+
+pub returns : goal.returns
+returns c =
+    answer_named c.args.program.now c.args.name.now (tree_of c.in-Some.p.now) c.policy_tables.result c.find.ensures.is (sym c.in-Some.ensures.found)
+    (subst (λ (v : ProgramValue). IfOk c.policy_tables.result (IsMade v.fields v.topo (tree_of c.in-Some.p.now))) c.program.view_is c.policy_tables.ensures.made)
+    (subst (λ (v : ProgramValue). IfErr c.policy_tables.result (IsError v.fields v.topo (tree_of c.in-Some.p.now))) c.program.view_is c.policy_tables.ensures.error)

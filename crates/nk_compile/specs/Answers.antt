@@ -1,0 +1,38 @@
+-- What compiling a name answers.
+use Rattle.std.specs.Prelude.{◌≡◌, ℕ, ⊤, Result, Ok, Err, List}
+use Rattle.nk_topo.specs.Topology.{Topology}
+use Rattle.nk_field.specs.Packet.{FieldTable}
+use Rattle.nk_policy.specs.Policy.{Policy}
+use Rattle.nk_policy.specs.Labels.{IsTagSet, AtMost}
+use Rattle.nk_names.specs.declared.Program.{Program}
+use Rattle.nk_names.specs.Accepted.{IsStart, IsCompilable, most_tags}
+use Rattle.nk_table.specs.declared.Table.{Table}
+use Rattle.nk_table.specs.declared.Tables.{Tables}
+use Rattle.nk_compile.specs.Refusals.{IsReason, IsRefused}
+use Rattle.nk_compile.specs.WholeTable.{IsTableOf}
+use Rattle.nk_compile.specs.Headline.{IsCompiled}
+use Rattle.nk_compile.specs.declared.refusal.CompileError.{CompileError}
+use Rattle.nk_compile.specs.declared.refusal.CompileError.TheVariants.{NoMemory, Refused}
+
+-- the switches' tables of a policy, which with its fields and topology are the printed ones
+pub record AreMade (fields : FieldTable) (topo : Topology) (p : Policy) (ts : List Table) : Type 0 where
+  pub compilable : IsCompilable fields topo p
+  pub few : AtMost (most_tags fields fields.tag) (IsTagSet p (IsStart fields topo))
+  pub printed : (t : Tables) → t.fields ≡ fields → t.topo ≡ topo → t.tables ≡ ts → IsTableOf fields topo (IsStart fields topo) p t
+
+-- the printed tables of a policy that is compiled
+pub record IsMade (fields : FieldTable) (topo : Topology) (p : Policy) (t : Tables) : Type 0 where
+  pub compilable : IsCompilable fields topo p
+  pub few : AtMost (most_tags fields fields.tag) (IsTagSet p (IsStart fields topo))
+  pub printed : IsTableOf fields topo (IsStart fields topo) p t
+
+-- the reason for which a policy is refused; want of memory says nothing
+abbrev pub IsError : FieldTable → Topology → Policy → CompileError → Type 0
+IsError fields topo p NoMemory = ⊤
+IsError fields topo p (Refused r) = IsReason fields topo p r
+
+-- the tables, or the first reason to refuse the name; want of memory may come at any
+abbrev pub IsAnswer : Program → List ℕ → Result Tables CompileError → Type 0
+IsAnswer program name (Ok t) = IsCompiled program name t
+IsAnswer program name (Err NoMemory) = ⊤
+IsAnswer program name (Err (Refused r)) = IsRefused program name r

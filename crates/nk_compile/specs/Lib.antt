@@ -1,0 +1,15 @@
+pub mod Answers
+pub mod Carries
+pub mod DeclaredLinks
+pub mod Drawn
+pub mod Edges
+pub mod Headline
+pub mod OffEdge
+pub mod PacketSets
+pub mod PrintedTable
+pub mod Refusals
+pub mod Smallest
+pub mod Sought
+pub mod Split
+pub mod SwitchTables
+pub mod WholeTable

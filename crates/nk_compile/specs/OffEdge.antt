@@ -1,0 +1,16 @@
+-- A policy that sends a located untagged packet off each edge port.
+use Rattle.std.specs.Prelude.{ℕ, List, IsTrue, slice_index}
+use Rattle.nk_field.specs.Packet.{FieldTable}
+use Rattle.nk_topo.specs.Topology.{Topology, is_edge}
+use Rattle.nk_policy.specs.Policy.{Policy}
+use Rattle.nk_policy.specs.Meaning.{Gives}
+use Rattle.nk_names.specs.Accepted.{IsStart}
+
+-- a history of a located untagged packet that ends off each edge port
+pub record EndsOffEdge (fields : FieldTable) (topo : Topology) (p : Policy) : Type 0 where
+  pub start : List ℕ
+  pub records : List (List ℕ)
+  pub last : List ℕ
+  pub starts : IsStart fields topo start
+  pub gives : Gives p start records last
+  pub off : ¬ IsTrue (is_edge topo (slice_index last 0) (slice_index last 1))

@@ -1,0 +1,54 @@
+//! Why a policy isn't compiled.
+ghost use Rattle.std.specs.Prelude.{◌≡◌};
+ghost use Rattle.nk_compile.specs.declared.refusal.CompileError.TheVariants.{NoMemory};
+
+use std::alloc::AllocError;
+use thiserror::Error;
+
+/// The reasons for which no table is made, the first one in this order.
+#[derive(Clone, Copy, PartialEq, Eq, Debug, Error)]
+pub enum Refusal {
+    /// The name is no policy's.
+    #[error("no policy")]
+    NoPolicy,
+    /// No tag is declared.
+    #[error("no tag")]
+    NoTag,
+    /// The policy tests or sets the tag.
+    #[error("tag used")]
+    TagUsed,
+    /// A dup stands outside of a link literal.
+    #[error("loose dup")]
+    LooseDup,
+    /// An assignment of the switch stands outside of a link literal.
+    #[error("switch set")]
+    SwitchSet,
+    /// A link literal is no declared link.
+    #[error("no such link")]
+    NoSuchLink,
+    /// The policy has a star or a link literal, which aren't compiled yet.
+    #[error("not yet")]
+    NotYet,
+    /// A located untagged packet has a history that ends off an edge port.
+    #[error("off edge")]
+    OffEdge,
+}
+
+/// Why no tables were made.
+#[derive(Clone, Copy, PartialEq, Eq, Debug, Error)]
+pub enum CompileError {
+    /// Memory ran out.
+    #[error("no memory")]
+    NoMemory,
+    /// The policy is refused.
+    #[error("refused")]
+    Refused(Refusal),
+}
+
+impl From<AllocError> for CompileError {
+    ghost from_gives = { λ _ e. e ≡ NoMemory };
+
+    fn from(_: AllocError) -> Self {
+        CompileError::NoMemory
+    }
+}

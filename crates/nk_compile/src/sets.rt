@@ -1,0 +1,108 @@
+//! Sets of packets as diagrams: where packets are, and whether one is in a set.
+ghost use Rattle.std.specs.Prelude.{◌≡◌, ◌≤◌, ◌<◌, ℕ, List as Items, [], ◌==◌, ◌&&◌, not, slice_index, slice_set, slice_index_or, length, IfOk, IfSome, IfNone, MatchOption, false, true};
+ghost use Rattle.nk_store.specs.Held.{IsId, IsPacket, IsStill, Grows, look};
+ghost use Rattle.nk_compile.specs.PacketSets.{has_out, IsSetOf, is_at, is_at_place};
+
+use nk_algebra::{both, negate, test, union_all};
+use nk_field::{Fid, List, Packet};
+use nk_store::{Id, Node, Store};
+use std::alloc::AllocError;
+
+/// The packets with a value at a field.
+pub fn with_value(st: &mut Store, f: Fid, n: u64) -> Result<Id, AllocError>
+    requires { n ≤ slice_index st.old.maxes f }
+    ensures grows { Grows st.old st.new }
+    ensures set { IfOk result (λ d. IsSetOf st.new d (λ pk. slice_index pk f == n)) }
+{
+    let _place = f.place();
+    test(st, f, n)
+}
+
+/// The packets in both sets.
+pub fn in_both(st: &mut Store, a: Id, b: Id) -> Result<Id, AllocError>
+    requires left { IsId st.old a }
+    requires right { IsId st.old b }
+    ensures grows { Grows st.old st.new }
+    ensures set { IfOk result (λ d. IsSetOf st.new d (λ pk. has_out (look st.old a pk) && has_out (look st.old b pk))) }
+{
+    both(st, a, b)
+}
+
+/// The packets that are not in the set.
+pub fn outside(st: &mut Store, a: Id) -> Result<Id, AllocError>
+    requires { IsId st.old a }
+    ensures grows { Grows st.old st.new }
+    ensures set { IfOk result (λ d. IsSetOf st.new d (λ pk. not (has_out (look st.old a pk)))) }
+{
+    negate(st, a)
+}
+
+/// The packets at a switch and a port.
+pub fn at_place(st: &mut Store, place: (u16, u16)) -> Result<Id, AllocError>
+    requires switch { 65535 ≤ slice_index st.old.maxes 0 }
+    requires port { 65535 ≤ slice_index st.old.maxes 1 }
+    ensures grows { Grows st.old st.new }
+    ensures set { IfOk result (λ d. IsSetOf st.new d (is_at place)) }
+{
+    let here = with_value(st, Fid::SWITCH, place.0 as u64)?;
+    let there = with_value(st, Fid::PORT, place.1 as u64)?;
+    in_both(st, here, there)
+}
+
+/// The place with a number.
+fn place_at(places: &[(u16, u16)], i: usize) -> (u16, u16)
+    requires { i < length places.now }
+    ensures { (other : ℕ × ℕ) → result ≡ slice_index_or places.now i other }
+{
+    places[i]
+}
+
+/// The packets at one of the places, each a switch and a port.
+pub fn at_places(st: &mut Store, places: &[(u16, u16)]) -> Result<Id, AllocError>
+    requires switch { 65535 ≤ slice_index st.old.maxes 0 }
+    requires port { 65535 ≤ slice_index st.old.maxes 1 }
+    ensures grows { Grows st.old st.new }
+    ensures set { IfOk result (λ d. IsSetOf st.new d (is_at_place places.now)) }
+{
+    let mut ids = List::new(st.alloc());
+    for i in 0..places.len() {
+        let d = at_place(st, place_at(places, i))?;
+        ids.push(d)?;
+    }
+    union_all(st, ids.as_slice())
+}
+
+/// Some packet of the set, or none where the set is empty.
+pub fn some_packet(st: &Store, d: Id) -> Option<Packet>
+    requires { IsId st.now d }
+    ensures some { IfSome result (λ pk. IsPacket st.now pk × (has_out (look st.now d pk) ≡ true)) }
+    ensures none { IfNone result ((pk : Items ℕ) → look st.now d pk ≡ []) }
+    ensures still { IsStill st.now d }
+{
+    match st.view(d) {
+        Node::Leaf(outs) => {
+            if outs.len() == 0 {
+                None
+            } else {
+                Some(Packet::zero())
+            }
+        }
+        Node::Case(f, parts) => {
+            for part in parts.as_slice() {
+                if let Some(pk) = some_packet(st, part.1) {
+                    return Some(with_field(pk, *f, part.0));
+                }
+            }
+            None
+        }
+    }
+}
+
+/// The packet with a value at a field.
+fn with_field(pk: Packet, f: Fid, value: u64) -> Packet
+    ensures { result ≡ slice_set pk f value }
+{
+    let mut to = pk;
+    to.put(f, value);
+    to
+}
