@@ -5,3 +5,7 @@ pub mod Stack
 pub mod Files
 pub mod Texts
 pub mod Answering
+pub mod Written
+pub mod Nested
+pub mod LetTexts
+pub mod FieldsOfTexts

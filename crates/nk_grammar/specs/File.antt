@@ -1,5 +1,6 @@
 -- The grammar of texts: declarations are written one after the other.
-use Rattle.std.specs.Prelude.{◌≡◌, ℕ, List, [], ◌∷◌, ◌++◌, map}
+use Rattle.std.specs.Prelude.{◌≡◌, ◌≤◌, ℕ, List, [], ◌∷◌, ◌++◌, map, ⊤, IsUtf8}
+use Rattle.nk_lex.specs.Lex.{largest}
 use Rattle.nk_grammar.specs.declared.ast.Word.{Word}
 use Rattle.nk_grammar.specs.declared.ast.Number.{Number}
 use Rattle.nk_grammar.specs.declared.decl.Decl.{Decl}
@@ -66,3 +67,8 @@ HasDeclarations ts ds = (ws : List Written) × (ts ≡ spell_file ws) × (ds ≡
 -- a text goes on with these tokens
 abbrev pub FileGoesOn : List Terminal → Type 0
 FileGoesOn ts = (more : List Terminal) × (ws : List Written) × (ts ++ more ≡ spell_file ws)
+
+-- what is read from the tokens of a text: a field's name is text, and its largest value a number of a text
+abbrev pub IsWritten : Declaration → Type 0
+IsWritten (field w n) = IsUtf8 w.text × (n.value ≤ largest)
+IsWritten d = ⊤

@@ -7,3 +7,6 @@ pub mod File
 pub mod FileMachine
 pub mod FileReader
 pub mod Answer
+pub mod Nesting
+pub mod Text
+pub mod Fields

@@ -7,6 +7,11 @@ ghost use Rattle.nk_grammar.specs.Machine.{
 };
 ghost use Rattle.nk_grammar.specs.FileMachine.{ReadsTexts};
 ghost use Rattle.nk_grammar.specs.Answer.{AnswersTexts, IsUnique};
+ghost use Rattle.nk_grammar.specs.Fields.{DeclaresFields};
+ghost use Rattle.nk_grammar.specs.Nesting.{ReadsLets};
+ghost use Rattle.nk_grammar.specs.Text.{ReadsLetTexts};
+
+use nk_lex::{a_name_is_one, a_text_of_lexemes_is_cut_into_them, values_are_small};
 
 /// The tokens of a policy give its syntax tree.
 pub fn policies_are_read()
@@ -42,3 +47,23 @@ pub fn texts_are_answered()
 pub fn a_text_has_one_tree()
     ensures { IsUnique }
 {}
+
+/// The tokens of a `let` in which at most 256 parentheses and `~` are open at once give its declaration.
+pub fn lets_are_read()
+    ensures { ReadsLets }
+{}
+
+/// The text of such a `let` on one line is cut into tokens that give its declaration.
+pub fn let_texts_are_read()
+    ensures { ReadsLetTexts }
+{
+    a_text_of_lexemes_is_cut_into_them();
+}
+
+/// What a text declares as a field has a name that is one and no keyword, and a maximum that is at most the largest number.
+pub fn fields_of_texts_have_names()
+    ensures { DeclaresFields }
+{
+    a_name_is_one();
+    values_are_small();
+}

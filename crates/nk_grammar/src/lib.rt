@@ -34,7 +34,8 @@ mod text;
 pub use ast::{Ast, Asts, Number, Word};
 pub use decl::{Decl, File, GrammarError};
 pub use laws::{
-    a_text_has_one_tree, policies_are_read, texts_are_answered, texts_are_read,
-    what_is_read_is_a_policy, what_is_refused_goes_nowhere, what_is_taken_goes_on,
+    a_text_has_one_tree, fields_of_texts_have_names, let_texts_are_read, lets_are_read,
+    policies_are_read, texts_are_answered, texts_are_read, what_is_read_is_a_policy,
+    what_is_refused_goes_nowhere, what_is_taken_goes_on,
 };
 pub use text::file;

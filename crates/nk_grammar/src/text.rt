@@ -13,8 +13,12 @@ ghost use Rattle.std.specs.Prelude.{
   IfOk,
   OnOk,
   IfErr,
+  All,
+  IsUtf8,
 };
+ghost use Rattle.nk_lex.specs.Lex.{largest};
 ghost use Rattle.nk_grammar.specs.File.{
+  IsWritten,
   Declaration,
   declaration_of,
   declared_link,
@@ -334,11 +338,8 @@ impl Reader {
     }
 }
 
-/// The declarations of a text's tokens, in order. `Unexpected` is answered at the first token that no
-/// text goes on with, or at the end of tokens that are the front of a text and no text, with the line
-/// of the last token, or 1; `TooDeep` at the first token that opens one parenthesis or `~` more than
-/// 256, where a text goes on with it.
-pub fn file(alloc: Global, tokens: &[Token]) -> Result<File, GrammarError>
+/// The declarations of a text's tokens, or the first fault.
+fn read_file(alloc: Global, tokens: &[Token]) -> Result<File, GrammarError>
     ensures { Returns (λ f. map declaration_of f.decls) result (file_of tokens.now) }
 {
     let mut reader = Reader::new(alloc);
@@ -351,4 +352,21 @@ pub fn file(alloc: Global, tokens: &[Token]) -> Result<File, GrammarError>
     Ok(File {
         decls: List::from_vec(reader.decls),
     })
+}
+
+/// The declarations of a text's tokens, in order. `Unexpected` is answered at the first token that no
+/// text goes on with, or at the end of tokens that are the front of a text and no text, with the line
+/// of the last token, or 1; `TooDeep` at the first token that opens one parenthesis or `~` more than
+/// 256, where a text goes on with it.
+#[tactic(auto, using(crate::proofs::Written::written_of))]
+pub fn file(alloc: Global, tokens: &[Token]) -> Result<File, GrammarError>
+    ensures read { Returns (λ f. map declaration_of f.decls) result (file_of tokens.now) }
+    // From the tokens of a text come names that are text, and numbers of a text.
+    ensures written { All (λ t. IsUtf8 t.text) tokens.now → All (λ t. t.value ≤ largest) tokens.now
+        → IfOk result (λ f. All IsWritten (map declaration_of f.decls)) }
+{
+    match read_file(alloc, tokens) {
+        Ok(file) => Ok(file),
+        Err(error) => Err(error),
+    }
 }

@@ -1,2 +1,6 @@
 pub mod Steps
 pub mod Standing
+pub mod Names
+pub mod Digits
+pub mod Cutting
+pub mod Named

@@ -23,17 +23,17 @@ use Rattle.nk_lex.specs.Lex.{Scanned, after, cut, front_of, go_on, largest, line
 use Rattle.nk_lex.specs.Spans.{Ascend, line_feeds, span_of, tokens_before_fault}
 
 -- what holds of each element, and of one more in front
-all_cons : {X : Type 0} (P : X → Type 0) (x : X) (xs : List X) → P x → All P xs → All P (x ∷ xs)
+pub all_cons : {X : Type 0} (P : X → Type 0) (x : X) (xs : List X) → P x → All P xs → All P (x ∷ xs)
 all_cons P x xs p ps zero d h = p
 all_cons P x xs p ps (suc k) d h = ps k d (omega arith)
 
 -- what holds of both branches of a test
-of_both : {X : Type 0} (P : X → Type 0) (t : Bool) (x y : X) → P x → P y → P (cond t x y)
+pub of_both : {X : Type 0} (P : X → Type 0) (t : Bool) (x y : X) → P x → P y → P (cond t x y)
 of_both P true x y p q = p
 of_both P false x y p q = q
 
 -- how many bytes a lexeme has
-abbrev size : Front → ℕ
+abbrev pub size : Front → ℕ
 size (front.Blank n) = n
 size (front.Name n) = n
 size (front.Number n) = n
@@ -41,19 +41,19 @@ size (front.Symbol n k) = n
 size front.Bad = 1
 
 -- a symbol is no name and no number
-abbrev IsSymbol : Front → Type 0
+abbrev pub IsSymbol : Front → Type 0
 IsSymbol (front.Symbol n k) = (k ≡ kind.Name → ⊥) × (k ≡ kind.Number → ⊥)
 IsSymbol f = ⊤
 
 -- a lexeme has a byte, no more than there are, and no line feed behind its first byte
-record Inside (f : Front) (rest : List ℕ) : Type 0 where
-  some : 0 < size f
-  fits : size f ≤ 1 + length rest
-  feeds : line_feeds (take (size f - 1) rest) ≡ 0
-  symbol : IsSymbol f
+pub record Inside (f : Front) (rest : List ℕ) : Type 0 where
+  pub some : 0 < size f
+  pub fits : size f ≤ 1 + length rest
+  pub feeds : line_feeds (take (size f - 1) rest) ≡ 0
+  pub symbol : IsSymbol f
 
 -- a run is as long as its length says
-run_length : (p : ℕ → Bool) (xs : List ℕ) → length (take_while p xs) ≡ prefix_len p xs
+pub run_length : (p : ℕ → Bool) (xs : List ℕ) → length (take_while p xs) ≡ prefix_len p xs
 run_length p [] = refl
 run_length p (x ∷ xs) = by_test (p x) (run_length p xs)
   where
@@ -171,7 +171,7 @@ symbol_inside b rest =
     one k s = one_inside (front.Symbol 1 k) rest refl s
 
 -- what stands at the front fits, and has no line feed behind its first byte
-inside : (b : ℕ) (rest : List ℕ) → Inside (front_of b rest) rest
+pub inside : (b : ℕ) (rest : List ℕ) → Inside (front_of b rest) rest
 inside b rest =
     of_both (λ f. Inside f rest) (is_white b) _ _ (one_inside (front.Blank 1) rest refl tt)
     (of_both (λ f. Inside f rest) (b == 35) _ _ (record {

@@ -2,3 +2,4 @@ pub mod Classes
 pub mod Kinds
 pub mod Lex
 pub mod Spans
+pub mod Spelling

@@ -1,4 +1,5 @@
 //! What holds of every token that a text gives, also of those before a fault.
+ghost use Rattle.nk_lex.specs.Spelling.{CutsLexemes, NamesAreNames};
 ghost use Rattle.nk_lex.specs.Spans.{
   LinesCount,
   NamesAreSlices,
@@ -30,4 +31,14 @@ pub fn a_line_is_one_more_than_the_line_feeds_before()
 /// The value of a number is that of the digits in its span.
 pub fn a_number_has_the_value_of_its_digits()
     ensures { NumbersAreDigits }
+{}
+
+/// A text of lexemes none of which makes the one before it longer is cut into exactly their tokens.
+pub fn a_text_of_lexemes_is_cut_into_them()
+    ensures { CutsLexemes }
+{}
+
+/// What a text has as a name is one: a letter or `_`, then letters, digits and `_`, and no keyword.
+pub fn a_name_is_one()
+    ensures { NamesAreNames }
 {}

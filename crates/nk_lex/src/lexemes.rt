@@ -19,6 +19,7 @@ ghost use Rattle.std.specs.Prelude.{
   if◌then◌else◌,
   nat_le,
   take,
+  IsUtf8,
 };
 ghost use Rattle.std.specs.List.{All};
 ghost use Rattle.nk_lex.specs.Kinds.{kind_of_name};
@@ -151,6 +152,7 @@ fn line_past(line: u64, byte: u8) -> u64
 pub fn tokens(alloc: Global, text: &[u8]) -> Result<Vec<Token>, LexError>
     ensures tokens { Returns (λ v. v.items) result (tokens_of text.now) }
     ensures small { IfOk result (λ v. All (λ t. t.value ≤ largest) v.items) }
+    ensures texts { IfOk result (λ v. All (λ t. IsUtf8 t.text) v.items) }
 {
     let mut tokens = Vec::new(alloc);
     let mut at = 0;
