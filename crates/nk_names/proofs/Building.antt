@@ -6,7 +6,7 @@ use Rattle.nk_policy.specs.Tree.{tree_of, trees_of}
 use Rattle.nk_policy.specs.declared.policy.Pol.{Pol}
 use Rattle.nk_policy.proofs.Trees.{joined}
 use Rattle.nk_policy.proofs.Steps.{one_more}
-use Rattle.nk_grammar.specs.Tree.{tree_of as written_of, trees_of as all_written_of, sum_of, seq_of}
+use Rattle.nk_grammar.specs.Tree.{tree_of as written_of, trees_of as all_written_of}
 use Rattle.nk_grammar.specs.declared.ast.Ast.{Ast}
 use Rattle.nk_grammar.specs.declared.ast.Ast.TheViews.{Sum, Seq}
 use Rattle.nk_grammar.specs.declared.ast.Asts.{Asts}

@@ -1,5 +1,5 @@
 -- What the checks of a declaration leave known.
-use Rattle.std.proofs.Common.{◌≡◌, ℕ, ◌+◌, ◌*◌, ◌<◌, ◌≤◌, Bool, true, false, Option, Some, None, Ok, Err, not, List, [], ◌∷◌, ◌++◌, length, refl, sym, ap, subst, ◌∙◌, arith}
+use Rattle.std.proofs.Common.{◌≡◌, ℕ, ◌<◌, ◌≤◌, Bool, true, false, Option, Some, None, Ok, Err, not, List, [], ◌∷◌, ◌++◌, length, refl, sym, ap, subst, ◌∙◌, arith}
 use Rattle.std.specs.declared.result.Result.{Result}
 use Rattle.std.specs.Prelude.{nat_lt, nat_eq, IsSome, IsNone, ◌↔◌, ◌==◌, IsErrAnd, MatchResult}
 use Rattle.std.specs.List.{list_any}
@@ -7,7 +7,7 @@ use Rattle.nk_field.specs.Packet.{FieldTable, IsFieldTable, field_named, with_fi
 use Rattle.nk_field.specs.declared.fields.FieldsError.{FieldsError}
 use Rattle.nk_field.specs.declared.fields.FieldsError.TheVariants as refused
 use Rattle.nk_field.proofs.FieldTables.{with_field_is}
-use Rattle.nk_policy.specs.Policy.{Policy, depth_of, size_of, dups_of}
+use Rattle.nk_policy.specs.Policy.{depth_of, size_of, dups_of}
 use Rattle.nk_grammar.specs.declared.ast.Word.{Word}
 use Rattle.nk_grammar.specs.declared.ast.Number.{Number}
 use Rattle.nk_grammar.specs.Tree.{Tree}
@@ -15,7 +15,7 @@ use Rattle.nk_names.specs.declared.fault.FaultKind.{FaultKind}
 use Rattle.nk_names.specs.declared.fault.FaultKind.TheVariants as kind
 use Rattle.nk_names.specs.declared.fault.NamesError.{NamesError}
 use Rattle.nk_names.specs.declared.fault.NamesError.TheVariants.{Fault, NoMemory}
-use Rattle.nk_names.specs.Meant.{Lets, MaybeFault, policy_among, fault_if, first_of, above, policy_for, unknown_in, misplaced_in}
+use Rattle.nk_names.specs.Meant.{Lets, MaybeFault, fault_if, first_of, above, policy_for, unknown_in, misplaced_in}
 use Rattle.nk_names.specs.ProgramOf.{IsFirst, ports_fault, let_fault}
 use Rattle.nk_names.proofs.Good.{few_dups}
 
@@ -30,7 +30,7 @@ not_wrong true k line h = absurd cc
 not_wrong false k line h = refl
 
 -- what isn't more than a bound is at most it
-at_most : (m n : ℕ) → nat_lt m n ≡ false → n ≤ m
+pub at_most : (m n : ℕ) → nat_lt m n ≡ false → n ≤ m
 at_most m n h = grind (arith, h)
 
 -- a number that isn't above a bound is at most it

@@ -1,9 +1,8 @@
 -- What is said of a policy holds of it once its dups are numbered, and stays with more fields; and the policy that a tree
 -- stands for has fields, values and complements as they are to be.
-use Rattle.std.proofs.Common.{◌≡◌, ℕ, ◌+◌, ◌<◌, ◌*◌, ◌≤◌, Bool, true, false, Option, Some, None, not, List, [], ◌∷◌, ◌++◌, length, refl, sym, ap, subst, ◌∙◌, arith}
-use Rattle.std.specs.Prelude.{slice_index, nat_lt, is_none, max, min, unwrap_or}
-use Rattle.std.specs.Option.{option_or}
-use Rattle.nk_field.specs.Packet.{FieldTable, IsFieldTable, IsValue, field_named, with_field}
+use Rattle.std.proofs.Common.{◌≡◌, ℕ, ◌+◌, ◌*◌, ◌≤◌, refl, ap, ◌∙◌, arith}
+use Rattle.std.specs.Prelude.{max}
+use Rattle.nk_field.specs.Packet.{FieldTable, IsValue}
 use Rattle.nk_policy.specs.Policy.{Policy, Policies, test, assign, sum_of, seq_of, not_of, star_of, dup, link, no_part, part, depth_of, depths_of, size_of, sizes_of, dups_of, dups_of_all, is_predicate, are_predicates, marked_from, all_marked_from}
 use Rattle.nk_policy.specs.Ranges.{IsInRange, AreInRange, IsOver, AllUseOnly}
 use Rattle.nk_names.specs.Complements.{NegatesPredicates, AllNegatePredicates}

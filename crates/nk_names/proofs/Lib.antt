@@ -8,3 +8,7 @@ pub mod Keys
 pub mod Meanings
 pub mod Misplaced
 pub mod Places
+pub mod Printed
+pub mod ReadingBack
+pub mod Writable
+pub mod Predicates

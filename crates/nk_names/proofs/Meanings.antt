@@ -1,6 +1,6 @@
 -- The policy that a tree without fault stands for has fields and values of the program, and complements of predicates.
-use Rattle.std.proofs.Common.{◌≡◌, ℕ, zero, suc, ◌+◌, ◌<◌, ◌≤◌, Bool, true, false, cond, Option, Some, None, not, min, List, [], ◌∷◌, ◌++◌, length, get_or, take, refl, sym, ap, subst, ◌∙◌, arith}
-use Rattle.std.specs.Prelude.{slice_index, is_none, unwrap_or, All, position}
+use Rattle.std.proofs.Common.{◌≡◌, ℕ, zero, suc, ◌<◌, ◌≤◌, Bool, true, false, cond, Option, Some, None, not, min, List, [], ◌∷◌, length, get_or, take, refl, sym, ap, ◌∙◌, arith}
+use Rattle.std.specs.Prelude.{slice_index, is_none, unwrap_or, All}
 use Rattle.std.specs.Str.{bytes_eq}
 use Rattle.std.proofs.lemmas.List.{length-take, get_or-take}
 use Rattle.std.proofs.lemmas.List.Quantifiers.{position-Some}
@@ -11,7 +11,7 @@ use Rattle.nk_grammar.specs.declared.ast.Word.{Word}
 use Rattle.nk_grammar.specs.declared.ast.Number.{Number}
 use Rattle.nk_grammar.specs.Tree.{Tree, Trees, name_of, test, assign, sum_of, seq_of, not_of, star_of, dup, link, no_part, part}
 use Rattle.nk_names.specs.declared.fault.FaultKind.TheVariants as kind
-use Rattle.nk_names.specs.Meant.{Lets, policy_among, fault_if, first_of, above, no_value, place_in, most_in, policy_for, policies_for, unknown_in, unknown_among, misplaced_in, misplaced_among}
+use Rattle.nk_names.specs.Meant.{Lets, policy_among, no_value, place_in, most_in, policy_for, policies_for, unknown_in, unknown_among, misplaced_in, misplaced_among}
 use Rattle.nk_policy.specs.Ranges.{IsOver}
 use Rattle.nk_names.specs.Complements.{NegatesPredicates, AllNegatePredicates}
 use Rattle.nk_names.proofs.Good.{AreOver}
@@ -93,7 +93,7 @@ module _ (fields : FieldTable) (table : IsFieldTable fields) where
       all_over_meant known (part t ts) h = let r = none_both _ _ h in (over_meant known t r.0, all_over_meant known ts r.1)
 
 -- a negation that fails
-of_not : (b : Bool) → not b ≡ false → b ≡ true
+pub of_not : (b : Bool) → not b ≡ false → b ≡ true
 of_not true h = refl
 of_not false h = cc
 

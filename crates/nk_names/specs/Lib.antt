@@ -5,3 +5,4 @@ pub mod Named
 pub mod ProgramOf
 pub mod ProgramValue
 pub mod Shape
+pub mod ReadBack

@@ -1,12 +1,11 @@
 -- The program of a text: what its declarations make one after the other, in the order of the text, or the first fault.
 -- A name means what stands above it.
-use Rattle.std.specs.Prelude.{◌≡◌, ℕ, ◌==◌, not, nat_lt, nat_le, Bool, false, ⊤, Option, Some, None, Ok, Err, is_some, List, [], ◌∷◌, ◌++◌, length, map, All, ◌≤◌}
+use Rattle.std.specs.Prelude.{◌≡◌, ℕ, ◌==◌, not, nat_lt, nat_le, Bool, false, ⊤, Option, Some, None, Ok, Err, is_some, List, [], ◌∷◌, ◌++◌, length, map}
 use Rattle.std.specs.declared.result.Result.{Result}
 use Rattle.std.specs.List.{list_any}
-use Rattle.std.specs.Str.{IsUtf8}
 use Rattle.nk_field.specs.Packet.{FieldTable, built_in, field_named, with_field}
 use Rattle.nk_topo.specs.Topology.{Topology, Link, no_topology, is_switch, is_port, is_target, link_from, with_switch, with_link}
-use Rattle.nk_policy.specs.Policy.{Policy, depth_of, size_of, marked_from}
+use Rattle.nk_policy.specs.Policy.{Policy, depth_of, size_of, is_predicate, marked_from}
 use Rattle.nk_grammar.specs.declared.ast.Word.{Word}
 use Rattle.nk_grammar.specs.declared.ast.Number.{Number}
 use Rattle.nk_grammar.specs.File.{Declaration, field, tag, switch, declared_link, definition}
@@ -89,10 +88,24 @@ let_fault fields lets w t line =
     (fault_if (nat_lt 256 (depth_of (policy_for fields lets t))) kind.TooDeep line)
     (fault_if (nat_lt 1048576 (size_of (policy_for fields lets t))) kind.TooLarge line))))
 
+-- the predicate of a certificate's row, whose word `row` stands on the line: its names and numbers, then whether it is a
+-- predicate, then its depth; a `~` over no predicate makes the whole row no predicate
+abbrev pub predicate_fault : FieldTable → Lets → Tree → (line : ℕ) → MaybeFault
+predicate_fault fields lets t line =
+    first_of
+    (unknown_in fields lets t)
+    (first_of
+    (fault_if (not (is_predicate (policy_for fields lets t))) kind.NotAPredicate line)
+    (fault_if (nat_lt 256 (depth_of (policy_for fields lets t))) kind.TooDeep line))
+
 -- what is said, unless there is a fault
-abbrev pub unless : MaybeFault → Said → Result Said NamesError
+abbrev pub unless : {X : Type 0} → MaybeFault → X → Result X NamesError
 unless None said = Ok said
 unless (Some e) said = Err e
+
+-- the policy of a row, where no name of a policy is known
+abbrev pub row_policy : FieldTable → Tree → (line : ℕ) → Result Policy NamesError
+row_policy fields t line = unless (predicate_fault fields [] t line) (marked_from (policy_for fields [] t) 1)
 
 -- the link with these four numbers
 abbrev pub link_with : Number → Number → Number → Number → Link
@@ -147,8 +160,3 @@ IsFault (Fault k line) wanted = wanted ≡ Err (Fault k line)
 abbrev pub Returns : {X Y : Type 0} → (X → Y) → Result X NamesError → Result Y NamesError → Type 0
 Returns view (Ok x) wanted = wanted ≡ Ok (view x)
 Returns view (Err e) wanted = IsFault e wanted
-
--- what the grammar's reading makes sure of: a field's name is text, and its number one of a text
-abbrev pub IsWritten : Declaration → Type 0
-IsWritten (field w n) = IsUtf8 w.text × (n.value ≤ 281474976710655)
-IsWritten d = ⊤

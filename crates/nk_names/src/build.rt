@@ -6,8 +6,9 @@ ghost use Rattle.nk_grammar.specs.Tree.{tree_of as written_of, trees_of as all_w
 ghost use Rattle.nk_names.specs.Meant.{lets_of, place_in, policy_for, policies_for};
 
 use crate::check::LARGEST_PLACE;
-use crate::names::Names;
-use nk_field::Fid;
+use crate::lets::Lets;
+use crate::names::field_with;
+use nk_field::{Fid, Fields};
 use nk_grammar::{Ast, Number, Word};
 use nk_policy::{Pol, Pols, dups, marked};
 use std::alloc::{AllocError, Global};
@@ -24,10 +25,10 @@ fn numbered_on(alloc: Global, p: &Pol, before: &mut u64) -> Result<Pol, AllocErr
 }
 
 /// The field with the name; the switch, where there is none.
-fn field_of(names: &Names, w: &Word) -> Fid
-    ensures { result ≡ place_in names.now.fields w.now }
+fn field_of(fields: &Fields, w: &Word) -> Fid
+    ensures { result ≡ place_in fields.now w.now }
 {
-    match names.field(w.text.as_slice()) {
+    match field_with(fields, w.text.as_slice()) {
         Some(field) => field,
         None => Fid::new(0),
     }
@@ -43,22 +44,40 @@ fn place_of(n: Number) -> u16
 /// The policy that the tree stands for, its dups numbered on after those that stand before.
 #[cycle(build)]
 #[tactic(auto, using(nk_grammar::proofs::Trees::tree_of_sum, nk_grammar::proofs::Trees::tree_of_seq, nk_policy::proofs::Trees::tree_of_sum, nk_policy::proofs::Trees::tree_of_seq))]
-fn built(alloc: Global, names: &Names, ast: &Ast, before: &mut u64) -> Result<Pol, AllocError>
-    requires fit { before.old + dups_of (policy_for names.now.fields (lets_of names.now.lets.entries.items) (written_of ast.now)) < 4294967295 }
-    ensures tree { IfOk result (λ q. tree_of q ≡ marked_from (policy_for names.now.fields (lets_of names.now.lets.entries.items) (written_of ast.now)) (before.old + 1)) }
-    ensures before { OnOk result (before.new ≡ before.old + dups_of (policy_for names.now.fields (lets_of names.now.lets.entries.items) (written_of ast.now))) }
+fn built(
+    alloc: Global,
+    fields: &Fields,
+    lets: &Lets,
+    ast: &Ast,
+    before: &mut u64,
+) -> Result<Pol, AllocError>
+    requires fit { before.old + dups_of (policy_for fields.now (lets_of lets.now.entries.items) (written_of ast.now)) < 4294967295 }
+    ensures tree { IfOk result (λ q. tree_of q ≡ marked_from (policy_for fields.now (lets_of lets.now.entries.items) (written_of ast.now)) (before.old + 1)) }
+    ensures before { OnOk result (before.new ≡ before.old + dups_of (policy_for fields.now (lets_of lets.now.entries.items) (written_of ast.now))) }
 {
     match ast {
-        Ast::Name(w) => match names.lets.policy(w.text.as_slice()) {
+        Ast::Name(w) => match lets.policy(w.text.as_slice()) {
             Some(p) => numbered_on(alloc, p, before),
             None => Ok(Pol::Sum(Pols::new(Vec::new(alloc)))),
         },
-        Ast::Test(w, n) => Ok(Pol::Test(field_of(names, w), n.value)),
-        Ast::Set(w, n) => Ok(Pol::Set(field_of(names, w), n.value)),
-        Ast::Sum(ps) => Ok(Pol::Sum(Pols::new(all_built(alloc, names, ps.as_slice(), before)?))),
-        Ast::Seq(ps) => Ok(Pol::Seq(Pols::new(all_built(alloc, names, ps.as_slice(), before)?))),
-        Ast::Not(q, _) => Ok(Pol::Not(Box::new(alloc, built(alloc, names, q, before)?)?)),
-        Ast::Star(q) => Ok(Pol::Star(Box::new(alloc, built(alloc, names, q, before)?)?)),
+        Ast::Test(w, n) => Ok(Pol::Test(field_of(fields, w), n.value)),
+        Ast::Set(w, n) => Ok(Pol::Set(field_of(fields, w), n.value)),
+        Ast::Sum(ps) => Ok(Pol::Sum(Pols::new(all_built(
+            alloc,
+            fields,
+            lets,
+            ps.as_slice(),
+            before,
+        )?))),
+        Ast::Seq(ps) => Ok(Pol::Seq(Pols::new(all_built(
+            alloc,
+            fields,
+            lets,
+            ps.as_slice(),
+            before,
+        )?))),
+        Ast::Not(q, _) => Ok(Pol::Not(Box::new(alloc, built(alloc, fields, lets, q, before)?)?)),
+        Ast::Star(q) => Ok(Pol::Star(Box::new(alloc, built(alloc, fields, lets, q, before)?)?)),
         Ast::Dup => {
             *before += 1;
             Ok(Pol::Dup(*before as u32))
@@ -76,26 +95,32 @@ fn built(alloc: Global, names: &Names, ast: &Ast, before: &mut u64) -> Result<Po
 #[tactic(auto, using(nk_policy::proofs::Trees::joined_push, nk_policy::proofs::Trees::joined_none))]
 fn all_built(
     alloc: Global,
-    names: &Names,
+    fields: &Fields,
+    lets: &Lets,
     parts: &[Ast],
     before: &mut u64,
 ) -> Result<Vec<Pol>, AllocError>
-    requires fit { before.old + dups_of_all (policies_for names.now.fields (lets_of names.now.lets.entries.items) (all_written_of parts.now)) < 4294967295 }
-    ensures trees { IfOk result (λ qs. trees_of qs.items ≡ all_marked_from (policies_for names.now.fields (lets_of names.now.lets.entries.items) (all_written_of parts.now)) (before.old + 1)) }
-    ensures before { OnOk result (before.new ≡ before.old + dups_of_all (policies_for names.now.fields (lets_of names.now.lets.entries.items) (all_written_of parts.now))) }
+    requires fit { before.old + dups_of_all (policies_for fields.now (lets_of lets.now.entries.items) (all_written_of parts.now)) < 4294967295 }
+    ensures trees { IfOk result (λ qs. trees_of qs.items ≡ all_marked_from (policies_for fields.now (lets_of lets.now.entries.items) (all_written_of parts.now)) (before.old + 1)) }
+    ensures before { OnOk result (before.new ≡ before.old + dups_of_all (policies_for fields.now (lets_of lets.now.entries.items) (all_written_of parts.now))) }
 {
     let mut out = Vec::new(alloc);
     for q in parts {
-        out.push(built(alloc, names, q, before)?)?;
+        out.push(built(alloc, fields, lets, q, before)?)?;
     }
     Ok(out)
 }
 
 /// The policy that the tree stands for, its dups numbered from 1.
-pub(crate) fn policy_of(alloc: Global, names: &Names, ast: &Ast) -> Result<Pol, AllocError>
-    requires { dups_of (policy_for names.now.fields (lets_of names.now.lets.entries.items) (written_of ast.now)) < 4294967295 }
-    ensures { IfOk result (λ q. tree_of q ≡ marked_from (policy_for names.now.fields (lets_of names.now.lets.entries.items) (written_of ast.now)) 1) }
+pub(crate) fn policy_of(
+    alloc: Global,
+    fields: &Fields,
+    lets: &Lets,
+    ast: &Ast,
+) -> Result<Pol, AllocError>
+    requires { dups_of (policy_for fields.now (lets_of lets.now.entries.items) (written_of ast.now)) < 4294967295 }
+    ensures { IfOk result (λ q. tree_of q ≡ marked_from (policy_for fields.now (lets_of lets.now.entries.items) (written_of ast.now)) 1) }
 {
     let mut before = 0;
-    built(alloc, names, ast, &mut before)
+    built(alloc, fields, lets, ast, &mut before)
 }

@@ -5,8 +5,9 @@ ghost use Rattle.nk_grammar.specs.Tree.{tree_of, trees_of};
 ghost use Rattle.nk_names.specs.Meant.{lets_of, fault_if, above, no_value, links_ends, policy_for, policies_for, unknown_in, unknown_among, misplaced_in, misplaced_among};
 
 use crate::fault::{FaultKind, NamesError};
-use crate::names::Names;
-use nk_field::Fid;
+use crate::lets::Lets;
+use crate::names::field_with;
+use nk_field::Fields;
 use nk_grammar::{Ast, Number, Word};
 
 /// The last u64, at which depths and sizes stop.
@@ -44,11 +45,11 @@ pub(crate) fn first_above(a: Number, m: Number, b: Number, n: Number) -> Option<
 }
 
 /// The fault of a field and its value.
-fn no_value(names: &Names, w: &Word, n: Number) -> Option<NamesError>
-    ensures { result ≡ no_value names.now.fields w.now n }
+fn no_value(fields: &Fields, w: &Word, n: Number) -> Option<NamesError>
+    ensures { result ≡ no_value fields.now w.now n }
 {
-    match names.field(w.text.as_slice()) {
-        Some(field) => above(names.fields.max(field), n),
+    match field_with(fields, w.text.as_slice()) {
+        Some(field) => above(fields.max(field), n),
         None => fault_if(true, FaultKind::UnknownField, w.line),
     }
 }
@@ -56,17 +57,17 @@ fn no_value(names: &Names, w: &Word, n: Number) -> Option<NamesError>
 /// The first name of no policy, name of no field or number out of range, from left to right.
 #[cycle(unknown)]
 #[tactic(auto, using(nk_grammar::proofs::Trees::tree_of_sum, nk_grammar::proofs::Trees::tree_of_seq))]
-pub(crate) fn first_unknown(names: &Names, ast: &Ast) -> Option<NamesError>
-    ensures { result ≡ unknown_in names.now.fields (lets_of names.now.lets.entries.items) (tree_of ast.now) }
+pub(crate) fn first_unknown(fields: &Fields, lets: &Lets, ast: &Ast) -> Option<NamesError>
+    ensures { result ≡ unknown_in fields.now (lets_of lets.now.entries.items) (tree_of ast.now) }
 {
     match ast {
         Ast::Name(w) => {
-            let known = names.lets.policy(w.text.as_slice()).is_some();
+            let known = lets.policy(w.text.as_slice()).is_some();
             fault_if(!known, FaultKind::UnknownName, w.line)
         }
-        Ast::Test(w, n) | Ast::Set(w, n) => no_value(names, w, *n),
-        Ast::Sum(ps) | Ast::Seq(ps) => first_unknown_among(names, ps.as_slice()),
-        Ast::Not(q, _) | Ast::Star(q) => first_unknown(names, q),
+        Ast::Test(w, n) | Ast::Set(w, n) => no_value(fields, w, *n),
+        Ast::Sum(ps) | Ast::Seq(ps) => first_unknown_among(fields, lets, ps.as_slice()),
+        Ast::Not(q, _) | Ast::Star(q) => first_unknown(fields, lets, q),
         Ast::Dup => None,
         Ast::Link(a, m, b, n) => first_above(*a, *m, *b, *n),
     }
@@ -74,11 +75,11 @@ pub(crate) fn first_unknown(names: &Names, ast: &Ast) -> Option<NamesError>
 
 /// The same among parts.
 #[cycle(unknown)]
-fn first_unknown_among(names: &Names, parts: &[Ast]) -> Option<NamesError>
-    ensures { result ≡ unknown_among names.now.fields (lets_of names.now.lets.entries.items) (trees_of parts.now) }
+fn first_unknown_among(fields: &Fields, lets: &Lets, parts: &[Ast]) -> Option<NamesError>
+    ensures { result ≡ unknown_among fields.now (lets_of lets.now.entries.items) (trees_of parts.now) }
 {
     for q in parts {
-        let fault = first_unknown(names, q);
+        let fault = first_unknown(fields, lets, q);
         if fault.is_some() {
             return fault;
         }
@@ -89,28 +90,28 @@ fn first_unknown_among(names: &Names, parts: &[Ast]) -> Option<NamesError>
 /// Whether it is a predicate with its names written out.
 #[cycle(predicate)]
 #[tactic(auto, using(nk_grammar::proofs::Trees::tree_of_sum, nk_grammar::proofs::Trees::tree_of_seq))]
-pub(crate) fn is_predicate(names: &Names, ast: &Ast) -> bool
-    ensures { result ≡ is_predicate (policy_for names.now.fields (lets_of names.now.lets.entries.items) (tree_of ast.now)) }
+pub(crate) fn is_predicate(fields: &Fields, lets: &Lets, ast: &Ast) -> bool
+    ensures { result ≡ is_predicate (policy_for fields.now (lets_of lets.now.entries.items) (tree_of ast.now)) }
 {
     match ast {
-        Ast::Name(w) => match names.lets.shape(w.text.as_slice()) {
+        Ast::Name(w) => match lets.shape(w.text.as_slice()) {
             Some(shape) => shape.predicate,
             None => true,
         },
         Ast::Test(_, _) => true,
-        Ast::Sum(ps) | Ast::Seq(ps) => are_predicates(names, ps.as_slice()),
-        Ast::Not(q, _) => is_predicate(names, q),
+        Ast::Sum(ps) | Ast::Seq(ps) => are_predicates(fields, lets, ps.as_slice()),
+        Ast::Not(q, _) => is_predicate(fields, lets, q),
         Ast::Set(_, _) | Ast::Star(_) | Ast::Dup | Ast::Link(_, _, _, _) => false,
     }
 }
 
 /// Whether each part is one.
 #[cycle(predicate)]
-fn are_predicates(names: &Names, parts: &[Ast]) -> bool
-    ensures { result ≡ are_predicates (policies_for names.now.fields (lets_of names.now.lets.entries.items) (trees_of parts.now)) }
+fn are_predicates(fields: &Fields, lets: &Lets, parts: &[Ast]) -> bool
+    ensures { result ≡ are_predicates (policies_for fields.now (lets_of lets.now.entries.items) (trees_of parts.now)) }
 {
     for q in parts {
-        if !is_predicate(names, q) {
+        if !is_predicate(fields, lets, q) {
             return false;
         }
     }
@@ -120,27 +121,27 @@ fn are_predicates(names: &Names, parts: &[Ast]) -> bool
 /// The first `~` over what is no predicate.
 #[cycle(misplaced)]
 #[tactic(auto, using(nk_grammar::proofs::Trees::tree_of_sum, nk_grammar::proofs::Trees::tree_of_seq))]
-pub(crate) fn first_misplaced(names: &Names, ast: &Ast) -> Option<NamesError>
-    ensures { result ≡ misplaced_in names.now.fields (lets_of names.now.lets.entries.items) (tree_of ast.now) }
+pub(crate) fn first_misplaced(fields: &Fields, lets: &Lets, ast: &Ast) -> Option<NamesError>
+    ensures { result ≡ misplaced_in fields.now (lets_of lets.now.entries.items) (tree_of ast.now) }
 {
     match ast {
-        Ast::Sum(ps) | Ast::Seq(ps) => first_misplaced_among(names, ps.as_slice()),
+        Ast::Sum(ps) | Ast::Seq(ps) => first_misplaced_among(fields, lets, ps.as_slice()),
         Ast::Not(q, line) => {
-            let negated = is_predicate(names, q);
+            let negated = is_predicate(fields, lets, q);
             fault_if(!negated, FaultKind::NotAPredicate, *line)
         }
-        Ast::Star(q) => first_misplaced(names, q),
+        Ast::Star(q) => first_misplaced(fields, lets, q),
         Ast::Name(_) | Ast::Test(_, _) | Ast::Set(_, _) | Ast::Dup | Ast::Link(_, _, _, _) => None,
     }
 }
 
 /// The same among parts.
 #[cycle(misplaced)]
-fn first_misplaced_among(names: &Names, parts: &[Ast]) -> Option<NamesError>
-    ensures { result ≡ misplaced_among names.now.fields (lets_of names.now.lets.entries.items) (trees_of parts.now) }
+fn first_misplaced_among(fields: &Fields, lets: &Lets, parts: &[Ast]) -> Option<NamesError>
+    ensures { result ≡ misplaced_among fields.now (lets_of lets.now.entries.items) (trees_of parts.now) }
 {
     for q in parts {
-        let fault = first_misplaced(names, q);
+        let fault = first_misplaced(fields, lets, q);
         if fault.is_some() {
             return fault;
         }
@@ -151,28 +152,28 @@ fn first_misplaced_among(names: &Names, parts: &[Ast]) -> Option<NamesError>
 /// The depth with all names written out, at most the last u64.
 #[cycle(depth)]
 #[tactic(auto, using(nk_grammar::proofs::Trees::tree_of_sum, nk_grammar::proofs::Trees::tree_of_seq))]
-pub(crate) fn depth(names: &Names, ast: &Ast) -> u64
-    ensures { result ≡ min (depth_of (policy_for names.now.fields (lets_of names.now.lets.entries.items) (tree_of ast.now))) LAST }
+pub(crate) fn depth(fields: &Fields, lets: &Lets, ast: &Ast) -> u64
+    ensures { result ≡ min (depth_of (policy_for fields.now (lets_of lets.now.entries.items) (tree_of ast.now))) LAST }
 {
     match ast {
-        Ast::Name(w) => match names.lets.shape(w.text.as_slice()) {
+        Ast::Name(w) => match lets.shape(w.text.as_slice()) {
             Some(shape) => shape.depth,
             None => 1,
         },
-        Ast::Sum(ps) | Ast::Seq(ps) => deepest(names, ps.as_slice()).saturating_add(1),
-        Ast::Not(q, _) | Ast::Star(q) => depth(names, q).saturating_add(1),
+        Ast::Sum(ps) | Ast::Seq(ps) => deepest(fields, lets, ps.as_slice()).saturating_add(1),
+        Ast::Not(q, _) | Ast::Star(q) => depth(fields, lets, q).saturating_add(1),
         Ast::Test(_, _) | Ast::Set(_, _) | Ast::Dup | Ast::Link(_, _, _, _) => 1,
     }
 }
 
 /// The depth of the deepest part, 0 where there is none.
 #[cycle(depth)]
-fn deepest(names: &Names, parts: &[Ast]) -> u64
-    ensures { result ≡ min (depths_of (policies_for names.now.fields (lets_of names.now.lets.entries.items) (trees_of parts.now))) LAST }
+fn deepest(fields: &Fields, lets: &Lets, parts: &[Ast]) -> u64
+    ensures { result ≡ min (depths_of (policies_for fields.now (lets_of lets.now.entries.items) (trees_of parts.now))) LAST }
 {
     let mut most: u64 = 0;
     for q in parts {
-        let below = depth(names, q);
+        let below = depth(fields, lets, q);
         if most < below {
             most = below;
         }
@@ -183,28 +184,28 @@ fn deepest(names: &Names, parts: &[Ast]) -> u64
 /// How many elements it has with all names written out, at most the last u64.
 #[cycle(size)]
 #[tactic(auto, using(nk_grammar::proofs::Trees::tree_of_sum, nk_grammar::proofs::Trees::tree_of_seq))]
-pub(crate) fn size(names: &Names, ast: &Ast) -> u64
-    ensures { result ≡ min (size_of (policy_for names.now.fields (lets_of names.now.lets.entries.items) (tree_of ast.now))) LAST }
+pub(crate) fn size(fields: &Fields, lets: &Lets, ast: &Ast) -> u64
+    ensures { result ≡ min (size_of (policy_for fields.now (lets_of lets.now.entries.items) (tree_of ast.now))) LAST }
 {
     match ast {
-        Ast::Name(w) => match names.lets.shape(w.text.as_slice()) {
+        Ast::Name(w) => match lets.shape(w.text.as_slice()) {
             Some(shape) => shape.size,
             None => 1,
         },
-        Ast::Sum(ps) | Ast::Seq(ps) => total_size(names, ps.as_slice()).saturating_add(1),
-        Ast::Not(q, _) | Ast::Star(q) => size(names, q).saturating_add(1),
+        Ast::Sum(ps) | Ast::Seq(ps) => total_size(fields, lets, ps.as_slice()).saturating_add(1),
+        Ast::Not(q, _) | Ast::Star(q) => size(fields, lets, q).saturating_add(1),
         Ast::Test(_, _) | Ast::Set(_, _) | Ast::Dup | Ast::Link(_, _, _, _) => 1,
     }
 }
 
 /// How many elements the parts have.
 #[cycle(size)]
-fn total_size(names: &Names, parts: &[Ast]) -> u64
-    ensures { result ≡ min (sizes_of (policies_for names.now.fields (lets_of names.now.lets.entries.items) (trees_of parts.now))) LAST }
+fn total_size(fields: &Fields, lets: &Lets, parts: &[Ast]) -> u64
+    ensures { result ≡ min (sizes_of (policies_for fields.now (lets_of lets.now.entries.items) (trees_of parts.now))) LAST }
 {
     let mut total: u64 = 0;
     for q in parts {
-        total = total.saturating_add(size(names, q));
+        total = total.saturating_add(size(fields, lets, q));
     }
     total
 }

@@ -2,10 +2,10 @@
 ghost use Rattle.std.specs.Prelude.{◌≡◌, [], None, Some, MatchResult, IfOk, map};
 ghost use Rattle.std.specs.Str.{IsUtf8};
 ghost use Rattle.nk_topo.specs.Topology.{is_switch};
-ghost use Rattle.nk_grammar.specs.File.{declaration_of, field, tag, switch, declared_link, definition};
+ghost use Rattle.nk_grammar.specs.File.{declaration_of, field, tag, switch, declared_link, definition, IsWritten};
 ghost use Rattle.nk_grammar.specs.Tree.{tree_of};
 ghost use Rattle.nk_names.specs.Meant.{lets_of, above};
-ghost use Rattle.nk_names.specs.ProgramOf.{Returns, IsFirst, IsWritten, said_in, said_with, nothing_said, ports_fault, let_fault};
+ghost use Rattle.nk_names.specs.ProgramOf.{Returns, IsFirst, said_in, said_with, nothing_said, ports_fault, let_fault};
 
 use crate::build::policy_of;
 use crate::check::{
@@ -13,7 +13,7 @@ use crate::check::{
 };
 use crate::fault::{FaultKind, NamesError};
 use crate::lets::Lets;
-use crate::names::Names;
+use crate::names::{Names, field_with};
 use nk_field::{Fields, FieldsError};
 use nk_grammar::{Ast, Decl, Number, Word};
 use nk_topo::{LinkEnd, Topo, TopoError};
@@ -24,10 +24,10 @@ use std::collections::HashSet;
 const LARGEST_SIZE: u64 = 1_048_576;
 
 /// How deep a policy is at most, its names written out.
-const LARGEST_DEPTH: u64 = 256;
+pub(crate) const LARGEST_DEPTH: u64 = 256;
 
 /// Ends with the fault, where there is one.
-fn refuse(fault: Option<NamesError>) -> Result<(), NamesError>
+pub(crate) fn refuse(fault: Option<NamesError>) -> Result<(), NamesError>
     ensures { MatchResult result (λ _. fault ≡ None) (λ e. fault ≡ Some e) }
 {
     match fault {
@@ -67,12 +67,16 @@ fn check_let(names: &Names, w: &Word, ast: &Ast, line: u64) -> Result<(), NamesE
         (λ _. let_fault names.now.fields (lets_of names.now.lets.entries.items) w.now (tree_of ast.now) line ≡ None)
         (λ e. let_fault names.now.fields (lets_of names.now.lets.entries.items) w.now (tree_of ast.now) line ≡ Some e) }
 {
-    let twice = names.lets.policy(w.text.as_slice()).is_some();
+    let fields = &names.fields;
+    let lets = &names.lets;
+    let twice = lets.policy(w.text.as_slice()).is_some();
     refuse(fault_if(twice, FaultKind::LetTwice, w.line))?;
-    refuse(first_unknown(names, ast))?;
-    refuse(first_misplaced(names, ast))?;
-    refuse(fault_if(LARGEST_DEPTH < depth(names, ast), FaultKind::TooDeep, line))?;
-    refuse(fault_if(LARGEST_SIZE < size(names, ast), FaultKind::TooLarge, line))
+    refuse(first_unknown(fields, lets, ast))?;
+    refuse(first_misplaced(fields, lets, ast))?;
+    let deep = LARGEST_DEPTH < depth(fields, lets, ast);
+    refuse(fault_if(deep, FaultKind::TooDeep, line))?;
+    let large = LARGEST_SIZE < size(fields, lets, ast);
+    refuse(fault_if(large, FaultKind::TooLarge, line))
 }
 
 /// The name as text.
@@ -122,7 +126,7 @@ fn with_tag(names: Names, w: &Word) -> Result<Names, NamesError>
     ensures { Returns said_in result (said_with (said_in names) (tag w.now)) }
 {
     refuse(fault_if(names.fields.tag().is_some(), FaultKind::TagTwice, w.line))?;
-    match names.field(w.text.as_slice()) {
+    match field_with(&names.fields, w.text.as_slice()) {
         Some(field) if field.place() >= 2 => {
             let Names { fields, topo, lets } = names;
             let mut fields = fields;
@@ -136,13 +140,6 @@ fn with_tag(names: Names, w: &Word) -> Result<Names, NamesError>
     }
 }
 
-/// Whether the switch is declared.
-fn is_declared(topo: &Topo, n: u16) -> bool
-    ensures { result ≡ is_switch topo.now n }
-{
-    topo.switches().contains(&n)
-}
-
 /// One more switch.
 fn with_switch(
     alloc: Global,
@@ -153,11 +150,7 @@ fn with_switch(
     ensures { Returns said_in result (said_with (said_in names) (switch n ports.now)) }
 {
     let number = place_of(n)?;
-    refuse(fault_if(
-        is_declared(&names.topo, number),
-        FaultKind::SwitchTwice,
-        n.line,
-    ))?;
+    refuse(fault_if(names.topo.is_switch(number), FaultKind::SwitchTwice, n.line))?;
     let ports = ports_of(alloc, ports)?;
     let Names { fields, topo, lets } = names;
     let mut topo = topo;
@@ -202,7 +195,7 @@ fn with_let(
     ensures { Returns said_in result (said_with (said_in names) (definition w.now (tree_of ast.now) line)) }
 {
     check_let(&names, w, ast, line)?;
-    let policy = policy_of(alloc, &names, ast)?;
+    let policy = policy_of(alloc, &names.fields, &names.lets, ast)?;
     let Names { fields, topo, lets } = names;
     let lets = lets.with(alloc, w.text.as_slice(), policy)?;
     Ok(Names { fields, topo, lets })

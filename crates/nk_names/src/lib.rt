@@ -14,6 +14,7 @@ pub mod laws;
 mod lets;
 mod names;
 pub mod reading;
+mod rows;
 mod shape;
 #[cfg(test)]
 mod tests;
@@ -22,6 +23,7 @@ pub use fault::{FaultKind, NamesError};
 use nk_field::{Fields, List};
 use nk_policy::Pol;
 use nk_topo::Topo;
+pub use rows::resolve;
 use std::marker::Model;
 
 /// A program: its fields, its topology, and its named policies in the order of the text. Each policy's dups are

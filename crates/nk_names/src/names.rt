@@ -15,18 +15,17 @@ pub(crate) struct Names {
     ghost table: { IsFieldTable fields },
 }
 
-impl Names {
-    /// The field with the name.
-    pub(crate) fn field(&self, name: &[u8]) -> Option<Fid>
-        ensures is { result ≡ field_named self.now.fields name.now }
-        ensures within { IfSome result (λ f. f < length self.now.fields.maxima) }
-    {
-        for place in 0..self.fields.len() {
-            let field = Fid::new(place as u8);
-            if name == self.fields.name(field).as_bytes() {
-                return Some(field);
-            }
+/// The field with the name.
+pub(crate) fn field_with(fields: &Fields, name: &[u8]) -> Option<Fid>
+    ensures is { result ≡ field_named fields.now name.now }
+    ensures within { IfSome result (λ f. f < length fields.now.maxima) }
+{
+    let _declared = fields.declared();
+    for place in 0..fields.len() {
+        let field = Fid::new(place as u8);
+        if name == fields.name(field).as_bytes() {
+            return Some(field);
         }
-        None
     }
+    None
 }

@@ -1,7 +1,7 @@
 //! The program of a text.
 ghost use Rattle.std.specs.Prelude.{All, map};
-ghost use Rattle.nk_grammar.specs.File.{declaration_of};
-ghost use Rattle.nk_names.specs.ProgramOf.{Returns, IsWritten, said_by, program_of};
+ghost use Rattle.nk_grammar.specs.File.{declaration_of, IsWritten};
+ghost use Rattle.nk_names.specs.ProgramOf.{Returns, said_by, program_of};
 
 use crate::Program;
 use crate::declare::{no_names, with_decl};
@@ -13,7 +13,8 @@ use std::alloc::Global;
 /// The program of a text's declarations, or the first fault of the text.
 ///
 /// The declarations are taken in order, and a name means what stands above it. The names in a policy are written out.
-/// The text's fields have names that are text, and numbers of at most 281,474,976,710,655, as the grammar reads them.
+/// The text's fields have names that are text, and numbers of at most 281,474,976,710,655, as `nk_grammar::file` reads
+/// them from the tokens of a text.
 pub fn program(alloc: Global, f: &File) -> Result<Program, NamesError>
     requires { All IsWritten (map declaration_of f.now.decls) }
     ensures { Returns said_by result (program_of (map declaration_of f.now.decls)) }

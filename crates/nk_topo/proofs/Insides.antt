@@ -1,17 +1,17 @@
 -- Switches by the place of their numbers.
-use Rattle.std.proofs.Common.{◌≡◌, ◌≢◌, ℕ, zero, suc, ◌+◌, ◌<◌, ◌≤◌, ◌&&◌, ◌||◌, ◌⊎◌, inl, inr, ⊎_elim, Bool, true, false, not, cond, List, [], ◌∷◌, length, get_or, refl, ap, sym, subst, ◌∙◌, arith, Option, None, Some}
-use Rattle.std.specs.Prelude.{◌==◌, nat_lt, map, position, AllPairs, All, is_some, IsNone, IsTrue, if◌then◌else◌}
+use Rattle.std.proofs.Common.{◌≡◌, ℕ, zero, suc, ◌+◌, ◌<◌, ◌≤◌, ◌&&◌, ◌||◌, inl, inr, ⊎_elim, Bool, true, false, not, cond, List, [], ◌∷◌, length, get_or, refl, ap, sym, subst, ◌∙◌, arith, Option, None, Some}
+use Rattle.std.specs.Prelude.{◌==◌, nat_lt, map, position, AllPairs, is_some, IsNone, IsTrue, if◌then◌else◌}
 use Rattle.std.specs.List.{prefix_len, position_or_len, insert, list_any}
 use Rattle.std.proofs.lemmas.List.{get_or_past, get_or-map, length-map}
 use Rattle.std.proofs.lemmas.List.Edits.{length-insert}
 use Rattle.std.proofs.lemmas.List.Sums.{prefix_len-le-length}
 use Rattle.std.proofs.lemmas.List.Quantifiers.{position-Some}
-use Rattle.std.proofs.lemmas.Bool.Decides.{nat_tests, leb_tells, eqb_tells}
-use Rattle.nk_topo.specs.Topology.{SwitchPorts, Topology, IsTopology, Link, placed, numbers_of, ports_among, ports_of, is_port, is_switch, is_target, link_from, target_among, starts_below, with_sorted, with_link}
-use Rattle.nk_topo.specs.Inside.{switches_with, topology_with, IsInside, link_of}
+use Rattle.std.proofs.lemmas.Bool.Decides.{nat_tests}
+use Rattle.nk_topo.specs.Topology.{SwitchPorts, Topology, IsTopology, Link, placed, ports_among, ports_of, is_port, is_switch, is_target, link_from, target_among, starts_below, with_sorted, with_link}
+use Rattle.nk_topo.specs.Inside.{switches_with, topology_with, IsInside, AreTargets, link_of}
 use Rattle.nk_topo.proofs.Places.{prefix_len-map}
 use Rattle.nk_topo.proofs.Members.{In, InOrder, order_from_pairs, pairs_from_order, members_from_all}
-use Rattle.nk_topo.proofs.Orders.{passes_for_none}
+use Rattle.nk_topo.proofs.Orders.{passes_for_none, any_insert}
 use Rattle.nk_topo.proofs.Kept.{kept_with_switch, kept_with_link}
 
 -- the numbers of switches with these numbers
@@ -320,3 +320,19 @@ pub target_found : (ns : List ℕ) (ps : List (List ℕ)) (ls : List (ℕ × ℕ
     topology_with ns ps ls ≡ t → list_any (λ l. (l.2 == sw) && (l.3 == pt)) ls ≡ is_target t sw pt
 target_found ns ps ls t sw pt whole =
     sym (any_image link_of (λ l. (l.to_switch == sw) && (l.to_port == pt)) ls) ∙ ap (λ u. is_target u sw pt) whole
+
+-- the port where a new link ends is one more among those where links end
+pub targets_with : (ts us : List (ℕ × ℕ)) (ls ks : List (ℕ × ℕ × ℕ × ℕ)) (i : ℕ) (l : ℕ × ℕ × ℕ × ℕ) → AreTargets ts ls → ks ≡ insert ls i l →
+    ((q : ℕ × ℕ) → list_any (λ t. (q.0 == t.0) && (q.1 == t.1)) us
+    ≡ cond ((l.2 == q.0) && (l.3 == q.1)) true (list_any (λ t. (q.0 == t.0) && (q.1 == t.1)) ts)) →
+    AreTargets us ks
+targets_with ts us ls ks i l are more added = λ sw pt.
+    added (sw, pt)
+    ∙ either ((l.2 == sw) && (l.3 == pt)) _
+    ∙ ap (λ b. ((l.2 == sw) && (l.3 == pt)) || b) (are sw pt)
+    ∙ sym (any_insert (λ k. (k.2 == sw) && (k.3 == pt)) ls i l)
+    ∙ ap (list_any (λ k. (k.2 == sw) && (k.3 == pt))) (sym more)
+  where
+    either : (a b : Bool) → cond a true b ≡ (a || b)
+    either true b = refl
+    either false b = refl

@@ -1,9 +1,9 @@
 -- A topology with one more switch or one more link is a topology.
-use Rattle.std.proofs.Common.{◌≡◌, ◌≢◌, ℕ, zero, suc, ◌+◌, ◌<◌, ◌≤◌, ◌&&◌, ◌||◌, ◌⊎◌, inl, inr, ⊎_elim, Bool, true, false, List, [], ◌∷◌, refl, ap, sym, subst, ◌∙◌, arith, Option, None, Some}
-use Rattle.std.specs.Prelude.{◌==◌, nat_lt, IsTrue, IsNone, All, AllPairs, Contains, if◌then◌else◌}
-use Rattle.std.specs.List.{list_any, prefix_len, insert}
+use Rattle.std.proofs.Common.{◌≡◌, ℕ, ◌<◌, ◌&&◌, ◌||◌, ⊎_elim, Bool, true, false, List, [], ◌∷◌, refl, ap, sym, subst, ◌∙◌, arith, Some}
+use Rattle.std.specs.Prelude.{◌==◌, nat_lt, IsTrue, IsNone, AllPairs, Contains, if◌then◌else◌}
+use Rattle.std.specs.List.{list_any, prefix_len}
 use Rattle.std.proofs.lemmas.Bool.Decides.{nat_tests}
-use Rattle.nk_topo.specs.Topology.{SwitchPorts, Link, Topology, IsTopology, AreLinks, placed, starts_below, is_port, is_switch, is_target, link_from, target_among, with_sorted, with_link}
+use Rattle.nk_topo.specs.Topology.{SwitchPorts, Link, Topology, IsTopology, starts_below, is_port, is_switch, is_target, link_from, target_among, with_sorted, with_link}
 use Rattle.nk_topo.proofs.Members.{In, InOrder, in_from_contains, contains_from_in, all_from_members, members_from_all, order_from_pairs, pairs_from_order, in_placed}
 use Rattle.nk_topo.proofs.Orders.{order_placed, any_insert, fails_for}
 

@@ -1,6 +1,6 @@
 -- A topology as a plain value: switches with their ports, and links from port to port (NetKAT: Anderson et al., POPL
 -- 2014, section 3, where the topology is a policy over switches and ports).
-use Rattle.std.specs.Prelude.{◌≡◌, ℕ, ◌==◌, ◌<◌, ◌⊎◌, ◌&&◌, ◌||◌, Bool, false, IsTrue, Option, Some, None, is_none, if◌then◌else◌, nat_lt, List, [], ◌∷◌, slice_index, map, All, AllPairs, Contains}
+use Rattle.std.specs.Prelude.{◌≡◌, ℕ, ◌==◌, ◌<◌, ◌&&◌, ◌||◌, Bool, false, IsTrue, Option, Some, None, is_none, if◌then◌else◌, nat_lt, List, [], ◌∷◌, slice_index, map, All, AllPairs, Contains}
 use Rattle.std.specs.List.{list_any, prefix_len, insert}
 
 pub record SwitchPorts : Type 0 where

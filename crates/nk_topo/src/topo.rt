@@ -8,6 +8,7 @@ ghost use Rattle.nk_topo.specs.Answers.{Returns, switch_answer, link_answer};
 
 use crate::search::{find_in, link_place, place_in, repeats, sorted};
 use std::alloc::{AllocError, Global};
+use std::collections::HashSet;
 use std::marker::Model;
 use thiserror::Error;
 
@@ -51,18 +52,19 @@ pub struct Topo {
     numbers: Vec<u16>,
     ports: Vec<Vec<u16>>,
     links: Vec<(u16, u16, u16, u16)>,
+    targets: HashSet<(u16, u16)>,
 }
 
 impl Model for Topo {
     ghost use Rattle.std.specs.Prelude.{map};
     ghost use Rattle.nk_topo.specs.Topology.{Topology};
-    ghost use Rattle.nk_topo.specs.Inside.{topology_with, IsInside};
+    ghost use Rattle.nk_topo.specs.Inside.{topology_with, IsHeld};
 
     ghost Value = { Topology };
 
     ghost view = { λ t. topology_with t.numbers.items (map (λ p. p.items) t.ports.items) t.links.items };
 
-    ghost invariant = { λ t. IsInside t.numbers.items (map (λ p. p.items) t.ports.items) t.links.items };
+    ghost invariant = { λ t. IsHeld t.numbers.items (map (λ p. p.items) t.ports.items) t.links.items t.targets.keys };
 }
 
 impl Topo {
@@ -74,6 +76,7 @@ impl Topo {
             numbers: Vec::new(alloc),
             ports: Vec::new(alloc),
             links: Vec::new(alloc),
+            targets: HashSet::new(alloc),
         })
     }
 
@@ -134,7 +137,7 @@ impl Topo {
     }
 
     /// Whether the switch is declared.
-    fn is_switch(&self, n: u16) -> bool
+    pub fn is_switch(&self, n: u16) -> bool
         ensures { result ≡ declared.is_switch self.now n }
     {
         find_in(self.numbers.as_slice(), n).is_some()
@@ -144,7 +147,7 @@ impl Topo {
     fn is_target(&self, sw: u16, pt: u16) -> bool
         ensures { result ≡ declared.is_target self.now sw pt }
     {
-        self.links.iter().any(|link| link.2 == sw && link.3 == pt)
+        self.targets.contains(&(sw, pt))
     }
 
     /// Declares a switch with its ports, in any order.
@@ -217,7 +220,9 @@ impl Topo {
         ensures err { OnErr result (self.new ≡ self.old) }
     {
         let place = link_place(self.links.as_slice(), link.0, link.1);
-        self.links.insert(place, link)?;
+        self.links.reserve(1)?;
+        self.targets.insert((link.2, link.3))?;
+        self.links.insert(place, link).unwrap();
         Ok(())
     }
 
@@ -229,10 +234,12 @@ impl Topo {
         let numbers = Vec::from_slice(alloc, self.numbers.as_slice())?;
         let ports = copies(alloc, self.ports.as_slice())?;
         let links = Vec::from_slice(alloc, self.links.as_slice())?;
+        let targets = self.targets.clone()?;
         Ok(Topo {
             numbers,
             ports,
             links,
+            targets,
         })
     }
 }

@@ -9,7 +9,7 @@ use Rattle.nk_names.proofs.build.+build.Given as goal
 -- the parts made so far, then those that are left under their numbers, are all
 abbrev pub invariant-all_built-loop-q : goal.invariant-all_built-loop-q
 invariant-all_built-loop-q l =
-    (joined (trees_of l.out.items) (all_marked_from (meant l.names.fields (lets_of l.names.lets.entries.items) (drop l.q-index l.parts)) (l.before + 1))
-    ≡ all_marked_from (meant l.names.fields (lets_of l.names.lets.entries.items) l.parts) (l.fn.before + 1))
-    × (l.before + dups_of_all (meant l.names.fields (lets_of l.names.lets.entries.items) (drop l.q-index l.parts))
-    ≡ l.fn.before + dups_of_all (meant l.names.fields (lets_of l.names.lets.entries.items) l.parts))
+    (joined (trees_of l.out.items) (all_marked_from (meant l.fields (lets_of l.lets.entries.items) (drop l.q-index l.parts)) (l.before + 1))
+    ≡ all_marked_from (meant l.fields (lets_of l.lets.entries.items) l.parts) (l.fn.before + 1))
+    × (l.before + dups_of_all (meant l.fields (lets_of l.lets.entries.items) (drop l.q-index l.parts))
+    ≡ l.fn.before + dups_of_all (meant l.fields (lets_of l.lets.entries.items) l.parts))

@@ -8,5 +8,5 @@ use Rattle.nk_names.proofs.check.+depth.Given as goal
 abbrev pub invariant-deepest-loop-q : goal.invariant-deepest-loop-q
 invariant-deepest-loop-q l =
     (l.most ≤ 18446744073709551615)
-    × (min (max l.most (depths_of (policies_for l.names.fields (lets_of l.names.lets.entries.items) (trees_of (drop l.q-index l.parts))))) 18446744073709551615
-    ≡ min (depths_of (policies_for l.names.fields (lets_of l.names.lets.entries.items) (trees_of l.parts))) 18446744073709551615)
+    × (min (max l.most (depths_of (policies_for l.fields (lets_of l.lets.entries.items) (trees_of (drop l.q-index l.parts))))) 18446744073709551615
+    ≡ min (depths_of (policies_for l.fields (lets_of l.lets.entries.items) (trees_of l.parts))) 18446744073709551615)

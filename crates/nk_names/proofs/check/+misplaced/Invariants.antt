@@ -6,5 +6,5 @@ use Rattle.nk_names.proofs.check.+misplaced.Given as goal
 -- the first fault is among the parts that are left
 abbrev pub invariant-first_misplaced_among-loop-q : goal.invariant-first_misplaced_among-loop-q
 invariant-first_misplaced_among-loop-q l =
-    misplaced_among l.names.fields (lets_of l.names.lets.entries.items) (trees_of (drop l.q-index l.parts))
-    ≡ misplaced_among l.names.fields (lets_of l.names.lets.entries.items) (trees_of l.parts)
+    misplaced_among l.fields (lets_of l.lets.entries.items) (trees_of (drop l.q-index l.parts))
+    ≡ misplaced_among l.fields (lets_of l.lets.entries.items) (trees_of l.parts)

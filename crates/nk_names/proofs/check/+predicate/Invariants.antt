@@ -7,5 +7,5 @@ use Rattle.nk_names.proofs.check.+predicate.Given as goal
 -- all parts are predicates where those that are left are
 abbrev pub invariant-are_predicates-loop-q : goal.invariant-are_predicates-loop-q
 invariant-are_predicates-loop-q l =
-    are_predicates (policies_for l.names.fields (lets_of l.names.lets.entries.items) (trees_of (drop l.q-index l.parts)))
-    ≡ are_predicates (policies_for l.names.fields (lets_of l.names.lets.entries.items) (trees_of l.parts))
+    are_predicates (policies_for l.fields (lets_of l.lets.entries.items) (trees_of (drop l.q-index l.parts)))
+    ≡ are_predicates (policies_for l.fields (lets_of l.lets.entries.items) (trees_of l.parts))

@@ -8,5 +8,5 @@ use Rattle.nk_names.proofs.check.+size.Given as goal
 abbrev pub invariant-total_size-loop-q : goal.invariant-total_size-loop-q
 invariant-total_size-loop-q l =
     (l.total ≤ 18446744073709551615)
-    × (min (l.total + sizes_of (policies_for l.names.fields (lets_of l.names.lets.entries.items) (trees_of (drop l.q-index l.parts)))) 18446744073709551615
-    ≡ min (sizes_of (policies_for l.names.fields (lets_of l.names.lets.entries.items) (trees_of l.parts))) 18446744073709551615)
+    × (min (l.total + sizes_of (policies_for l.fields (lets_of l.lets.entries.items) (trees_of (drop l.q-index l.parts)))) 18446744073709551615
+    ≡ min (sizes_of (policies_for l.fields (lets_of l.lets.entries.items) (trees_of l.parts))) 18446744073709551615)

@@ -1,11 +1,9 @@
-use Rattle.std.proofs.Common.{◌≡◌, ℕ, ◌+◌, Bool, not, None, Some, [], ◌∷◌, ◌++◌, refl, get_or, drop, sym, ap, ◌∙◌, arith}
-use Rattle.std.specs.Prelude.{nat_eq, ◌==◌}
-use Rattle.std.specs.List.{list_any}
+use Rattle.std.proofs.Common.{◌≡◌, ◌+◌, not, Some, [], ◌∷◌, ◌++◌, refl, get_or, drop, sym, ap, ◌∙◌, arith}
+use Rattle.std.specs.Prelude.{nat_eq}
 use Rattle.std.specs.HashSet.{contains}
 use Rattle.std.proofs.lemmas.Grind.{common_steps}
 use Rattle.std.proofs.lemmas.List.Folds.{list_any-append}
 use Rattle.nk_grammar.specs.declared.ast.Number.{Number}
-use Rattle.nk_names.specs.Meant.{above, fault_if}
 use Rattle.nk_names.specs.ProgramOf.{ports_fault, IsFirst}
 use Rattle.nk_names.proofs.Declarations.{is_first, port_twice, port_fits, stands_before, refused_with}
 use Rattle.nk_names.proofs.Finding.{rest_is}

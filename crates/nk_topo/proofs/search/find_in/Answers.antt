@@ -1,4 +1,4 @@
-use Rattle.std.proofs.Common.{arith, sym, ◌∙◌}
+use Rattle.std.proofs.Common.{arith, sym}
 use Rattle.nk_topo.proofs.Places.{position_found, position_missed}
 use Rattle.nk_topo.proofs.search.find_in.Goals as goal
 use Rattle.nk_topo.proofs.search.find_in.Goals.{else-place-numbers-via-then-place-numbers+else-numbers-place, else-place-numbers-via-else-place-numbers}

@@ -1,5 +1,5 @@
 use Rattle.std.proofs.Common.{arith, sym}
-use Rattle.nk_topo.proofs.Orders.{double_more, double_found, double_nowhere}
+use Rattle.nk_topo.proofs.Orders.{double_more, double_nowhere}
 use Rattle.nk_topo.proofs.search.repeats.Goals as goal
 
 pub loop-i-preserved : goal.loop-i-preserved

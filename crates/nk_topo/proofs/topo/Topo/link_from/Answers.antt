@@ -1,8 +1,8 @@
-use Rattle.std.proofs.Common.{◌≡◌, ℕ, ◌&&◌, Bool, true, false, Option, None, Some, arith, sym, ◌∙◌, ap}
+use Rattle.std.proofs.Common.{◌≡◌, ◌&&◌, true, false, None, Some, arith, sym, ◌∙◌, ap}
 use Rattle.std.specs.Prelude.{◌==◌, map, if◌then◌else◌}
 use Rattle.std.specs.List.{prefix_len}
 use Rattle.std.proofs.lemmas.Bool.Decides.{nat_tests}
-use Rattle.nk_topo.specs.Topology.{link_from, starts_below}
+use Rattle.nk_topo.specs.Topology.{starts_below}
 use Rattle.nk_topo.specs.Inside.{link_of}
 use Rattle.nk_topo.proofs.Insides.{link_found, link_missed}
 use Rattle.nk_topo.proofs.topo.Topo.link_from.Goals as goal
@@ -12,7 +12,7 @@ pub returns-then-m-pt : goal.returns-then-m-pt
 returns-then-m-pt c =
     let at =
     link_found c.self.inside.numbers.items (map (λ p. p.items) c.self.inside.ports.items) c.self.inside.links.items c.args.self.now
-    c.link_place-place.result c.args.sw c.args.pt c.index.result.now c.self.invariant c.self.view_is
+    c.link_place-place.result c.args.sw c.args.pt c.index.result.now c.self.invariant.inside c.self.view_is
     (c.link_place-place.ensures.place ∙ ap (λ l. prefix_len (starts_below c.args.sw c.args.pt) (map link_of l)) c.as_slice.ensures.value)
     (omega arith) c.index.ensures in
     let both : ((c.index.result.now.0 == c.args.sw) && (c.index.result.now.1 == c.args.pt)) ≡ true = grind (arith, nat_tests) in
@@ -22,7 +22,7 @@ pub returns-else-a-sw : goal.returns-else-a-sw
 returns-else-a-sw c =
     let at =
     link_found c.self.inside.numbers.items (map (λ p. p.items) c.self.inside.ports.items) c.self.inside.links.items c.args.self.now
-    c.link_place-place.result c.args.sw c.args.pt c.index.result.now c.self.invariant c.self.view_is
+    c.link_place-place.result c.args.sw c.args.pt c.index.result.now c.self.invariant.inside c.self.view_is
     (c.link_place-place.ensures.place ∙ ap (λ l. prefix_len (starts_below c.args.sw c.args.pt) (map link_of l)) c.as_slice.ensures.value)
     (omega arith) c.index.ensures in
     let other : ((c.index.result.now.0 == c.args.sw) && (c.index.result.now.1 == c.args.pt)) ≡ false =
@@ -35,6 +35,6 @@ returns-else-a-sw c =
 pub returns-else-place-len : goal.returns-else-place-len
 returns-else-place-len c =
     sym (link_missed c.self.inside.numbers.items (map (λ p. p.items) c.self.inside.ports.items) c.self.inside.links.items c.args.self.now
-    c.link_place-place.result c.args.sw c.args.pt c.self.invariant c.self.view_is
+    c.link_place-place.result c.args.sw c.args.pt c.self.invariant.inside c.self.view_is
     (c.link_place-place.ensures.place ∙ ap (λ l. prefix_len (starts_below c.args.sw c.args.pt) (map link_of l)) c.as_slice.ensures.value)
     (omega arith))

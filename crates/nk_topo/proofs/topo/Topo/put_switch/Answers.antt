@@ -9,7 +9,7 @@ use Rattle.nk_topo.proofs.topo.Topo.put_switch.Goals.{After-unwrap}
 
 pub place_in-place-requires : goal.place_in-place-requires
 place_in-place-requires c =
-    subst (λ ns. AllPairs {X = ℕ} (λ p q. p < q) ns) (sym c.as_slice.ensures.value) (numbers_rise _ _ _ c.self.invariant)
+    subst (λ ns. AllPairs {X = ℕ} (λ p q. p < q) ns) (sym c.as_slice.ensures.value) (numbers_rise _ _ _ c.self.invariant.inside)
 
 -- the new parts, and the topology that they make
 put : (c : After-unwrap) →
@@ -18,7 +18,7 @@ put : (c : After-unwrap) →
     ≡ with_sorted c.args.self.now c.args.n c.args.ports.items)
 put c =
     inside_with_switch (λ p. p.items) c.self.inside.numbers.items c.insert-2.new.self.items c.self.inside.ports.items c.insert.new.self.items
-    c.self.inside.links.items c.args.self.now c.place_in-place.result c.args.n c.args.ports c.self.invariant c.self.view_is
+    c.self.inside.links.items c.args.self.now c.place_in-place.result c.args.n c.args.ports c.self.invariant.inside c.self.view_is
     (c.place_in-place.ensures.place ∙ ap (λ l. prefix_len (λ m. nat_lt m c.args.n) l) c.as_slice.ensures.value)
     (c.insert-2.ensures.items
     ∙ ap (λ r. if is_ok r then insert c.reserve.new.self.items c.place_in-place.result c.args.n else c.reserve.new.self.items) c.unwrap.ensures
@@ -26,7 +26,7 @@ put c =
     c.in_ok-insert.ensures.items c.requires.new c.requires.ascend
 
 pub invariant_of-self-2 : goal.invariant_of-self-2
-invariant_of-self-2 c = (put c).0
+invariant_of-self-2 c = record { inside = (put c).0; targets = c.self.invariant.targets }
 
 pub returns-clause-ok : goal.returns-clause-ok
 returns-clause-ok c = (put c).1

@@ -5,4 +5,4 @@ use Rattle.nk_topo.proofs.topo.Topo.switches.Goals as goal
 
 pub returns-clause-numbers : goal.returns-clause-numbers
 returns-clause-numbers c =
-    c.as_slice.ensures.value ∙ sym (numbers_are _ _ c.self.invariant.paired) ∙ ap numbers_of c.self.view_is
+    c.as_slice.ensures.value ∙ sym (numbers_are _ _ c.self.invariant.inside.paired) ∙ ap numbers_of c.self.view_is
