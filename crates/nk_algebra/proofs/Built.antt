@@ -47,7 +47,7 @@ each_push P e c [] h k = (k, tt)
 each_push P e c (p ∷ ps) h k = (h.0, each_push P e c ps h.1 k)
 
 -- parts that serve a value are some
-some_ends : (to v : ℕ) (ps : List (ℕ × ℕ)) → Ends to 0 ps → v < to → 0 < length ps
+pub some_ends : (to v : ℕ) (ps : List (ℕ × ℕ)) → Ends to 0 ps → v < to → 0 < length ps
 some_ends to v [] h l = omega (arith, h)
 some_ends to v (p ∷ ps) h l = omega arith
 

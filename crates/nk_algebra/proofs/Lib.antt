@@ -9,3 +9,8 @@ pub mod Acts
 pub mod Members
 pub mod Unite
 pub mod Predicates
+pub mod Laters
+pub mod OverPlaces
+pub mod Places
+pub mod Chosen
+pub mod Shorts

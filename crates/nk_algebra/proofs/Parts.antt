@@ -11,11 +11,11 @@ use Rattle.nk_store.proofs.Stores.{case_child, case_below}
 use Rattle.nk_algebra.specs.Subs.{sub_node, sub, found_in, IsPart, IsSplit, IsFirst}
 
 -- a value up to the first part's end finds that part
-found-first : (e p : ℕ × ℕ) (ps : List (ℕ × ℕ)) (v : ℕ) → v ≤ p.0 → found_in e (p ∷ ps) v ≡ p
+pub found-first : (e p : ℕ × ℕ) (ps : List (ℕ × ℕ)) (v : ℕ) → v ≤ p.0 → found_in e (p ∷ ps) v ≡ p
 found-first e p ps v h = let t : leb v p.0 ≡ true = grind (arith, nat_tests) in rw t refl
 
 -- a value past the first part's end finds one of the rest
-found-rest : (e p : ℕ × ℕ) (ps : List (ℕ × ℕ)) (v : ℕ) → p.0 < v → found_in e (p ∷ ps) v ≡ found_in p ps v
+pub found-rest : (e p : ℕ × ℕ) (ps : List (ℕ × ℕ)) (v : ℕ) → p.0 < v → found_in e (p ∷ ps) v ≡ found_in p ps v
 found-rest e p ps v h = let t : leb v p.0 ≡ false = grind (arith, nat_tests) in rw t refl
 
 -- the part p serves the values from v to its end

@@ -4,3 +4,4 @@ pub mod Spans
 pub mod Seqs
 pub mod Unions
 pub mod Predicates
+pub mod Choices

@@ -12,3 +12,8 @@ AreIds st ds = (k : ℕ) → k < length ds → IsId st (slice_index ds k)
 abbrev pub unions : Held → List ℕ → ℕ → ℕ → List ℕ → List Out
 unions st ds from zero pk = []
 unions st ds from (suc n) pk = merged (look st (slice_index ds from) pk) (unions st ds (from + 1) n pk)
+
+-- what F makes of n places from one on, as one ascending list
+abbrev pub over_places : (ℕ → List Out) → ℕ → ℕ → List Out
+over_places F from zero = []
+over_places F from (suc n) = merged (F from) (over_places F (from + 1) n)

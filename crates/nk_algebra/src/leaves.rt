@@ -1,12 +1,12 @@
 //! Operations leaf by leaf.
-ghost use Rattle.std.specs.Prelude.{◌≡◌, ◌≤◌, ◌++◌, IfOk, OnOk, OnErr, drop, length};
+ghost use Rattle.std.specs.Prelude.{◌≡◌, ℕ, ◌≤◌, [], ◌++◌, true, IfOk, IfSome, OnOk, OnErr, List as Items, drop, length};
 ghost use Rattle.nk_store.specs.Held.{IsId, look, Grows, HasLeaves};
 ghost use Rattle.nk_algebra.specs.Leaves.{merged, guarded, absent};
 ghost use Rattle.nk_algebra.specs.Predicates.{IsPredicate, Ends};
 
 use crate::pairs::{Join, merge};
 use nk_field::{Act, List};
-use nk_store::{Id, Out, Store};
+use nk_store::{Id, Node, Operation, Out, Store};
 use std::alloc::{AllocError, Global};
 use std::cmp::Ordering;
 
@@ -24,8 +24,43 @@ impl Join for Together {
 
     ghost allowed = { λ _ _. Unit {0} };
 
+    fn known(&self, st: &Store, a: Id, b: Id) -> Option<Id> {
+        if let Some(d) = united(st, a, b) {
+            return Some(d);
+        }
+        st.recall(Operation::Union, a, b)
+    }
+
+    fn keep(&self, st: &mut Store, a: Id, b: Id, d: Id) -> Result<(), AllocError> {
+        st.keep(Operation::Union, a, b, d)
+    }
+
     fn join(&self, alloc: Global, a: &[Out], b: &[Out]) -> Result<List<Out>, AllocError> {
         join_sorted(alloc, a, b)
+    }
+}
+
+/// Two diagrams together, where they are one or one of them drops each packet.
+fn united(st: &Store, a: Id, b: Id) -> Option<Id>
+    requires left { IsId st.now a }
+    requires right { IsId st.now b }
+    ensures { IfSome result (λ d. HasLeaves st.now d (λ pk. merged (look st.now a pk) (look st.now b pk))) }
+{
+    if a == b || is_nothing(st, b) {
+        st.laws();
+        return Some(a);
+    }
+    if is_nothing(st, a) { Some(b) } else { None }
+}
+
+/// Whether a diagram drops each packet.
+fn is_nothing(st: &Store, d: Id) -> bool
+    requires { IsId st.now d }
+    ensures { result ≡ true → (pk : Items ℕ) → look st.now d pk ≡ [] }
+{
+    match st.view(d) {
+        Node::Leaf(outs) => outs.is_empty(),
+        Node::Case(_, _) => false,
     }
 }
 
@@ -63,6 +98,17 @@ impl Join for Guard {
 
     ghost allowed = { λ _ _. Unit {0} };
 
+    fn known(&self, st: &Store, a: Id, b: Id) -> Option<Id> {
+        if let Some(d) = guarded_by_leaf(st, a, b) {
+            return Some(d);
+        }
+        st.recall(Operation::Both, a, b)
+    }
+
+    fn keep(&self, st: &mut Store, a: Id, b: Id, d: Id) -> Result<(), AllocError> {
+        st.keep(Operation::Both, a, b, d)
+    }
+
     fn join(&self, alloc: Global, a: &[Out], b: &[Out]) -> Result<List<Out>, AllocError> {
         let mut all = List::new(alloc);
         if a.len() > 0 {
@@ -72,10 +118,33 @@ impl Join for Guard {
     }
 }
 
+/// The second diagram where the first one is not empty, where the first one is a leaf or the second.
+fn guarded_by_leaf(st: &Store, a: Id, b: Id) -> Option<Id>
+    requires left { IsId st.now a }
+    requires right { IsId st.now b }
+    ensures { IfSome result (λ d. HasLeaves st.now d (λ pk. guarded (look st.now a pk) (look st.now b pk))) }
+{
+    if a == b {
+        return Some(b);
+    }
+    match st.view(a) {
+        Node::Leaf(outs) => Some(if outs.is_empty() { a } else { b }),
+        Node::Case(_, _) => None,
+    }
+}
+
 impl Join for Absent {
     ghost joined = { λ _. absent };
 
     ghost allowed = { λ _ _. Unit {0} };
+
+    fn known(&self, st: &Store, a: Id, b: Id) -> Option<Id> {
+        st.recall(Operation::Negate, a, b)
+    }
+
+    fn keep(&self, st: &mut Store, a: Id, b: Id, d: Id) -> Result<(), AllocError> {
+        st.keep(Operation::Negate, a, b, d)
+    }
 
     fn join(&self, alloc: Global, a: &[Out], _b: &[Out]) -> Result<List<Out>, AllocError> {
         let mut all = List::new(alloc);

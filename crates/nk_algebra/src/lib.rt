@@ -2,6 +2,7 @@
 #![tactic(auto)]
 
 mod aims;
+mod choices;
 mod constants;
 mod leaves;
 mod pairs;
@@ -12,11 +13,12 @@ mod spans;
 mod unions;
 
 pub use aims::{aim, assign};
+pub use choices::choose;
 pub use constants::{empty, identity};
 pub use leaves::{both, join_sorted, negate, union};
 pub use pairs::{Join, merge};
 pub use part::part_at;
 pub use restricts::restrict;
-pub use seqs::{after, out_count, put_after, seq, tested};
+pub use seqs::{after, out_count, put_after, seq, shift, tested};
 pub use spans::{range, span, test};
 pub use unions::union_all;

@@ -1,5 +1,5 @@
 //! Two diagrams put together leaf by leaf.
-ghost use Rattle.std.specs.Prelude.{◌≡◌, ℕ, ◌≤◌, min, IfOk, MatchOption, List as Items, slice_index};
+ghost use Rattle.std.specs.Prelude.{◌≡◌, ℕ, ◌≤◌, min, IfOk, IfSome, MatchOption, List as Items, slice_index};
 ghost use Rattle.nk_store.specs.declared.node.Out.{Out};
 ghost use Rattle.nk_store.specs.Nodes.{child_at};
 ghost use Rattle.nk_store.specs.Leaves.{Strict, Every, Suits};
@@ -17,6 +17,26 @@ pub trait Join {
 
     ghost allowed: { Self → Items ℕ → Type 0 };
 
+    /// Two diagrams put together, where that is known at once.
+    fn known(&self, _st: &Store, _a: Id, _b: Id) -> Option<Id>
+        requires left { IsId _st.now _a }
+        requires right { IsId _st.now _b }
+        ensures { IfSome result (λ d. HasLeaves _st.now d (λ pk. joined self.now (look _st.now _a pk) (look _st.now _b pk))) }
+    {
+        None
+    }
+
+    /// Keeps what two diagrams are when put together.
+    fn keep(&self, _st: &mut Store, _a: Id, _b: Id, _d: Id) -> Result<(), AllocError>
+        requires left { IsId _st.old _a }
+        requires right { IsId _st.old _b }
+        requires leaves { HasLeaves _st.old _d (λ pk. joined self.now (look _st.old _a pk) (look _st.old _b pk)) }
+        ensures { _st.new ≡ _st.old }
+    {
+        Ok(())
+    }
+
+    /// Two leaves put together.
     fn join(&self, alloc: Global, a: &[Out], b: &[Out]) -> Result<List<Out>, AllocError>
         requires left { Strict a.now }
         requires right { Strict b.now }
@@ -51,11 +71,39 @@ pub fn merge<J: Join>(st: &mut Store, j: &J, a: Id, b: Id) -> Result<Id, AllocEr
 {
     match first_field(st, a, b) {
         None => merge_leaves(st, j, a, b),
-        Some(f) => {
-            let parts = merge_parts(st, j, f, a, b)?;
-            st.case(f, parts)
-        }
+        Some(f) => merge_case(st, j, f, a, b),
     }
+}
+
+/// Two diagrams put together where one tests a field: what is known of them, else by the parts, and then kept.
+#[cycle(merge)]
+fn merge_case<J: Join>(st: &mut Store, j: &J, f: Fid, a: Id, b: Id) -> Result<Id, AllocError>
+    requires left { IsId st.old a }
+    requires right { IsId st.old b }
+    requires first { IsFirst st.old a b f }
+    requires allowed { J.allowed j.now st.old.maxes }
+    ensures grows { Grows st.old st.new }
+    ensures ok { IfOk result (λ d. HasLeaves st.new d (λ pk. J.joined j.now (look st.old a pk) (look st.old b pk))) }
+    ensures later { IfOk result (λ d. min (top st.old a) (top st.old b) ≤ top st.new d) }
+{
+    if let Some(d) = known_top(st, j, a, b) {
+        return Ok(d);
+    }
+    let parts = merge_parts(st, j, f, a, b)?;
+    let d = st.case(f, parts)?;
+    j.keep(st, a, b, d)?;
+    Ok(d)
+}
+
+/// What is known of two diagrams put together; it tests no field before both.
+fn known_top<J: Join>(st: &Store, j: &J, a: Id, b: Id) -> Option<Id>
+    requires left { IsId st.now a }
+    requires right { IsId st.now b }
+    ensures leaves { IfSome result (λ d. HasLeaves st.now d (λ pk. J.joined j.now (look st.now a pk) (look st.now b pk))) }
+    ensures later { IfSome result (λ d. min (top st.now a) (top st.now b) ≤ top st.now d) }
+{
+    st.laws();
+    j.known(st, a, b)
 }
 
 /// Both leaves put together, at diagrams that test nothing.

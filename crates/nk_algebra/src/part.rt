@@ -1,5 +1,6 @@
 //! A diagram at one value of its first field.
-ghost use Rattle.std.specs.Prelude.{◌≡◌, ℕ, ◌<◌, ◌≤◌, length, slice_index};
+ghost use Rattle.std.specs.Prelude.{◌≡◌, ℕ, ◌<◌, ◌≤◌, length, slice_index, slice_index_or};
+ghost use Rattle.nk_store.specs.Nodes.{Rises};
 ghost use Rattle.nk_store.specs.Held.{IsId, top};
 ghost use Rattle.nk_algebra.specs.Subs.{found_in, IsPart};
 
@@ -14,29 +15,34 @@ pub fn part_at(st: &Store, d: Id, f: Fid, v: u64) -> (u64, Id)
     requires within { v ≤ slice_index st.now.maxes f }
     ensures { IsPart st.now f d v result }
 {
+    let max = st.max(f);
     match st.view(d) {
         Node::Case(g, parts) => {
             if *g == f {
-                found(parts.as_slice(), v)
+                found(parts.as_slice(), max, v)
             } else {
-                (st.max(f), d)
+                (max, d)
             }
         }
-        Node::Leaf(_) => (st.max(f), d),
+        Node::Leaf(_) => (max, d),
     }
 }
 
-/// The first part whose end is not below the value.
-fn found(parts: &[(u64, Id)], v: u64) -> (u64, Id)
-    requires { 0 < length parts.now }
+/// The first part whose end is not below the value, of parts whose ends rise to the highest value.
+fn found(parts: &[(u64, Id)], max: u64, v: u64) -> (u64, Id)
+    requires rise { Rises max 0 parts.now }
+    requires within { v ≤ max }
     ensures { result ≡ found_in (0, 0) parts.now v }
 {
-    let mut last = parts[0];
-    for part in parts {
-        if v <= part.0 {
-            return *part;
-        }
-        last = *part;
-    }
-    last
+    parts[place_of(parts, max, v)]
+}
+
+/// The place of that part.
+fn place_of(parts: &[(u64, Id)], max: u64, v: u64) -> usize
+    requires rise { Rises max 0 parts.now }
+    requires within { v ≤ max }
+    ensures within { result < length parts.now }
+    ensures found { (e : ℕ × ℕ) → slice_index_or parts.now result e ≡ found_in (0, 0) parts.now v }
+{
+    parts.partition_point(|part| part.0 < v)
 }

@@ -1,21 +1,24 @@
 //! One diagram, then another one.
-ghost use Rattle.std.specs.Prelude.{◌≡◌, ℕ, ◌≤◌, ◌<◌, List as Items, [], ◌∷◌, ◌++◌, IfOk, OnOk, MatchOption, min, cond, ltb, slice_index, slice_index_or, drop, length};
+ghost use Rattle.std.specs.Prelude.{◌≡◌, ℕ, ◌≤◌, ◌<◌, List as Items, [], ◌∷◌, ◌++◌, IfOk, OnOk, MatchOption, ◌-◌, min, cond, ltb, slice_index, slice_index_or, drop, length};
 ghost use Rattle.nk_field.specs.Act.{applied};
 ghost use Rattle.nk_store.specs.Leaves.{IsActFrom};
+ghost use Rattle.nk_store.specs.Nodes.{child_at};
 ghost use Rattle.nk_store.specs.Held.{IsId, IsWhole, look, top, Grows, HasLeaves};
 ghost use Rattle.nk_algebra.specs.Leaves.{merged};
 ghost use Rattle.nk_algebra.specs.Subs.{sub, IsSplit};
-ghost use Rattle.nk_algebra.specs.Seqs.{out_after, prefixed, seq_leaf, outs_of, no_out, seq_below};
+ghost use Rattle.nk_algebra.specs.Seqs.{out_after, prefixed, seq_leaf, outs_of, no_out, out_made};
+ghost use Rattle.nk_algebra.specs.Unions.{over_places};
+ghost use Rattle.nk_algebra.specs.Choices.{AreChoices};
 ghost use Rattle.nk_algebra.specs.Predicates.{IsPredicate, Ends};
 
+use crate::choices::choose;
 use crate::constants::empty;
-use crate::leaves::{both, join_sorted, union};
+use crate::leaves::{join_sorted, union};
 use crate::pairs::{Join, merge};
 use crate::part::part_at;
 use crate::restricts::restrict;
-use crate::spans::range;
 use nk_field::{Act, Fid, List};
-use nk_store::{Id, Node, Out, Store};
+use nk_store::{Id, Node, Operation, Out, Store};
 use std::alloc::{AllocError, Global};
 
 /// Each out after an act.
@@ -60,7 +63,7 @@ fn with_after(alloc: Global, act: &Act, o: &Out, all: &List<Out>) -> Result<List
 }
 
 /// The diagram's leaf at the packet that an act makes.
-fn shift(st: &mut Store, d: Id, act: &Act) -> Result<Id, AllocError>
+pub fn shift(st: &mut Store, d: Id, act: &Act) -> Result<Id, AllocError>
     requires { IsId st.old d }
     ensures grows { Grows st.old st.new }
     ensures ok { IfOk result (λ r. HasLeaves st.new r (λ pk. look st.old d (applied act.now pk))) }
@@ -84,6 +87,10 @@ pub fn after(st: &mut Store, d: Id, act: &Act) -> Result<Id, AllocError>
     ensures grows { Grows st.old st.new }
     ensures ok { IfOk result (λ r. HasLeaves st.new r (λ pk. prefixed act.now (look st.old d (applied act.now pk)))) }
 {
+    if act.as_slice().is_empty() {
+        st.laws();
+        return Ok(d);
+    }
     let to = shift(st, d, act)?;
     put_after(st, to, act)
 }
@@ -120,10 +127,30 @@ fn sequence(st: &mut Store, a: Id, b: Id) -> Result<Id, AllocError>
     ensures grows { Grows st.old st.new }
     ensures ok { IfOk result (λ d. HasLeaves st.new d (λ pk. seq_leaf (look st.old a pk) (look st.old b) pk)) }
 {
-    match tested(st, a) {
-        None => seq_outs(st, a, b),
-        Some(f) => seq_parts(st, f, a, b),
+    if let Some(d) = st.recall(Operation::Seq, a, b) {
+        return Ok(d);
     }
+    let d = match tested(st, a) {
+        None => seq_outs(st, a, b)?,
+        Some(f) => seq_case(st, f, a, b)?,
+    };
+    st.keep(Operation::Seq, a, b, d)?;
+    Ok(d)
+}
+
+/// The sequence at a diagram that tests a field.
+#[cycle(seq)]
+fn seq_case(st: &mut Store, f: Fid, a: Id, b: Id) -> Result<Id, AllocError>
+    requires left { IsId st.old a }
+    requires right { IsId st.old b }
+    requires field { f < 18 }
+    requires first { top st.old a ≡ f }
+    requires split { IsSplit st.old f a }
+    ensures grows { Grows st.old st.new }
+    ensures ok { IfOk result (λ d. HasLeaves st.new d (λ pk. seq_leaf (look st.old a pk) (look st.old b) pk)) }
+{
+    let parts = seq_parts(st, f, a, b)?;
+    choose(st, f, parts)
 }
 
 /// The field that a diagram tests first.
@@ -183,38 +210,53 @@ fn seq_outs(st: &mut Store, a: Id, b: Id) -> Result<Id, AllocError>
     ensures grows { Grows st.old st.new }
     ensures ok { IfOk result (λ d. HasLeaves st.new d (λ pk. seq_leaf (look st.old a pk) (look st.old b) pk)) }
 {
-    let mut i = out_count(st, a);
-    let mut all = empty(st)?;
-    while i > 0 {
-        i -= 1;
-        let one = after_at(st, a, i, b)?;
-        all = union(st, one, all)?;
+    let n = out_count(st, a);
+    if n == 0 {
+        return empty(st);
     }
-    Ok(all)
+    seq_some(st, a, b, 0, n)
 }
 
-/// The sequence at a diagram that tests a field.
+/// The sequence for some of a leaf's outs, by halves.
+#[tactic(auto, using(crate::proofs::OverPlaces::outs_within))]
+fn seq_some(st: &mut Store, a: Id, b: Id, from: usize, to: usize) -> Result<Id, AllocError>
+    requires left { IsId st.old a }
+    requires right { IsId st.old b }
+    requires some { from < to }
+    requires within { to ≤ length (outs_of st.old a) }
+    ensures grows { Grows st.old st.new }
+    ensures ok { IfOk result (λ d. HasLeaves st.new d (λ pk. over_places (out_made (outs_of st.old a) (look st.old b) pk) from (to - from))) }
+{
+    if to - from == 1 {
+        return after_at(st, a, from, b);
+    }
+    let middle = from + (to - from) / 2;
+    let left = seq_some(st, a, b, from, middle)?;
+    let right = seq_some(st, a, b, middle, to)?;
+    union(st, left, right)
+}
+
+/// The sequence at a diagram that tests a field, part by part.
 #[cycle(seq)]
-fn seq_parts(st: &mut Store, f: Fid, a: Id, b: Id) -> Result<Id, AllocError>
+fn seq_parts(st: &mut Store, f: Fid, a: Id, b: Id) -> Result<List<(u64, Id)>, AllocError>
     requires left { IsId st.old a }
     requires right { IsId st.old b }
     requires field { f < 18 }
     requires first { top st.old a ≡ f }
     requires split { IsSplit st.old f a }
     ensures grows { Grows st.old st.new }
-    ensures ok { IfOk result (λ d. HasLeaves st.new d (λ pk. seq_leaf (look st.old a pk) (look st.old b) pk)) }
+    ensures parts { IfOk result (λ ps. AreChoices st.new f ps) }
+    ensures ok { IfOk result (λ ps. (v : ℕ) (pk : Items ℕ) → IsWhole pk → look st.new (child_at 0 ps v) pk ≡ seq_leaf (look st.old (sub st.old f v a) pk) (look st.old b) pk) }
 {
     let max = st.max(f);
-    let mut all = empty(st)?;
+    let mut parts = List::new(st.alloc());
     let mut from = 0;
     loop {
         let (end, child) = part_at(st, a, f, from);
         let made = sequence(st, child, b)?;
-        let guard = range(st, f, from, end)?;
-        let part = both(st, guard, made)?;
-        all = union(st, all, part)?;
+        parts.push((end, made))?;
         if end == max {
-            return Ok(all);
+            return Ok(parts);
         }
         from = end + 1;
     }
@@ -224,7 +266,7 @@ fn seq_parts(st: &mut Store, f: Fid, a: Id, b: Id) -> Result<Id, AllocError>
 mod tests {
     use super::*;
     use crate::aims::{aim, assign};
-    use crate::leaves::negate;
+    use crate::leaves::{both, negate};
     use crate::spans::test;
     use crate::unions::union_all;
     use nk_field::{Fields, Packet};

@@ -1,18 +1,16 @@
 -- Diagrams whose acts assign exactly the fields that they change.
-use Rattle.std.proofs.Common.{◌≡◌, ℕ, zero, suc, ◌+◌, ◌-◌, ◌<◌, ◌≤◌, min, Bool, true, false, cond, eqb, ltb, List, [], ◌∷◌, length, refl, sym, ◌∙◌, ap, subst, arith, get_or, drop}
-use Rattle.std.proofs.lemmas.Bool.Decides.{nat_tests}
+use Rattle.std.proofs.Common.{◌≡◌, ℕ, zero, suc, ◌+◌, ◌-◌, ◌<◌, ◌≤◌, min, Bool, true, false, cond, eqb, List, [], ◌∷◌, length, refl, sym, ◌∙◌, ap, subst, arith, get_or, drop}
 use Rattle.std.proofs.lemmas.List.{drop_more, get_or_default}
 use Rattle.nk_field.specs.Act.{act_then}
 use Rattle.nk_field.proofs.Thens.{lay-less}
-use Rattle.nk_store.specs.declared.node.Out.{Out}
 use Rattle.nk_store.specs.Leaves.{IsActFrom}
 use Rattle.nk_store.specs.Held.{Held, IsId, look, Grows, HasLeaves}
-use Rattle.nk_store.proofs.Stores.{grows_on}
-use Rattle.nk_algebra.specs.Leaves.{merged, guarded}
-use Rattle.nk_algebra.specs.Seqs.{prefixed, outs_of, in_span}
-use Rattle.nk_algebra.specs.Subs.{sub, IsPart, IsSplit}
-use Rattle.nk_algebra.proofs.Sequences.{step_at, part_serves, outs_grow}
-use Rattle.nk_determ.specs.Exact.{exact, exact_out, split_leaf}
+use Rattle.nk_algebra.specs.Seqs.{prefixed, outs_of, no_out}
+use Rattle.nk_algebra.specs.Unions.{over_places}
+use Rattle.nk_algebra.proofs.OverPlaces.{places_gathered}
+use Rattle.nk_algebra.proofs.Shorts.{no_items}
+use Rattle.nk_algebra.proofs.Sequences.{outs_grow}
+use Rattle.nk_determ.specs.Exact.{exact, exact_out, split_leaf, out_split}
 
 -- an assignment before an act of later fields
 then_one : (maxes : List ℕ) (f n : ℕ) (g : List (ℕ × ℕ)) → IsActFrom maxes (f + 1) g →
@@ -96,74 +94,31 @@ set_later maxes sets i t f n e acts pos le at l k m =
     let same : f ≡ (get_or sets (i - 1) e).0 = ap (λ (s : ℕ × ℕ). s.0) (at ∙ is) in
     omega (arith, fields_ascend maxes 0 sets k (i - 1) e acts m (omega arith), same, l)
 
--- the part of a diagram made from the leaves, where the field's value is below to
-abbrev pub below : (List ℕ → List Out → List Out) → Held → ℕ → ℕ → ℕ → List ℕ → List Out
-below S old f a to pk = cond (ltb (min (get_or pk f 0) (get_or old.maxes f 0)) to) (S pk (look old (sub old f (get_or pk f 0) a) pk)) []
+-- what is split of some outs is the same in a store that grew
+pub outs_split_grown : (old st new : Held) (d from n r : ℕ) → Grows old st → IsId old d →
+    HasLeaves new r (λ pk. over_places (out_split st.maxes (outs_of st d) pk) from n) →
+    HasLeaves new r (λ pk. over_places (out_split old.maxes (outs_of old d) pk) from n)
+outs_split_grown old st new d from n r g i h =
+    subst (λ os. HasLeaves new r (λ pk. over_places (out_split old.maxes os pk) from n)) (outs_grow old st d g i)
+    (subst (λ ms. HasLeaves new r (λ pk. over_places (out_split ms (outs_of st d) pk) from n)) g.maxes h)
 
--- one interval more
-pub below_push : (S : List ℕ → List Out → List Out) (old st s1 s2 s3 s4 : Held) (f a from : ℕ) (p : ℕ × ℕ) (all made guard part new : ℕ) →
-    Grows old st → Grows st s1 → Grows s1 s2 → Grows s2 s3 → IsId old a → IsSplit old f a →
-    IsPart st f a from p
-    → HasLeaves st all (λ pk. below S old f a from pk)
-    → HasLeaves s1 made (λ pk. S pk (look st p.1 pk))
-    → HasLeaves s2 guard (λ pk. in_span (get_or s1.maxes f 0) from p.0 (get_or pk f 0))
-    → HasLeaves s3 part (λ pk. guarded (look s2 guard pk) (look s2 made pk))
-    → HasLeaves s4 new (λ pk. merged (look s3 all pk) (look s3 part pk))
-    → HasLeaves s4 new (λ pk. below S old f a (p.0 + 1) pk)
-below_push S old st s1 s2 s3 s4 f a from p all made guard part new g0 g1 g2 g3 ia s pt ga gm gg gp gn = record {
-  id = gn.id;
+-- what is split of all outs is the leaf split
+pub outs_split_all : (old st : Held) (d n r : ℕ) → n ≡ length (outs_of old d) →
+    ((pk : List ℕ) → look old d pk ≡ outs_of old d) →
+    HasLeaves st r (λ pk. over_places (out_split old.maxes (outs_of old d) pk) 0 n) →
+    HasLeaves st r (λ pk. split_leaf old.maxes pk (look old d pk))
+outs_split_all old st d n r is leaf h = record {
+  id = h.id;
   leaf = λ pk w.
-      let v = get_or pk f 0 in
-      let high = get_or old.maxes f 0 in
-      let same_high : get_or s1.maxes f 0 ≡ high = ap (λ ms. get_or ms f 0) (g1.maxes ∙ g0.maxes) in
-      let L = S pk (look st p.1 pk) in
-      let R = S pk (look old (sub old f v a) pk) in
-      let g13 = grows_on s1 s2 s3 g2 g3 in
-      let is_all : look s3 all pk ≡ below S old f a from pk = (grows_on st s1 s3 g1 g13).leaves all pk ga.id ∙ ga.leaf pk w in
-      let is_made : look s2 made pk ≡ L = g2.leaves made pk gm.id ∙ gm.leaf pk w in
-      let is_guard : look s2 guard pk ≡ in_span high from p.0 v = gg.leaf pk w ∙ ap (λ h. in_span h from p.0 v) same_high in
-      let is_part : look s3 part pk ≡ guarded (look s2 guard pk) L = gp.leaf pk w ∙ ap (λ y. guarded (look s2 guard pk) y) is_made in
-      gn.leaf pk w ∙ step_at from p.0 (min v high) (look s2 guard pk) (look s3 all pk) (look s3 part pk) L R _ pt.from is_guard is_all is_part
-      (λ l m. ap (λ x. S pk x) (part_serves old st f a from p pk g0 ia s pt l m));
+      h.leaf pk w ∙ places_gathered (λ o. exact_out old.maxes pk o ∷ []) (outs_of old d) no_out 0 n (omega (arith, is))
+      ∙ ap (λ os. split_leaf old.maxes pk os) (sym (leaf pk));
 }
 
--- nothing, below the value 0
-pub below_none : (S : List ℕ → List Out → List Out) (old st : Held) (f a d : ℕ) → HasLeaves st d (λ pk. []) →
-    HasLeaves st d (λ pk. below S old f a 0 pk)
-below_none S old st f a d g = record { id = g.id; leaf = λ pk w. g.leaf pk w ∙ none pk }
-  where
-    none : (pk : List ℕ) → [] ≡ below S old f a 0 pk
-    none pk = let t : ltb (min (get_or pk f 0) (get_or old.maxes f 0)) 0 ≡ false = grind (arith, nat_tests) in sym (ap (λ c. cond c (S pk (look old (sub old f (get_or pk f 0) a) pk)) []) t)
-
--- all values
-pub below_all : (S : List ℕ → List Out → List Out) (old st : Held) (f a d e : ℕ) → IsSplit old f a →
-    e ≡ get_or old.maxes f 0 → HasLeaves st d (λ pk. below S old f a (e + 1) pk) →
-    HasLeaves st d (λ pk. S pk (look old a pk))
-below_all S old st f a d e s is g = record { id = g.id; leaf = λ pk w. g.leaf pk w ∙ full pk }
-  where
-    full : (pk : List ℕ) → below S old f a (e + 1) pk ≡ S pk (look old a pk)
-    full pk =
-        let t : ltb (min (get_or pk f 0) (get_or old.maxes f 0)) (e + 1) ≡ true = grind (arith, nat_tests) in
-        ap (λ c. cond c (S pk (look old (sub old f (get_or pk f 0) a) pk)) []) t ∙ ap (λ x. S pk x) (sym (s.leaf pk))
-
--- one out more of a leaf
-pub outs_step : (old st s1 s2 : Held) (d i one all new : ℕ) (e : Out) → 0 < i → i ≤ length (outs_of old d) →
-    Grows old st → Grows st s1 → IsId old d
-    → HasLeaves st all (λ pk. split_leaf old.maxes pk (drop i (outs_of old d)))
-    → HasLeaves s1 one (λ pk. exact_out st.maxes pk (get_or (outs_of st d) (i - 1) e) ∷ [])
-    → HasLeaves s2 new (λ pk. merged (look s1 one pk) (look s1 all pk))
-    → HasLeaves s2 new (λ pk. split_leaf old.maxes pk (drop (i - 1) (outs_of old d)))
-outs_step old st s1 s2 d i one all new e pos le g h id ga go gn = record {
-  id = gn.id;
-  leaf = λ pk w.
-      let outs = outs_of old d in
-      let o = get_or outs (i - 1) e in
-      let next : (i - 1) + 1 ≡ i = omega arith in
-      let rest : drop (i - 1) outs ≡ o ∷ drop i outs = drop_more outs (i - 1) e (omega arith) ∙ ap (λ k. o ∷ drop k outs) next in
-      let is_one : look s1 one pk ≡ exact_out old.maxes pk o ∷ [] = go.leaf pk w ∙ ap (λ xs. exact_out st.maxes pk (get_or xs (i - 1) e) ∷ []) (outs_grow old st d g id) ∙ ap (λ ms. exact_out ms pk o ∷ []) g.maxes in
-      let is_all : look s1 all pk ≡ split_leaf old.maxes pk (drop i outs) = h.leaves all pk ga.id ∙ ga.leaf pk w in
-      gn.leaf pk w ∙ ap (λ x. merged x (look s1 all pk)) is_one ∙ ap (λ y. merged (exact_out old.maxes pk o ∷ []) y) is_all ∙ ap (λ os. split_leaf old.maxes pk os) (sym rest);
-}
+-- of no out nothing is split
+pub no_outs_split : (old st : Held) (d r : ℕ) → length (outs_of old d) ≡ 0 →
+    ((pk : List ℕ) → look old d pk ≡ outs_of old d) → HasLeaves st r (λ pk. []) →
+    HasLeaves st r (λ pk. split_leaf old.maxes pk (look old d pk))
+no_outs_split old st d r none leaf h = record { id = h.id; leaf = λ pk w. h.leaf pk w ∙ ap (λ os. split_leaf old.maxes pk os) (sym (leaf pk ∙ no_items (outs_of old d) none)) }
 
 -- a pair read by its parts
 pub pair_at : (sets : List (ℕ × ℕ)) (j : ℕ) (d e : ℕ × ℕ) → j < length sets →

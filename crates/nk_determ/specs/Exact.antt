@@ -1,24 +1,16 @@
 -- Acts that assign exactly the fields that they change.
-use Rattle.std.specs.Prelude.{◌≡◌, ℕ, cond, eqb, min, List, [], ◌∷◌, slice_index}
+pub use Rattle.nk_store.specs.Operations.{exact, exact_out, split_leaf}
+use Rattle.std.specs.Prelude.{◌≡◌, ℕ, List, [], ◌∷◌, slice_index, slice_index_or}
 use Rattle.std.specs.List.{Contains}
 use Rattle.nk_field.specs.Act.{applied}
 use Rattle.nk_store.specs.declared.node.Out.{Out}
 use Rattle.nk_store.specs.Leaves.{Every}
 use Rattle.nk_store.specs.Held.{Held, IsPacket, look}
-use Rattle.nk_algebra.specs.Leaves.{gathered}
+use Rattle.nk_algebra.specs.Seqs.{no_out}
 
--- the assignments that change the packet; a value past the highest counts as the highest
-abbrev pub exact : List ℕ → List ℕ → List (ℕ × ℕ) → List (ℕ × ℕ)
-exact maxes pk [] = []
-exact maxes pk (s ∷ ss) = cond (eqb (min (slice_index pk s.0) (slice_index maxes s.0)) s.1) (exact maxes pk ss) (s ∷ exact maxes pk ss)
-
--- the out with those assignments of its act that change the packet
-abbrev pub exact_out : List ℕ → List ℕ → Out → Out
-exact_out maxes pk o = record { act = exact maxes pk o.act; target = o.target }
-
--- each out with those assignments of its act that change the packet
-abbrev pub split_leaf : List ℕ → List ℕ → List Out → List Out
-split_leaf maxes pk os = gathered (λ o. exact_out maxes pk o ∷ []) os
+-- the out at a place with those assignments of its act that change the packet
+abbrev pub out_split : List ℕ → List Out → List ℕ → ℕ → List Out
+out_split maxes outs pk k = exact_out maxes pk (slice_index_or outs k no_out) ∷ []
 
 -- each assignment changes the packet
 abbrev pub IsExact : List ℕ → List (ℕ × ℕ) → Type 0

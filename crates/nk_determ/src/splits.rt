@@ -1,14 +1,17 @@
 //! Diagrams whose acts assign exactly the fields that they change.
-ghost use Rattle.std.specs.Prelude.{◌≡◌, ℕ, ◌<◌, ◌≤◌, ◌↔◌, ◌∷◌, [], List as Items, IfOk, cond, eqb, min, true, slice_index, slice_index_or, length, drop};
+ghost use Rattle.std.specs.Prelude.{◌≡◌, ℕ, ◌-◌, ◌<◌, ◌≤◌, ◌↔◌, ◌∷◌, [], List as Items, IfOk, cond, eqb, min, true, slice_index, slice_index_or, length, drop};
 ghost use Rattle.nk_store.specs.Leaves.{IsActFrom};
-ghost use Rattle.nk_store.specs.Held.{IsId, IsPacket, look, top, Grows, HasLeaves};
-ghost use Rattle.nk_algebra.specs.Subs.{IsSplit};
+ghost use Rattle.nk_store.specs.Nodes.{child_at};
+ghost use Rattle.nk_store.specs.Held.{IsId, IsPacket, IsWhole, look, top, Grows, HasLeaves};
+ghost use Rattle.nk_algebra.specs.Subs.{sub, IsSplit};
+ghost use Rattle.nk_algebra.specs.Choices.{AreChoices};
 ghost use Rattle.nk_algebra.specs.Seqs.{prefixed, outs_of, no_out};
-ghost use Rattle.nk_determ.specs.Exact.{exact, split_leaf, AreExact, Sends};
+ghost use Rattle.nk_determ.specs.Exact.{exact, split_leaf, out_split, AreExact, Sends};
+ghost use Rattle.nk_algebra.specs.Unions.{over_places};
 
-use nk_algebra::{both, out_count, part_at, put_after, range, span, tested, union};
+use nk_algebra::{choose, empty, out_count, part_at, put_after, span, tested, union};
 use nk_field::{Act, Fid, List};
-use nk_store::{Id, Node, Out, Store};
+use nk_store::{Id, Node, Operation, Out, Store};
 use std::alloc::AllocError;
 
 /// The diagram with the same meaning whose acts assign exactly the fields that they change.
@@ -30,10 +33,15 @@ fn divide(st: &mut Store, d: Id) -> Result<Id, AllocError>
     ensures grows { Grows st.old st.new }
     ensures ok { IfOk result (λ r. HasLeaves st.new r (λ pk. split_leaf st.old.maxes pk (look st.old d pk))) }
 {
-    match tested(st, d) {
-        None => split_outs(st, d),
-        Some(f) => split_parts(st, f, d),
+    if let Some(r) = st.recall(Operation::Split, d, d) {
+        return Ok(r);
     }
+    let r = match tested(st, d) {
+        None => split_outs(st, d)?,
+        Some(f) => split_case(st, f, d)?,
+    };
+    st.keep(Operation::Split, d, d, r)?;
+    Ok(r)
 }
 
 /// The diagram for one assignment before those of another diagram: none where the field has the value.
@@ -114,19 +122,34 @@ fn split_outs(st: &mut Store, d: Id) -> Result<Id, AllocError>
     ensures grows { Grows st.old st.new }
     ensures ok { IfOk result (λ r. HasLeaves st.new r (λ pk. split_leaf st.old.maxes pk (look st.old d pk))) }
 {
-    let mut i = out_count(st, d);
-    let mut all = st.leaf_in_order(List::new(st.alloc()))?;
-    while i > 0 {
-        i -= 1;
-        let one = split_at(st, d, i)?;
-        all = union(st, one, all)?;
+    let n = out_count(st, d);
+    if n == 0 {
+        return empty(st);
     }
-    Ok(all)
+    split_some(st, d, 0, n)
+}
+
+/// The diagram for some of a leaf's outs, by halves.
+#[tactic(auto, using(nk_algebra::proofs::OverPlaces::outs_within))]
+fn split_some(st: &mut Store, d: Id, from: usize, to: usize) -> Result<Id, AllocError>
+    requires id { IsId st.old d }
+    requires some { from < to }
+    requires within { to ≤ length (outs_of st.old d) }
+    ensures grows { Grows st.old st.new }
+    ensures ok { IfOk result (λ r. HasLeaves st.new r (λ pk. over_places (out_split st.old.maxes (outs_of st.old d) pk) from (to - from))) }
+{
+    if to - from == 1 {
+        return split_at(st, d, from);
+    }
+    let middle = from + (to - from) / 2;
+    let left = split_some(st, d, from, middle)?;
+    let right = split_some(st, d, middle, to)?;
+    union(st, left, right)
 }
 
 /// The diagram for a choice by a field.
 #[cycle(divide)]
-fn split_parts(st: &mut Store, f: Fid, d: Id) -> Result<Id, AllocError>
+fn split_case(st: &mut Store, f: Fid, d: Id) -> Result<Id, AllocError>
     requires id { IsId st.old d }
     requires field { f < 18 }
     requires first { top st.old d ≡ f }
@@ -134,17 +157,30 @@ fn split_parts(st: &mut Store, f: Fid, d: Id) -> Result<Id, AllocError>
     ensures grows { Grows st.old st.new }
     ensures ok { IfOk result (λ r. HasLeaves st.new r (λ pk. split_leaf st.old.maxes pk (look st.old d pk))) }
 {
+    let parts = split_parts(st, f, d)?;
+    choose(st, f, parts)
+}
+
+/// The parts of the diagram for a choice by a field.
+#[cycle(divide)]
+fn split_parts(st: &mut Store, f: Fid, d: Id) -> Result<List<(u64, Id)>, AllocError>
+    requires id { IsId st.old d }
+    requires field { f < 18 }
+    requires first { top st.old d ≡ f }
+    requires split { IsSplit st.old f d }
+    ensures grows { Grows st.old st.new }
+    ensures parts { IfOk result (λ ps. AreChoices st.new f ps) }
+    ensures ok { IfOk result (λ ps. (v : ℕ) (pk : Items ℕ) → IsWhole pk → look st.new (child_at 0 ps v) pk ≡ split_leaf st.old.maxes pk (look st.old (sub st.old f v d) pk)) }
+{
     let max = st.max(f);
-    let mut all = st.leaf_in_order(List::new(st.alloc()))?;
+    let mut parts = List::new(st.alloc());
     let mut from = 0;
     loop {
         let (end, child) = part_at(st, d, f, from);
         let made = divide(st, child)?;
-        let guard = range(st, f, from, end)?;
-        let part = both(st, guard, made)?;
-        all = union(st, all, part)?;
+        parts.push((end, made))?;
         if end == max {
-            return Ok(all);
+            return Ok(parts);
         }
         from = end + 1;
     }

@@ -12,9 +12,11 @@ use Rattle.nk_store.specs.Intervals.{same_tree, with_most, values_with, counted}
 use Rattle.nk_store.proofs.Looks.{node_at-old, node_at-new}
 use Rattle.nk_table.specs.Buckets.{same_buckets}
 use Rattle.nk_extract.specs.RuleTree.{Path, PathInterval, is_drop, with_match, exact_paths, paths_of, path_intervals}
-use Rattle.nk_extract.specs.Ways.{Span, spans, size_of, largest, else_of, span_ways, node_ways, is_empty_leaf, ways_in, branches_of, node_tree, tree_in, bucket_list}
+use Rattle.nk_store.specs.ElseChild.{Span, spans, size_of, largest, else_of}
+use Rattle.nk_extract.specs.Ways.{span_ways, node_ways, is_empty_leaf, ways_in, branches_of, node_tree, tree_in, bucket_list}
 use Rattle.nk_extract.proofs.Trees.{Tree, same_tree_tells, same_tree_self}
-use Rattle.nk_extract.proofs.Walks.{each_of, ways_at_case, ways_at_leaf}
+use Rattle.nk_store.proofs.Children.{each_of}
+use Rattle.nk_extract.proofs.Walks.{ways_at_case, ways_at_leaf}
 
 -- branches with the same children
 branches_same :

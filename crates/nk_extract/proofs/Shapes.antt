@@ -8,6 +8,7 @@ use Rattle.nk_store.specs.declared.node.Node.TheVariants.{Leaf, Case}
 use Rattle.nk_store.specs.Leaves.{Every, Suits}
 use Rattle.nk_store.specs.Nodes.{child_at, node_at, look_in, node_top, top_in, Rises, Each, IsLater, Differ, Joined, Sound, InRange}
 use Rattle.nk_store.specs.Diagram.{leaf_at, leaf_among, IsReduced, AreReduced, AreTwo, EndsRight, IsOther, IsFreeOf, AreFreeOf}
+use Rattle.nk_store.proofs.Children.{each_value}
 use Rattle.nk_store.proofs.Looks.{look_leaf, look_case, look_tidy, fits_at, joined_some, each_child}
 use Rattle.nk_store.proofs.Same.{child-first, child-rest, set_in_range, no_choice, AgreeIn, look_child, same_number}
 use Rattle.nk_extract.specs.Ways.{bucket_list, branches_of, tree_in}
@@ -15,7 +16,7 @@ use Rattle.nk_extract.proofs.Acts.{Avoids}
 use Rattle.nk_extract.proofs.BucketLists.{IsPlainOut, list_one, every_out, out_each}
 use Rattle.nk_extract.proofs.Trees.{Tree}
 use Rattle.nk_extract.proofs.Bridge.{tree_leaf, tree_case}
-use Rattle.nk_extract.proofs.Walks.{each_of}
+use Rattle.nk_store.proofs.Children.{each_of}
 
 -- the leaf among the branches of parts is that of the child at the value
 among_is :
@@ -33,16 +34,6 @@ among_is tree high from d v (p ∷ ps) pk r h k =
           ∙ among_is tree high (p.0 + 1) p.1 v ps pk r.2 h (omega (arith, past.1))
           ∙ ap (λ c. leaf_at (tree c) [] pk) (sym (child-rest d p ps v past.1))
     ]
-
--- what holds of the child at each value holds of each child
-each_value :
-    (P : ℕ → Type 0) (high from d : ℕ) (ps : List (ℕ × ℕ)) → Rises high from ps
-    → ((v : ℕ) → from ≤ v → v ≤ high → P (child_at d ps v)) → Each P ps
-each_value P high from d [] r f = tt
-each_value P high from d (p ∷ ps) r f = (
-  subst P (child-first d p ps p.0 (omega arith)) (f p.0 r.0 r.1),
-  each_value P high (p.0 + 1) p.1 ps r.2 (λ v lo hi. subst P (child-rest d p ps v (omega (arith, lo))) (f v (omega (arith, lo, r.0)) hi)),
-)
 
 -- two fields are set in either order
 pub set_swap :

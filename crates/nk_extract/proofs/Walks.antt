@@ -6,6 +6,8 @@ use Rattle.std.specs.Map.{lookup}
 use Rattle.std.proofs.Math.Pow.{pow_mono}
 use Rattle.std.proofs.Math.Nat.{pow-suc}
 use Rattle.std.proofs.lemmas.Bool.Decides.{nat_tests, eqb_tells}
+use Rattle.nk_store.specs.ElseChild.{Span, spans, size_of, largest, else_of}
+use Rattle.nk_store.proofs.Children.{rest_is, else_has, each_drop, each_of}
 use Rattle.nk_store.specs.declared.node.Node.{Node}
 use Rattle.nk_store.specs.declared.node.Node.TheVariants.{Leaf, Case}
 use Rattle.nk_store.specs.declared.node.Out.{Out}
@@ -15,16 +17,11 @@ use Rattle.nk_store.specs.Intervals.{counted}
 use Rattle.nk_store.proofs.Looks.{node_at-old, node_at-new}
 use Rattle.nk_table.specs.declared.Plain.{Plain}
 use Rattle.nk_extract.specs.RuleTree.{Path, is_drop_list, with_match, priority_of, put}
-use Rattle.nk_extract.specs.Ways.{Span, spans, size_of, largest, else_of, span_ways, node_ways, is_empty_leaf, ways_in, ways, row_behind, rows_behind, span_rows, or_none, kept, bucket_list}
+use Rattle.nk_store.specs.ElseChild.{Span, spans, size_of, largest, else_of, or_none, kept}
+use Rattle.nk_extract.specs.Ways.{span_ways, node_ways, is_empty_leaf, ways_in, ways, row_behind, rows_behind, span_rows, bucket_list}
 use Rattle.nk_extract.proofs.Lists.{filter_same, filter_map_is, filter_append_is, map_append_is}
 use Rattle.nk_extract.proofs.Bits.{counts, one_if}
 use Rattle.nk_extract.proofs.Paths.{flags}
-
--- the rest of a list from an element on
-pub rest_is :
-    {A : Type 0} (xs : List A) (i : ℕ) (x : A) → i < length xs → x ≡ get_or xs i x
-    → drop i xs ≡ x ∷ drop (i + 1) xs
-rest_is xs i x h e = drop-cons xs i x h ∙ ap (λ y. y ∷ drop (suc i) xs) (sym e) ∙ ap (λ n. x ∷ drop n xs) (sym (add-one i))
 
 -- bits
 pub two_to : (n : ℕ) → n ≤ 18 → 2 ^ n ≤ 262144
@@ -62,97 +59,6 @@ pub clamped :
     (all bit rest : ℕ) → min 65535 (min (all + bit) 65535 + rest) ≡ min 65535 (all + (bit + rest))
 clamped all bit rest = omega arith
 
--- sizes of children
-pub kept_put :
-    (old new : List (ℕ × ℕ)) (k n : ℕ)
-    → ((q : ℕ) → lookup (eqb q) new ≡ cond (eqb k q) (Some n) (lookup (eqb q) old)) → (q : ℕ)
-    → kept new q ≡ cond (eqb k q) n (kept old q)
-kept_put old new k n u q = ap or_none (u q) ∙ by (eqb k q)
-  where
-    by : (b : Bool) → or_none (cond b (Some n) (lookup (eqb q) old)) ≡ cond b n (kept old q)
-    by true = refl
-    by false = refl
-
--- no count is above the values so far
-pub below_step :
-    (old new : List (ℕ × ℕ)) (k from next : ℕ) → ((c : ℕ) → kept old c ≤ from) → from ≤ next
-    → ((q : ℕ) → kept new q ≡ cond (eqb k q) (kept old k + (next - from)) (kept old q)) → (c : ℕ)
-    → kept new c ≤ next
-below_step old new k from next h l u c = rw (u c) (by (eqb k c))
-  where
-    by : (b : Bool) → cond b (kept old k + (next - from)) (kept old c) ≤ next
-    by true = omega (arith, h k, l)
-    by false = omega (arith, h c, l)
-
--- the counts with one more part
-pub counts_step :
-    (old new : List (ℕ × ℕ)) (k end from : ℕ) (ps : List (ℕ × ℕ))
-    → ((q : ℕ) → kept new q ≡ cond (eqb k q) (kept old k + (end + 1 - from)) (kept old q)) → (c : ℕ)
-    → kept new c + size_of c (spans ps (end + 1)) ≡ kept old c + size_of c (spans ((end, k) ∷ ps) from)
-counts_step old new k end from ps u c = ap (λ n. n + size_of c (spans ps (end + 1))) (u c) ∙ by
-  where
-    by : cond (eqb k c) (kept old k + (end + 1 - from)) (kept old c) + size_of c (spans ps (end + 1)) ≡ kept old c + (cond (eqb c k) (end + 1 - from) 0 + size_of c (spans ps (end + 1)))
-    by = elim (eqb_tells k c) [
-      | inl same ↦
-          let back : eqb c k ≡ true = grind (arith, nat_tests, same.1) in
-          ap (λ b. cond b (kept old k + (end + 1 - from)) (kept old c) + size_of c (spans ps (end + 1))) same.0
-          ∙ ap (λ z. kept old z + (end + 1 - from) + size_of c (spans ps (end + 1))) same.1
-          ∙ omega arith
-          ∙ sym (ap (λ b. kept old c + (cond b (end + 1 - from) 0 + size_of c (spans ps (end + 1)))) back)
-      | inr other ↦
-          let back : eqb c k ≡ false = grind (arith, nat_tests, other.1) in
-          ap (λ b. cond b (kept old k + (end + 1 - from)) (kept old c) + size_of c (spans ps (end + 1))) other.0
-          ∙ omega arith
-          ∙ sym (ap (λ b. kept old c + (cond b (end + 1 - from) 0 + size_of c (spans ps (end + 1)))) back)
-    ]
-
--- the larger of two children by their sizes is the best so far
-pub largest_step :
-    (all : List Span) (best : ℕ) (p : ℕ × ℕ) (ps : List (ℕ × ℕ)) (r : ℕ)
-    → r ≡ cond (nat_lt (size_of best all) (size_of p.1 all)) p.1 best
-    → largest all r ps ≡ largest all best (p ∷ ps)
-largest_step all best p ps r e = ap (λ z. largest all z ps) e ∙ by (nat_lt (size_of best all) (size_of p.1 all))
-  where
-    by :
-        (b : Bool)
-        → largest all (cond b p.1 best) ps ≡ cond b (largest all p.1 ps) (largest all best ps)
-    by true = refl
-    by false = refl
-
--- the same by kept sizes
-pub larger_step :
-    (all : List Span) (rows : List (ℕ × ℕ)) (best : ℕ) (p : ℕ × ℕ) (ps : List (ℕ × ℕ)) (r : ℕ)
-    → ((q : ℕ) → kept rows q ≡ size_of q all)
-    → r ≡ cond (nat_lt (kept rows best) (kept rows p.1)) p.1 best
-    → largest all r ps ≡ largest all best (p ∷ ps)
-larger_step all rows best p ps r k e =
-    largest_step all best p ps r (e ∙ ap (λ x. cond (nat_lt x (kept rows p.1)) p.1 best) (k best) ∙ ap (λ x. cond (nat_lt (size_of best all) x) p.1 best) (k p.1))
-
--- what holds of each child holds of the largest
-largest_has :
-    (P : ℕ → Type 0) (all : List Span) (best : ℕ) (ps : List (ℕ × ℕ)) → P best → Each P ps
-    → P (largest all best ps)
-largest_has P all best [] h e = h
-largest_has P all best (p ∷ ps) h e = by (nat_lt (size_of best all) (size_of p.1 all)) (largest_has P all p.1 ps e.0 e.1) (largest_has P all best ps h e.1)
-  where
-    by :
-        (b : Bool) → P (largest all p.1 ps) → P (largest all best ps)
-        → P (cond b (largest all p.1 ps) (largest all best ps))
-    by true x y = x
-    by false x y = y
-
--- what holds of each child holds of the else-child
-pub else_has : (P : ℕ → Type 0) (ps : List (ℕ × ℕ)) → 0 < length ps → Each P ps → P (else_of ps)
-else_has P [] h e = absurd (omega arith)
-else_has P (p ∷ ps) h e = largest_has P (spans (p ∷ ps) 0) p.1 (p ∷ ps) e.0 e
-
--- what holds of each part holds of the rest
-pub each_drop : (P : ℕ → Type 0) (ps : List (ℕ × ℕ)) (i : ℕ) → Each P ps → Each P (drop i ps)
-each_drop P [] zero e = tt
-each_drop P [] (suc i) e = tt
-each_drop P (q ∷ qs) zero e = e
-each_drop P (q ∷ qs) (suc i) e = each_drop P qs i e.1
-
 -- the ways of a node
 spans_same :
     (f : ℕ) (drops : Bool) (other : ℕ) (w v : ℕ → List Path) (ps : List (ℕ × ℕ)) (from : ℕ)
@@ -162,11 +68,6 @@ spans_same f drops other w v [] from e = refl
 spans_same f drops other w v (p ∷ ps) from e =
     ap (λ l. cond (p.1 == other) [] (flat_map (λ x. map (with_match f drops x) l) (counted from (p.0 + 1 - from))) ++ flat_map (span_ways f drops other w) (spans ps (p.0 + 1))) e.0
     ∙ ap (λ l. span_ways f drops other v record { first = from; last = p.0; child = p.1 } ++ l) (spans_same f drops other w v ps (p.0 + 1) e.1)
-
--- a weaker property
-pub each_of : (P Q : ℕ → Type 0) (ps : List (ℕ × ℕ)) → ((c : ℕ) → P c → Q c) → Each P ps → Each Q ps
-each_of P Q [] f e = tt
-each_of P Q (p ∷ ps) f e = (f p.1 e.0, each_of P Q ps f e.1)
 
 -- a choice by other words for its children
 case_same :

@@ -2,6 +2,7 @@
 use Rattle.std.specs.Prelude.{◌≡◌, ℕ, ◌+◌, ◌-◌, ◌≤◌, ◌==◌, ◌||◌, Bool, true, false, not, nat_lt, min, cond, eqb, if◌then◌else◌, List, [], ◌∷◌, ◌++◌, length, map, filter, Option, Some, None}
 use Rattle.std.specs.List.{flat_map}
 use Rattle.std.specs.Map.{lookup}
+use Rattle.nk_store.specs.ElseChild.{Span, spans, else_of}
 use Rattle.nk_field.specs.Act.{act_then, left_without}
 use Rattle.nk_store.specs.declared.node.Node.{Node}
 use Rattle.nk_store.specs.declared.node.Node.TheVariants.{Leaf, Case}
@@ -28,31 +29,6 @@ bucket_for tag o = record { sets = act_then (left_without 1 o.act) ((tag, o.targ
 
 abbrev pub bucket_list : ℕ → List Out → List Bucket
 bucket_list tag outs = map (bucket_for tag) outs
-
--- an interval of values with the number of its child
-pub record Span : Type 0 where
-  pub first : ℕ
-  pub last : ℕ
-  pub child : ℕ
-
--- the intervals of a node, from a value on
-abbrev pub spans : List (ℕ × ℕ) → ℕ → List Span
-spans [] from = []
-spans (p ∷ ps) from = record { first = from; last = p.0; child = p.1 } ∷ spans ps (p.0 + 1)
-
--- how many values have the child
-abbrev pub size_of : ℕ → List Span → ℕ
-size_of c [] = 0
-size_of c (s ∷ ss) = (if c == s.child then s.last + 1 - s.first else 0) + size_of c ss
-
--- the child with the most values of all, the first of several
-abbrev pub largest : List Span → ℕ → List (ℕ × ℕ) → ℕ
-largest all best [] = best
-largest all best (p ∷ ps) = if nat_lt (size_of best all) (size_of p.1 all) then largest all p.1 ps else largest all best ps
-
-abbrev pub else_of : List (ℕ × ℕ) → ℕ
-else_of [] = 0
-else_of (p ∷ ps) = largest (spans (p ∷ ps) 0) p.1 (p ∷ ps)
 
 -- the ways of the exact values of an interval
 abbrev pub span_ways : ℕ → Bool → ℕ → (ℕ → List Path) → Span → List Path
@@ -93,14 +69,6 @@ row_behind width tag t before p = record {
 abbrev pub rows_behind : ℕ → ℕ → ℕ → List (ℕ × ℕ) → Bool → List Path → List Plain
 rows_behind width tag t before all ps =
     map (row_behind width tag t before) (filter (λ p. (not (is_drop_list p.buckets) || p.shown) || all) ps)
-
--- the number that is kept for a child, 0 for none
-abbrev pub or_none : Option ℕ → ℕ
-or_none None = 0
-or_none (Some n) = n
-
-abbrev pub kept : List (ℕ × ℕ) → ℕ → ℕ
-kept rows c = or_none (lookup (eqb c) rows)
 
 -- the rows of an interval's values, behind a way
 abbrev pub span_rows : ℕ → ℕ → ℕ → List (ℕ × ℕ) → ℕ → Bool → ℕ → (ℕ → List Path) → Span → List Plain

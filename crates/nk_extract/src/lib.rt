@@ -5,7 +5,6 @@
 
 mod bucket;
 pub mod laws;
-mod other;
 mod row;
 mod rows;
 mod walk;

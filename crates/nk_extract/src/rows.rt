@@ -99,38 +99,3 @@ fn part(parts: &[(u64, Id)], value: u64) -> Id
     }
     child
 }
-
-#[cfg(test)]
-mod tests {
-    use super::*;
-    use nk_field::{Act, Fields};
-    use nk_store::Out;
-    use nk_table::Exit;
-    use std::test::Fail;
-
-    /// A diagram that sends each packet on as it is, with tag 5, has one row: it matches the tag alone.
-    #[test]
-    fn one_row_for_all_packets(rt: HostRuntime) -> Result<(), Fail> {
-        let alloc = rt.alloc();
-        let mut fields = Fields::new(alloc)?;
-        fields.add("dst", 3)?;
-        let tag = fields.add("vlan", 7)?;
-        fields.set_tag(tag);
-        let mut st = Store::new(alloc, &fields)?;
-        let mut outs = List::new(alloc);
-        outs.push(Out {
-            act: Act::none(alloc),
-            target: 5,
-        })?;
-        let d = st.leaf_in_order(outs)?;
-        let rows = rows_of(alloc, &st, d, 1, 2)?;
-        assert_eq!(rt; rows.len(), 1);
-        assert_eq!(rt; rows[0].priority, 0);
-        assert_eq!(rt; rows[0].matches.len(), 1);
-        assert!(rt; *rows[0].matches.at(0) == (tag, 2));
-        assert_eq!(rt; rows[0].buckets.len(), 1);
-        assert!(rt; rows[0].buckets.at(0).exit == Exit::Back);
-        assert!(rt; rows[0].buckets.at(0).sets == Act::one(alloc, tag, 5)?);
-        Ok(())
-    }
-}

@@ -4,10 +4,9 @@ ghost use Rattle.nk_store.specs.Held.{IsId, node_of, IsCase};
 ghost use Rattle.nk_store.specs.declared.node.Node.TheVariants.{Case};
 ghost use Rattle.nk_extract.specs.Ways.{node_ways, span_rows, ways, rows_behind, is_empty_leaf};
 
-use crate::other::else_child;
 use crate::row::{Frame, Way, leaf_row};
 use nk_field::Fid;
-use nk_store::{Id, Node, Store};
+use nk_store::{Id, Node, Store, else_child};
 use nk_table::Plain;
 use std::alloc::AllocError;
 

@@ -5,3 +5,6 @@ pub mod NodeEq
 pub mod Joins
 pub mod Table
 pub mod InRange
+pub mod Ordered
+pub mod Kept
+pub mod Children

@@ -1,5 +1,5 @@
 -- The order of a leaf's outs.
-use Rattle.std.specs.Prelude.{◌≡◌, ℕ, ◌+◌, ◌<◌, ◌≤◌, List, [], ◌∷◌, slice_index}
+use Rattle.std.specs.Prelude.{◌≡◌, ℕ, ◌+◌, ◌<◌, ◌≤◌, ◌↔◌, List, [], ◌∷◌, slice_index, Contains}
 use Rattle.std.specs.declared.cmp.Ordering.{Ordering}
 use Rattle.std.specs.declared.cmp.Ordering.TheVariants.{Less}
 use Rattle.nk_store.specs.declared.node.Out.{Out}
@@ -27,3 +27,8 @@ IsActFrom maxes low (s ∷ ss) = (low ≤ s.0) × (s.0 < 18) × (s.1 ≤ slice_i
 -- the out's act ascends and assigns values in range
 abbrev pub Suits : List ℕ → Out → Type 0
 Suits maxes o = IsActFrom maxes 0 o.act
+
+-- the second list has the outs of the first one in order, each once
+pub record AreOrdered (outs r : List Out) : Type 0 where
+  pub sorted : Strict r
+  pub members : (o : Out) → Contains r o ↔ Contains outs o

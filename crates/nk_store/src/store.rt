@@ -1,35 +1,36 @@
 //! The store.
-ghost use Rattle.std.specs.Prelude.{◌≡◌, ℕ, ◌+◌, ◌-◌, ◌<◌, ◌≤◌, [], ◌++◌, length, replicate, reverse, true, slice_index, IfOk};
-ghost use Rattle.nk_store.specs.Nodes.{child_at, joined, Fits, Sound};
-ghost use Rattle.nk_store.specs.Leaves.{Strict, Every, Suits};
+ghost use Rattle.std.specs.Prelude.{◌≡◌, ℕ, ◌≤◌, [], length, true, slice_index, IfOk, IfSome, List as Items};
+ghost use Rattle.nk_store.specs.declared.node.Out.{Out};
+ghost use Rattle.nk_store.specs.Nodes.{child_at, Sound};
+ghost use Rattle.nk_store.specs.Leaves.{Strict, Every, Suits, AreOrdered};
 ghost use Rattle.nk_store.specs.Held.{IsId, node_of, look, top, Grows, HasLeaves, AreParts, IsNodeOf, IsStill, IsReduced, AreTidy, Agree, IsCanonical, IsOver, HasFields};
+ghost use Rattle.nk_store.specs.Rows.{IsAnswer};
 
 use crate::node::{Id, Node, Out};
-use indexmap::IndexSet;
-use nk_field::{Fid, Fields, List, PLACES, Packet};
+use crate::node_table::NodeTable;
+use crate::operation::{Key, Operation};
+use indexmap::IndexMap;
+use nk_field::{Fid, Fields, List, Packet};
 use std::alloc::{AllocError, Global};
 use std::marker::Model;
 
-/// Diagrams that share their nodes. Equal diagrams have one number.
+/// Diagrams that share their nodes. Equal diagrams have one number. It keeps answers of operations, which its
+/// contract value doesn't show.
 #[derive(Drop)]
 pub struct Store {
-    nodes: IndexSet<Node>,
-    maxes: [u64; 18],
-    width: usize,
-    tag: Option<Fid>,
+    table: NodeTable,
+    answers: IndexMap<Key, Id>,
 }
 
 impl Model for Store {
-    ghost use Rattle.std.specs.Prelude.{reverse};
-    ghost use Rattle.nk_store.specs.Nodes.{Sound};
-    ghost use Rattle.nk_store.specs.Held.{Held, HasFields};
+    ghost use Rattle.nk_store.specs.Held.{Held};
+    ghost use Rattle.nk_store.specs.Rows.{AreAnswers};
 
     ghost Value = { Held };
 
-    ghost view = { λ s. record { nodes = reverse s.nodes.keys; maxes = s.maxes; width = s.width; tag = s.tag } };
+    ghost view = { λ s. s.table };
 
-    ghost invariant = { λ s. HasFields (record { nodes = reverse s.nodes.keys; maxes = s.maxes; width = s.width; tag = s.tag })
-        × Sound s.maxes (reverse s.nodes.keys) };
+    ghost invariant = { λ s. AreAnswers s.table s.answers.entries };
 }
 
 impl Store {
@@ -40,12 +41,9 @@ impl Store {
         ensures over { IfOk result (λ st. IsOver fields.now st) }
         ensures fields { IfOk result HasFields }
     {
-        let _few = fields.declared();
         Ok(Store {
-            nodes: IndexSet::new(alloc),
-            maxes: maxima(fields),
-            width: fields.len(),
-            tag: fields.tag(),
+            table: NodeTable::new(alloc, fields)?,
+            answers: IndexMap::new(alloc),
         })
     }
 
@@ -53,7 +51,7 @@ impl Store {
     pub fn max(&self, f: Fid) -> u64
         ensures { result ≡ slice_index self.now.maxes f }
     {
-        self.maxes[f.place()]
+        self.table.max(f)
     }
 
     /// How many fields there are, the switch and the port among them: at most eighteen.
@@ -61,7 +59,7 @@ impl Store {
         ensures is { result ≡ self.now.width }
         ensures fields { HasFields self.now }
     {
-        self.width
+        self.table.width()
     }
 
     /// The field that carries the tag.
@@ -69,7 +67,7 @@ impl Store {
         ensures is { result ≡ self.now.tag }
         ensures fields { HasFields self.now }
     {
-        self.tag
+        self.table.tag()
     }
 
     /// What holds of all diagrams of a store; it does nothing.
@@ -82,7 +80,7 @@ impl Store {
         ensures reduced { (d : ℕ) → IsId self.now d → IsReduced self.now d }
         ensures tidy { AreTidy self.now }
     {
-        let _nodes = &self.nodes;
+        self.table.laws();
     }
 
     /// The node of a number.
@@ -94,7 +92,7 @@ impl Store {
         ensures reduced { IsReduced self.now d }
         ensures tidy { AreTidy self.now }
     {
-        &self.nodes[d.place()]
+        self.table.view(d)
     }
 
     /// Tells whether two diagrams give each packet the same leaf: their numbers are equal exactly then.
@@ -104,8 +102,7 @@ impl Store {
         ensures yes { result ≡ true → d ≡ e }
         ensures canonical { Agree self.now d e → result ≡ true }
     {
-        let _nodes = &self.nodes;
-        d == e
+        self.table.same(d, e)
     }
 
     /// The leaf that a diagram gives a packet.
@@ -113,15 +110,17 @@ impl Store {
         requires { IsId self.now d }
         ensures { result.now ≡ look self.now d p.now }
     {
-        let mut at = d;
-        loop {
-            match self.view(at) {
-                Node::Leaf(outs) => return outs.as_slice(),
-                Node::Case(f, parts) => {
-                    at = part_child(parts.as_slice(), p.get(*f));
-                }
-            }
-        }
+        self.table.look(d, p)
+    }
+
+    /// The leaf with these outs, in any order and number: they are put in order, and each stands once.
+    pub fn leaf(&mut self, outs: List<Out>) -> Result<Id, AllocError>
+        requires { Every (Suits self.old.maxes) outs }
+        ensures grows { Grows self.old self.new }
+        ensures ok { IfOk result (λ d. (r : Items Out) × AreOrdered outs r × HasLeaves self.new d (λ pk. r)) }
+        ensures later { IfOk result (λ d. top self.new d ≡ 18) }
+    {
+        self.leaf_in_order(in_order(outs))
     }
 
     /// The leaf with these outs, which ascend, each once.
@@ -132,12 +131,12 @@ impl Store {
         ensures ok { IfOk result (λ d. HasLeaves self.new d (λ pk. outs)) }
         ensures later { IfOk result (λ d. top self.new d ≡ 18) }
     {
-        self.place(Node::Leaf(outs))
+        self.table.leaf_in_order(outs)
     }
 
     /// The allocator of the nodes.
     pub fn alloc(&self) -> Global {
-        *self.nodes.allocator()
+        self.table.alloc()
     }
 
     /// The diagram that gives a packet the leaf of the part that holds the field's value. The parts are pairs of an
@@ -150,84 +149,51 @@ impl Store {
             (λ pk. look self.old (child_at 0 parts (slice_index pk field)) pk)) }
         ensures later { IfOk result (λ d. field ≤ top self.new d) }
     {
-        self.choice(field, &parts)
-    }
-
-    /// The diagram of a choice by a field.
-    fn choice(&mut self, field: Fid, parts: &List<(u64, Id)>) -> Result<Id, AllocError>
-        requires { AreParts self.old field parts.now }
-        ensures grows { Grows self.old self.new }
-        ensures ok { IfOk result (λ d. HasLeaves self.new d
-            (λ pk. look self.old (child_at 0 parts.now (slice_index pk field)) pk)) }
-        ensures later { IfOk result (λ d. field ≤ top self.new d) }
-    {
-        let kept = join(*self.nodes.allocator(), parts)?;
-        if kept.len() == 1 {
-            return Ok(kept.at(0).1);
-        }
-        let d = self.place(Node::Case(field, kept))?;
-        let _nodes = &self.nodes;
-        Ok(d)
+        self.table.case(field, parts)
     }
 
     /// How many nodes there are.
     pub fn len(&self) -> usize
         ensures { result ≡ length self.now.nodes }
     {
-        self.nodes.len()
+        self.table.len()
     }
 
-    /// The number of this node, which is made where it isn't there.
-    fn place(&mut self, node: Node) -> Result<Id, AllocError>
-        requires { Fits self.old.maxes self.old.nodes node }
-        ensures grows { Grows self.old self.new }
-        ensures ok { IfOk result (λ d. IsId self.new d × (node_of self.new d ≡ node)) }
+    /// The answer of an operation on two diagrams, where it was kept. An operation on one diagram has it twice.
+    pub fn recall(&self, operation: Operation, a: Id, b: Id) -> Option<Id>
+        ensures { IfSome result (λ d. IsAnswer self.now operation a b d) }
     {
-        let (place, _) = self.nodes.insert_full(node)?;
-        Ok(Id::new(place))
+        let key = Key {
+            operation,
+            left: a,
+            right: b,
+        };
+        self.answers.get(&key).copied()
+    }
+
+    /// Keeps the answer of an operation on two diagrams. The diagrams stay as they are, also where memory runs out.
+    pub fn keep(&mut self, operation: Operation, a: Id, b: Id, d: Id) -> Result<(), AllocError>
+        requires { IsAnswer self.old operation a b d }
+        ensures { self.new ≡ self.old }
+    {
+        let key = Key {
+            operation,
+            left: a,
+            right: b,
+        };
+        self.answers.insert(key, d)?;
+        Ok(())
     }
 }
 
-/// The child of the part that holds the value.
-fn part_child(parts: &[(u64, Id)], value: u64) -> Id
-    requires { 0 < length parts.now }
-    ensures { result ≡ child_at 0 parts.now value }
+/// The outs in order, each once.
+fn in_order(outs: List<Out>) -> List<Out>
+    ensures { AreOrdered outs result }
 {
-    let mut child = parts[0].1;
-    for (end, c) in parts {
-        if value <= *end {
-            return *c;
-        }
-        child = *c;
-    }
-    child
-}
-
-/// The parts with neighbours of one child joined.
-fn join(alloc: Global, parts: &List<(u64, Id)>) -> Result<List<(u64, Id)>, AllocError>
-    ensures { IfOk result (λ kept. kept ≡ joined parts.now) }
-{
-    let mut kept = List::new(alloc);
-    let n = parts.len();
-    for i in 0..n {
-        let part = *parts.at(i);
-        if i + 1 == n || parts.at(i + 1).1 != part.1 {
-            kept.push(part)?;
-        }
-    }
-    Ok(kept)
-}
-
-/// The largest value at each place, 0 where no field is.
-fn maxima(fields: &Fields) -> [u64; 18]
-    requires { length fields.now.maxima ≤ 18 }
-    ensures { result ≡ fields.now.maxima ++ replicate (18 - length fields.now.maxima) 0 }
-{
-    let mut all = [0; 18];
-    for place in 0..fields.len() {
-        all[place] = fields.max(Fid::new(place as u8));
-    }
-    all
+    let mut all = outs.into_vec();
+    all.sort_unstable();
+    all.dedup();
+    List::from_vec(all)
 }
 
 #[cfg(test)]
@@ -262,5 +228,32 @@ mod tests {
         assert_eq!(rt; st.len(), 2);
         assert_eq!(rt; st.look(all, &Packet::zero()).len(), 1);
         Ok(())
+    }
+
+    /// Outs in any order and number are one leaf.
+    #[test]
+    fn outs_are_put_in_order(rt: HostRuntime) -> Result<(), Fail> {
+        let alloc = rt.alloc();
+        let fields = Fields::new(alloc)?;
+        let mut st = Store::new(alloc, &fields)?;
+        let mut outs = List::new(alloc);
+        outs.push(to(alloc, 5))?;
+        outs.push(to(alloc, 0))?;
+        outs.push(to(alloc, 5))?;
+        let d = st.leaf(outs)?;
+        let zero = Packet::zero();
+        let leaf = st.look(d, &zero);
+        assert_eq!(rt; leaf.len(), 2);
+        Ok(())
+    }
+
+    /// The packet itself, to a target.
+    fn to(alloc: Global, target: u64) -> Out
+        ensures { result ≡ record { act = []; target = target } }
+    {
+        Out {
+            act: Act::none(alloc),
+            target,
+        }
     }
 }

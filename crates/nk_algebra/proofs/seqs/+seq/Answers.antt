@@ -1,17 +1,42 @@
-use Rattle.std.proofs.Common.{◌∙◌}
+use Rattle.std.proofs.Common.{◌+◌, ◌∙◌, sym, subst, ap}
+use Rattle.std.proofs.lemmas.Result.{IfOk-weaker}
 use Rattle.nk_store.proofs.Stores.{grows_on}
+use Rattle.nk_store.specs.Nodes.{child_at}
+use Rattle.nk_store.specs.Held.{look}
+use Rattle.nk_algebra.specs.Choices.{AreChoices}
+use Rattle.nk_algebra.specs.Seqs.{seq_leaf}
 use Rattle.nk_algebra.proofs.Restricted.{set_within}
-use Rattle.nk_algebra.proofs.Sequences.{parts_push, parts_all}
+use Rattle.nk_algebra.proofs.Chosen.{Serving, value_leaf, value_push, value_choices, value_all, value_made}
+use Rattle.nk_algebra.proofs.Sequences.{seq_made}
 use Rattle.nk_algebra.proofs.seqs.+seq.Goals as goal
 
-pub seq_parts-returns-then-end-max-clause-ok : goal.seq_parts-returns-then-end-max-clause-ok
-seq_parts-returns-then-end-max-clause-ok t c =
-    parts_all c.args.st.now c.union.new.st c.args.f c.args.a c.args.b c.in_ok-all-2.all c.part_at-end.result.0 c.requires.split (c.if-end-max.true ∙ c.max-max.ensures)
-    (parts_push c.args.st.now c.loop-made.st c.sequence.new.st c.range.new.st c.both.new.st c.union.new.st c.args.f c.args.a c.args.b c.loop-made.from c.part_at-end.result c.loop-made.all c.in_ok-made.made c.in_ok-guard.guard c.in_ok-part.part c.in_ok-all-2.all c.loop-made.invariant.grows c.sequence.ensures.grows c.range.ensures.grows c.both.ensures.grows c.requires.left c.requires.right c.requires.split c.part_at-end.ensures c.loop-made.invariant.leaves c.in_ok-made.ensures.ok c.in_ok-guard.ensures.ok c.in_ok-part.ensures.ok c.in_ok-all-2.ensures.ok)
+pub seq_case-returns-clause-ok : goal.seq_case-returns-clause-ok
+seq_case-returns-clause-ok t c = IfOk-weaker c.choose.result _ _
+    (λ d h. value_made (λ pk x. seq_leaf x (look c.args.st.now c.args.b) pk) c.args.st.now c.seq_parts.new.st c.choose.new.st c.args.f c.args.a d c.in_ok-parts.parts c.requires.split c.in_ok-parts.ensures.ok h) c.choose.ensures.ok
 
-pub seq_parts-loop-made-preserved : goal.seq_parts-loop-made-preserved
-seq_parts-loop-made-preserved t c = record {
-  grows = grows_on _ _ _ c.loop-made.invariant.grows (grows_on _ _ _ c.sequence.ensures.grows (grows_on _ _ _ c.range.ensures.grows (grows_on _ _ _ c.both.ensures.grows c.union.ensures.grows)));
-  within = set_within c.args.st.now c.loop-made.st c.args.f c.args.a c.loop-made.from c.max-max.result c.part_at-end.result c.part_at-end.ensures c.loop-made.invariant.grows c.max-max.ensures c.if-end-max.false;
-  leaves = parts_push c.args.st.now c.loop-made.st c.sequence.new.st c.range.new.st c.both.new.st c.union.new.st c.args.f c.args.a c.args.b c.loop-made.from c.part_at-end.result c.loop-made.all c.in_ok-made.made c.in_ok-guard.guard c.in_ok-part.part c.in_ok-all-2.all c.loop-made.invariant.grows c.sequence.ensures.grows c.range.ensures.grows c.both.ensures.grows c.requires.left c.requires.right c.requires.split c.part_at-end.ensures c.loop-made.invariant.leaves c.in_ok-made.ensures.ok c.in_ok-guard.ensures.ok c.in_ok-part.ensures.ok c.in_ok-all-2.ensures.ok;
-}
+pub seq_parts-returns-then-end-max-clause-parts : goal.seq_parts-returns-then-end-max-clause-parts
+seq_parts-returns-then-end-max-clause-parts t c =
+    let all = value_push (λ pk x. seq_leaf x (look c.args.st.now c.args.b) pk) c.args.st.now c.loop-parts.st c.sequence.new.st c.args.f c.args.a c.loop-parts.from c.loop-parts.parts c.part_at-end.result c.in_ok-made.made
+    c.loop-parts.invariant.made c.loop-parts.invariant.grows c.sequence.ensures.grows c.requires.left c.requires.split c.part_at-end.ensures
+    (seq_made c.args.st.now c.loop-parts.st c.sequence.new.st c.args.b c.part_at-end.result.1 c.in_ok-made.made c.loop-parts.invariant.grows c.requires.right c.in_ok-made.ensures.ok) in
+    subst (AreChoices c.sequence.new.st c.args.f) (sym c.in_ok-push.ensures.ok)
+    (value_choices (value_leaf (λ pk x. seq_leaf x (look c.args.st.now c.args.b) pk) c.args.st.now c.args.f c.args.a) c.args.st.now c.sequence.new.st c.args.f c.part_at-end.result.0 _ (grows_on _ _ _ c.loop-parts.invariant.grows c.sequence.ensures.grows) all c.requires.field (c.if-end-max.true ∙ c.max-max.ensures))
+
+pub seq_parts-returns-then-end-max-clause-ok : goal.seq_parts-returns-then-end-max-clause-ok
+seq_parts-returns-then-end-max-clause-ok t c = λ v pk w.
+    let all = value_push (λ pk x. seq_leaf x (look c.args.st.now c.args.b) pk) c.args.st.now c.loop-parts.st c.sequence.new.st c.args.f c.args.a c.loop-parts.from c.loop-parts.parts c.part_at-end.result c.in_ok-made.made
+    c.loop-parts.invariant.made c.loop-parts.invariant.grows c.sequence.ensures.grows c.requires.left c.requires.split c.part_at-end.ensures
+    (seq_made c.args.st.now c.loop-parts.st c.sequence.new.st c.args.b c.part_at-end.result.1 c.in_ok-made.made c.loop-parts.invariant.grows c.requires.right c.in_ok-made.ensures.ok) in
+    ap (λ ps. look c.sequence.new.st (child_at 0 ps v) pk) c.in_ok-push.ensures.ok
+    ∙ value_all (λ pk x. seq_leaf x (look c.args.st.now c.args.b) pk) c.args.st.now c.sequence.new.st c.args.f c.args.a c.part_at-end.result.0 _ all c.requires.split (c.if-end-max.true ∙ c.max-max.ensures) v pk w
+
+pub seq_parts-loop-parts-preserved : goal.seq_parts-loop-parts-preserved
+seq_parts-loop-parts-preserved t c =
+    let all = value_push (λ pk x. seq_leaf x (look c.args.st.now c.args.b) pk) c.args.st.now c.loop-parts.st c.sequence.new.st c.args.f c.args.a c.loop-parts.from c.loop-parts.parts c.part_at-end.result c.in_ok-made.made
+    c.loop-parts.invariant.made c.loop-parts.invariant.grows c.sequence.ensures.grows c.requires.left c.requires.split c.part_at-end.ensures
+    (seq_made c.args.st.now c.loop-parts.st c.sequence.new.st c.args.b c.part_at-end.result.1 c.in_ok-made.made c.loop-parts.invariant.grows c.requires.right c.in_ok-made.ensures.ok) in
+    record {
+      grows = grows_on _ _ _ c.loop-parts.invariant.grows c.sequence.ensures.grows;
+      within = set_within c.args.st.now c.loop-parts.st c.args.f c.args.a c.loop-parts.from c.max-max.result c.part_at-end.result c.part_at-end.ensures c.loop-parts.invariant.grows c.max-max.ensures c.if-end-max.false;
+      made = subst (Serving (value_leaf (λ pk x. seq_leaf x (look c.args.st.now c.args.b) pk) c.args.st.now c.args.f c.args.a) c.sequence.new.st c.args.f (c.part_at-end.result.0 + 1)) (sym c.in_ok-push.ensures.ok) all;
+    }

@@ -1,20 +1,24 @@
 use Rattle.std.proofs.Common.{◌+◌, ◌*◌, ◌-◌, ◌≤◌}
-use Rattle.nk_store.specs.Held.{HasLeaves, Grows}
-use Rattle.nk_algebra.specs.Seqs.{seq_below}
+use Rattle.nk_store.specs.Held.{Grows, look}
+use Rattle.nk_algebra.specs.Seqs.{seq_leaf}
+use Rattle.nk_algebra.proofs.Chosen.{Serving, value_leaf}
 use Rattle.nk_algebra.proofs.seqs.+seq.Given as goal
 
 abbrev pub decreases-sequence : goal.decreases-sequence
-decreases-sequence l = 2 * l.a + 1
+decreases-sequence l = 3 * l.a + 2
+
+abbrev pub decreases-seq_case : goal.decreases-seq_case
+decreases-seq_case l = 3 * l.a + 1
 
 abbrev pub decreases-seq_parts : goal.decreases-seq_parts
-decreases-seq_parts l = 2 * l.a
+decreases-seq_parts l = 3 * l.a
 
-abbrev pub invariant-seq_parts-loop-made : goal.invariant-seq_parts-loop-made
-invariant-seq_parts-loop-made l = record {
+abbrev pub invariant-seq_parts-loop-parts : goal.invariant-seq_parts-loop-parts
+invariant-seq_parts-loop-parts l = record {
   grows : Grows l.fn.st l.st;
   within : l.from ≤ l.max;
-  leaves : HasLeaves l.st l.all (λ pk. seq_below l.fn.st l.f l.a l.b l.from pk);
+  made : Serving (value_leaf (λ pk x. seq_leaf x (look l.fn.st l.b) pk) l.fn.st l.f l.a) l.st l.f l.from l.parts;
 }
 
-abbrev pub decreases-seq_parts-loop-made : goal.decreases-seq_parts-loop-made
-decreases-seq_parts-loop-made l = l.max - l.from
+abbrev pub decreases-seq_parts-loop-parts : goal.decreases-seq_parts-loop-parts
+decreases-seq_parts-loop-parts l = l.max - l.from

@@ -1,6 +1,7 @@
 use Rattle.std.proofs.Common.{arith, ◌∙◌, sym, ap, ◌+◌, min, drop}
 use Rattle.nk_extract.specs.RuleTree.{priority_of, bit_of}
-use Rattle.nk_extract.proofs.Walks.{rest_is, clamped}
+use Rattle.nk_store.proofs.Children.{rest_is}
+use Rattle.nk_extract.proofs.Walks.{clamped}
 use Rattle.nk_extract.proofs.row.priority.Goals as goal
 
 pub loop-f-preserved : goal.loop-f-preserved

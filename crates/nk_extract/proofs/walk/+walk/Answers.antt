@@ -8,7 +8,8 @@ use Rattle.nk_store.specs.Intervals.{counted}
 use Rattle.nk_table.specs.declared.Plain.{Plain}
 use Rattle.std.proofs.lemmas.List.{drop_all}
 use Rattle.nk_extract.specs.Ways.{ways, rows_behind, bucket_list, node_ways, is_empty_leaf}
-use Rattle.nk_extract.proofs.Walks.{rest_is, ways_leaf, ways_case, else_has, each_of, each_drop, on_ok, case_returns, values_step}
+use Rattle.nk_store.proofs.Children.{rest_is, else_has, each_of, each_drop}
+use Rattle.nk_extract.proofs.Walks.{ways_leaf, ways_case, on_ok, case_returns, values_step}
 use Rattle.nk_extract.proofs.walk.+walk.Goals as goal
 
 pub walk-returns-in-Leaf : goal.walk-returns-in-Leaf

@@ -2,7 +2,8 @@ use Rattle.std.proofs.Common.{◌≡◌, ◌≤◌, ◌+◌, ◌-◌, ◌*◌, �
 use Rattle.std.specs.List.{flat_map}
 use Rattle.nk_store.specs.Nodes.{Rises}
 use Rattle.nk_store.specs.Intervals.{counted}
-use Rattle.nk_extract.specs.Ways.{spans, ways, span_rows, rows_behind}
+use Rattle.nk_store.specs.ElseChild.{spans}
+use Rattle.nk_extract.specs.Ways.{ways, span_rows, rows_behind}
 use Rattle.nk_extract.proofs.walk.+walk.Given as goal
 
 abbrev pub decreases-walk : goal.decreases-walk

@@ -1,0 +1,46 @@
+-- A diagram put together of two tests no field before those that they test, and what is said of it by an earlier store.
+use Rattle.std.proofs.Common.{ℕ, ◌≤◌, min, List, Option, Some, None, IfSome, refl, sym, ◌∙◌, ap, arith, set, inl, inr}
+use Rattle.std.proofs.lemmas.Bool.Decides.{leb_tells}
+use Rattle.std.proofs.lemmas.List.{length-set}
+use Rattle.nk_store.specs.declared.node.Out.{Out}
+use Rattle.nk_store.specs.declared.node.Node.{Node}
+use Rattle.nk_store.specs.declared.node.Node.TheVariants.{Leaf, Case}
+use Rattle.nk_store.specs.Held.{Held, IsId, node_of, look, top, Grows, HasLeaves, IsNodeOf, IsStill, IsReduced}
+
+-- a diagram tests one of the eighteen fields or none
+top_bound : (st : Held) (d : ℕ) (n : Node) → IsNodeOf st d n → top st d ≤ 18
+top_bound st d (Leaf outs) k = omega (arith, k.top_is)
+top_bound st d (Case f ps) k = omega (arith, k.top_is, k.parts_ok.field)
+
+-- it tests no field before those of both
+later_by : (J : List Out → List Out → List Out) (st : Held) (a b d : ℕ) → IsReduced st d → IsStill st a →
+    IsStill st b → top st a ≤ 18 → HasLeaves st d (λ pk. J (look st a pk) (look st b pk)) →
+    min (top st a) (top st b) ≤ top st d
+later_by J st a b d r sa sb h g =
+    let f = top st d in
+    elim (leb_tells (min (top st a) (top st b)) f) [
+      | inl ok ↦ ok.1
+      | inr less ↦ absurd (r.tests f (omega (arith, less.1, h)) refl (λ v pk w.
+          g.leaf (set pk f v) (length-set pk f v ∙ w)
+          ∙ ap (λ x. J x (look st b (set pk f v))) (sa.leaf f v pk (omega (arith, less.1)))
+          ∙ ap (λ y. J (look st a pk) y) (sb.leaf f v pk (omega (arith, less.1)))
+          ∙ sym (g.leaf pk w)))
+    ]
+
+-- the same for an answer that may be none
+pub known_later : (J : List Out → List Out → List Out) (st : Held) (a b : ℕ) (o : Option ℕ) →
+    ((d : ℕ) → IsId st d → IsReduced st d) → ((d : ℕ) → IsId st d → IsStill st d) →
+    ((d : ℕ) → IsId st d → IsNodeOf st d (node_of st d)) → IsId st a → IsId st b →
+    IfSome o (λ d. HasLeaves st d (λ pk. J (look st a pk) (look st b pk))) →
+    IfSome o (λ d. min (top st a) (top st b) ≤ top st d)
+known_later J st a b None r s n ia ib h = tt
+known_later J st a b (Some d) r s n ia ib h = later_by J st a b d (r d h.id) (s a ia) (s b ib) (top_bound st a (node_of st a) (n a ia)) h
+
+-- what is put together of diagrams of an earlier store, by the leaves that they have now
+pub leaves_now : (J : List Out → List Out → List Out) (old new : Held) (a b d : ℕ) → Grows old new → IsId old a →
+    IsId old b → HasLeaves new d (λ pk. J (look old a pk) (look old b pk)) →
+    HasLeaves new d (λ pk. J (look new a pk) (look new b pk))
+leaves_now J old new a b d g ia ib h = record {
+  id = h.id;
+  leaf = λ pk w. h.leaf pk w ∙ ap (λ x. J x (look old b pk)) (sym (g.leaves a pk ia)) ∙ ap (λ y. J (look new a pk) y) (sym (g.leaves b pk ib));
+}

@@ -1,0 +1,23 @@
+use Rattle.std.proofs.Common.{ℕ, sym, subst, ap, arith, get_or}
+use Rattle.std.proofs.lemmas.Result.{IfOk-weaker}
+use Rattle.nk_store.specs.Held.{IsId}
+use Rattle.nk_algebra.proofs.Chosen.{each_place, end_within, chosen_one}
+use Rattle.nk_algebra.proofs.choices.choose_one.Goals as goal
+
+pub range-requires-clause-order : goal.range-requires-clause-order
+range-requires-clause-order c =
+    let ends = end_within (get_or c.args.st.now.maxes c.args.f 0) 0 c.args.parts.now c.args.k c.at.result.now c.requires.choices.rise c.requires.within in
+    omega (arith, ends.0, c.first_value-from.ensures, ap (λ (p : ℕ × ℕ). p.0) c.at.ensures)
+
+pub range-requires-clause-within : goal.range-requires-clause-within
+range-requires-clause-within c =
+    let ends = end_within (get_or c.args.st.now.maxes c.args.f 0) 0 c.args.parts.now c.args.k c.at.result.now c.requires.choices.rise c.requires.within in
+    omega (arith, ends.1, ap (λ (p : ℕ × ℕ). p.0) c.at.ensures)
+
+pub both-requires-clause-right : goal.both-requires-clause-right
+both-requires-clause-right c = c.range.ensures.grows.ids _ (subst (λ (p : ℕ × ℕ). IsId c.args.st.now p.1) (sym c.at.ensures) (each_place (IsId c.args.st.now) c.args.parts.now c.args.k c.at.result.now c.requires.choices.ids c.requires.within))
+
+pub returns-clause-ok : goal.returns-clause-ok
+returns-clause-ok c = IfOk-weaker c.both.result _ _
+    (λ d h. chosen_one c.args.st.now c.range.new.st c.both.new.st c.args.f c.args.parts.now c.args.k c.first_value-from.result c.at.result.now.0 c.at.result.now.1 c.in_ok-guard.guard d c.at.result.now
+    c.requires.choices c.requires.within c.first_value-from.ensures (ap (λ (p : ℕ × ℕ). p.0) c.at.ensures) (ap (λ (p : ℕ × ℕ). p.1) c.at.ensures) c.range.ensures.grows c.in_ok-guard.ensures.ok h) c.both.ensures.ok

@@ -1,6 +1,0 @@
-use Rattle.std.proofs.Common.{◌≡◌, drop}
-use Rattle.nk_extract.specs.Ways.{spans, largest, else_of}
-use Rattle.nk_extract.proofs.other.else_child.Given as goal
-
-abbrev pub invariant-loop-c : goal.invariant-loop-c
-invariant-loop-c l = largest (spans l.parts 0) l.best (drop l.c-index l.parts) ≡ else_of l.parts

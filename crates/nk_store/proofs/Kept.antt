@@ -1,0 +1,127 @@
+-- Answers keep their meaning while the store grows.
+use Rattle.std.proofs.Common.{◌≡◌, ℕ, Bool, true, false, cond, ◌&&◌, List, Option, Some, None, IfSome, refl, sym, ◌∙◌, ap, subst, eqb-true}
+use Rattle.std.specs.Map.{lookup}
+use Rattle.nk_store.specs.declared.operation.Operation.{Operation}
+use Rattle.nk_store.specs.declared.operation.Operation.TheVariants.{Union, Both, Negate, Seq, Split}
+use Rattle.nk_store.specs.declared.operation.Key.{Key}
+use Rattle.nk_store.specs.contracts.operation.OperationPartialEq.TheImpl.{ghosts}
+use Rattle.nk_store.specs.Held.{Held, IsId, look, Grows, HasLeaves}
+use Rattle.nk_store.specs.Operations.{made}
+use Rattle.nk_store.specs.Rows.{IsAnswer, key_eq, AreAnswers}
+
+-- an answer is one in a store that grew
+pub answer_grown : (old new : Held) (operation : Operation) (a b d : ℕ) → Grows old new →
+    IsAnswer old operation a b d → IsAnswer new operation a b d
+answer_grown old new operation a b d g r =
+    let second : look old b ≡ look new b = λ i pk. sym (g.leaves b pk r.right) i in
+    record {
+      left = g.ids a r.left;
+      right = g.ids b r.right;
+      leaves = record {
+        id = g.ids d r.leaves.id;
+        leaf = λ pk w.
+            g.leaves d pk r.leaves.id ∙ r.leaves.leaf pk w
+            ∙ ap (λ ms. made operation ms (look old a pk) (look old b) pk) (sym g.maxes)
+            ∙ ap (λ x. made operation new.maxes x (look old b) pk) (sym (g.leaves a pk r.left))
+            ∙ ap (λ B. made operation new.maxes (look new a pk) B pk) second;
+      };
+    }
+
+-- and so are all that are kept
+pub answers_grown : (old new : Held) (rows : List (Key × ℕ)) → Grows old new → AreAnswers old rows →
+    AreAnswers new rows
+answers_grown old new rows g m = λ k d e. answer_grown old new k.operation k.left k.right d g (m k d e)
+
+-- operations that are equal are one
+operation_same : (a b : Operation) → ghosts.eq a b ≡ true → a ≡ b
+operation_same Union Union h = refl
+operation_same Union Both h = cc
+operation_same Union Negate h = cc
+operation_same Union Seq h = cc
+operation_same Union Split h = cc
+operation_same Both Union h = cc
+operation_same Both Both h = refl
+operation_same Both Negate h = cc
+operation_same Both Seq h = cc
+operation_same Both Split h = cc
+operation_same Negate Union h = cc
+operation_same Negate Both h = cc
+operation_same Negate Negate h = refl
+operation_same Negate Seq h = cc
+operation_same Negate Split h = cc
+operation_same Seq Union h = cc
+operation_same Seq Both h = cc
+operation_same Seq Negate h = cc
+operation_same Seq Seq h = refl
+operation_same Seq Split h = cc
+operation_same Split Union h = cc
+operation_same Split Both h = cc
+operation_same Split Negate h = cc
+operation_same Split Seq h = cc
+operation_same Split Split h = refl
+
+-- the first of two that both hold
+and_left : (s t : Bool) → (s && t) ≡ true → s ≡ true
+and_left true t h = refl
+and_left false t h = h
+
+-- the second of two that both hold
+and_right : (s t : Bool) → (s && t) ≡ true → t ≡ true
+and_right true t h = h
+and_right false t h = cc
+
+-- keys that are equal are one
+pub key_same : (k q : Key) → key_eq k q ≡ true → k ≡ q
+key_same k q h =
+    let a : k.operation ≡ q.operation = operation_same k.operation q.operation (and_left _ _ h) in
+    let rest = and_right _ _ h in
+    let b : k.left ≡ q.left = eqb-true _ _ (and_left _ _ rest) in
+    let c : k.right ≡ q.right = eqb-true _ _ (and_right _ _ rest) in
+    λ i. record { operation = a i; left = b i; right = c i }
+
+-- with one answer more, all that are kept are answers
+pub answers_kept : (st : Held) (old new : List (Key × ℕ)) (k : Key) (d : ℕ) → AreAnswers st old →
+    IsAnswer st k.operation k.left k.right d →
+    ((q : Key) → lookup (key_eq q) new ≡ cond (key_eq k q) (Some d) (lookup (key_eq q) old)) → AreAnswers st new
+answers_kept st old new k d m r u = λ q e is. by q e is (key_eq k q) refl
+  where
+    by : (q : Key) (e : ℕ) → lookup (key_eq q) new ≡ Some e → (b : Bool) → key_eq k q ≡ b →
+        IsAnswer st q.operation q.left q.right e
+    by q e is true h =
+        let same : k ≡ q = key_same k q h in
+        let answer : d ≡ e = let eq : Some d ≡ Some e = sym (u q ∙ ap (λ b. cond b (Some d) (lookup (key_eq q) old)) h) ∙ is in cc in
+        subst (λ x. IsAnswer st q.operation q.left q.right x) answer (subst (λ (x : Key). IsAnswer st x.operation x.left x.right d) same r)
+    by q e is false h = m q e (sym (u q ∙ ap (λ b. cond b (Some d) (lookup (key_eq q) old)) h) ∙ is)
+
+-- no answer at all is kept at first
+pub answers_none : (st : Held) (rows : List (Key × ℕ)) → ((k : Key) → lookup (key_eq k) rows ≡ None) →
+    AreAnswers st rows
+answers_none st rows none = λ k d e. absurd (differs (sym (none k) ∙ e))
+  where
+    differs : {d : ℕ} → None ≡ Some d → ⊥
+    differs e = cc
+
+-- what is found of a key is its answer
+pub recalled : (st : Held) (rows : List (Key × ℕ)) (k : Key) (o : Option ℕ) → AreAnswers st rows →
+    o ≡ lookup (key_eq k) rows → IfSome o (λ d. IsAnswer st k.operation k.left k.right d)
+recalled st rows k None m e = tt
+recalled st rows k (Some d) m e = m k d (sym e)
+
+-- what an operation made of diagrams of an earlier store is its answer now
+pub answer_made : (old new : Held) (operation : Operation) (a b d : ℕ) → Grows old new → IsId old a →
+    IsId old b → HasLeaves new d (λ pk. made operation old.maxes (look old a pk) (look old b) pk) →
+    IsAnswer new operation a b d
+answer_made old new operation a b d g ia ib h =
+    let second : look old b ≡ look new b = λ i pk. sym (g.leaves b pk ib) i in
+    record {
+      left = g.ids a ia;
+      right = g.ids b ib;
+      leaves = record {
+        id = h.id;
+        leaf = λ pk w.
+            h.leaf pk w
+            ∙ ap (λ ms. made operation ms (look old a pk) (look old b) pk) (sym g.maxes)
+            ∙ ap (λ x. made operation new.maxes x (look old b) pk) (sym (g.leaves a pk ia))
+            ∙ ap (λ B. made operation new.maxes (look new a pk) B pk) second;
+      };
+    }

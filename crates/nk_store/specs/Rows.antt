@@ -1,0 +1,22 @@
+-- The answers of operations that a store keeps.
+use Rattle.std.specs.Prelude.{◌≡◌, ℕ, Bool, List, Some}
+use Rattle.std.specs.Map.{lookup}
+use Rattle.nk_store.specs.declared.operation.Operation.{Operation}
+use Rattle.nk_store.specs.declared.operation.Key.{Key}
+use Rattle.nk_store.specs.contracts.operation.KeyPartialEq.TheImpl.{ghosts}
+use Rattle.nk_store.specs.Held.{Held, IsId, look, HasLeaves}
+use Rattle.nk_store.specs.Operations.{made}
+
+-- d is the operation's answer on a and b: at each packet it has the leaf that the operation makes
+pub record IsAnswer (st : Held) (operation : Operation) (a b d : ℕ) : Type 0 where
+  pub left : IsId st a
+  pub right : IsId st b
+  pub leaves : HasLeaves st d (λ pk. made operation st.maxes (look st a pk) (look st b) pk)
+
+-- whether two keys are one
+abbrev pub key_eq : Key → Key → Bool
+key_eq k q = ghosts.eq k q
+
+-- what is kept of each key is the answer of its operation on its diagrams
+abbrev pub AreAnswers : Held → List (Key × ℕ) → Type 0
+AreAnswers st rows = (k : Key) (d : ℕ) → lookup (key_eq k) rows ≡ Some d → IsAnswer st k.operation k.left k.right d

@@ -1,0 +1,231 @@
+//! The nodes of a store, each once.
+ghost use Rattle.std.specs.Prelude.{◌≡◌, ℕ, ◌+◌, ◌-◌, ◌<◌, ◌≤◌, [], ◌++◌, length, replicate, reverse, true, slice_index, IfOk};
+ghost use Rattle.nk_store.specs.Nodes.{child_at, joined, Fits, Sound};
+ghost use Rattle.nk_store.specs.Leaves.{Strict, Every, Suits};
+ghost use Rattle.nk_store.specs.Held.{IsId, node_of, look, top, Grows, HasLeaves, AreParts, IsNodeOf, IsStill, IsReduced, AreTidy, Agree, IsCanonical, IsOver, HasFields};
+
+use crate::node::{Id, Node, Out};
+use indexmap::IndexSet;
+use nk_field::{Fid, Fields, List, PLACES, Packet};
+use std::alloc::{AllocError, Global};
+use std::marker::Model;
+
+/// The nodes, each once, in the order in which they were made, and what is kept of the fields.
+#[derive(Drop)]
+pub(crate) struct NodeTable {
+    nodes: IndexSet<Node>,
+    maxes: [u64; 18],
+    width: usize,
+    tag: Option<Fid>,
+}
+
+impl Model for NodeTable {
+    ghost use Rattle.std.specs.Prelude.{reverse};
+    ghost use Rattle.nk_store.specs.Nodes.{Sound};
+    ghost use Rattle.nk_store.specs.Held.{Held, HasFields};
+
+    ghost Value = { Held };
+
+    ghost view = { λ s. record { nodes = reverse s.nodes.keys; maxes = s.maxes; width = s.width; tag = s.tag } };
+
+    ghost invariant = { λ s. HasFields (record { nodes = reverse s.nodes.keys; maxes = s.maxes; width = s.width; tag = s.tag })
+        × Sound s.maxes (reverse s.nodes.keys) };
+}
+
+impl NodeTable {
+    /// A store with no node, for packets of these fields; it keeps their largest values, how many there are, and
+    /// which of them is the tag.
+    pub(crate) fn new(alloc: Global, fields: &Fields) -> Result<NodeTable, AllocError>
+        ensures nodes { IfOk result (λ st. st.nodes ≡ []) }
+        ensures over { IfOk result (λ st. IsOver fields.now st) }
+        ensures fields { IfOk result HasFields }
+    {
+        let _few = fields.declared();
+        Ok(NodeTable {
+            nodes: IndexSet::new(alloc),
+            maxes: maxima(fields),
+            width: fields.len(),
+            tag: fields.tag(),
+        })
+    }
+
+    /// The largest value of a field.
+    pub(crate) fn max(&self, f: Fid) -> u64
+        ensures { result ≡ slice_index self.now.maxes f }
+    {
+        self.maxes[f.place()]
+    }
+
+    /// How many fields there are, the switch and the port among them: at most eighteen.
+    pub(crate) fn width(&self) -> usize
+        ensures is { result ≡ self.now.width }
+        ensures fields { HasFields self.now }
+    {
+        self.width
+    }
+
+    /// The field that carries the tag.
+    pub(crate) fn tag(&self) -> Option<Fid>
+        ensures is { result ≡ self.now.tag }
+        ensures fields { HasFields self.now }
+    {
+        self.tag
+    }
+
+    /// What holds of all diagrams of a store; it does nothing.
+    pub(crate) fn laws(&self)
+        ensures fields { HasFields self.now }
+        ensures sound { Sound self.now.maxes self.now.nodes }
+        ensures canonical { IsCanonical self.now }
+        ensures nodes { (d : ℕ) → IsId self.now d → IsNodeOf self.now d (node_of self.now d) }
+        ensures still { (d : ℕ) → IsId self.now d → IsStill self.now d }
+        ensures reduced { (d : ℕ) → IsId self.now d → IsReduced self.now d }
+        ensures tidy { AreTidy self.now }
+    {
+        let _nodes = &self.nodes;
+    }
+
+    /// The node of a number.
+    pub(crate) fn view(&self, d: Id) -> &Node
+        requires { IsId self.now d }
+        ensures node { result.now ≡ node_of self.now d }
+        ensures means { IsNodeOf self.now d result.now }
+        ensures still { IsStill self.now d }
+        ensures reduced { IsReduced self.now d }
+        ensures tidy { AreTidy self.now }
+    {
+        &self.nodes[d.place()]
+    }
+
+    /// Tells whether two diagrams give each packet the same leaf: their numbers are equal exactly then.
+    pub(crate) fn same(&self, d: Id, e: Id) -> bool
+        requires left { IsId self.now d }
+        requires right { IsId self.now e }
+        ensures yes { result ≡ true → d ≡ e }
+        ensures canonical { Agree self.now d e → result ≡ true }
+    {
+        let _nodes = &self.nodes;
+        d == e
+    }
+
+    /// The leaf that a diagram gives a packet.
+    pub(crate) fn look(&self, d: Id, p: &Packet) -> &[Out]
+        requires { IsId self.now d }
+        ensures { result.now ≡ look self.now d p.now }
+    {
+        let mut at = d;
+        loop {
+            match self.view(at) {
+                Node::Leaf(outs) => return outs.as_slice(),
+                Node::Case(f, parts) => {
+                    at = part_child(parts.as_slice(), p.get(*f));
+                }
+            }
+        }
+    }
+
+    /// The leaf with these outs, which ascend, each once.
+    pub(crate) fn leaf_in_order(&mut self, outs: List<Out>) -> Result<Id, AllocError>
+        requires sorted { Strict outs }
+        requires suits { Every (Suits self.old.maxes) outs }
+        ensures grows { Grows self.old self.new }
+        ensures ok { IfOk result (λ d. HasLeaves self.new d (λ pk. outs)) }
+        ensures later { IfOk result (λ d. top self.new d ≡ 18) }
+    {
+        self.place(Node::Leaf(outs))
+    }
+
+    /// The allocator of the nodes.
+    pub(crate) fn alloc(&self) -> Global {
+        *self.nodes.allocator()
+    }
+
+    /// The diagram that gives a packet the leaf of the part that holds the field's value. The parts are pairs of an
+    /// interval's upper end and its child: ends rise strictly to the field's largest value, and children test later
+    /// fields alone. Neighbours with one child are joined; where one interval is left, its child is the answer.
+    pub(crate) fn case(&mut self, field: Fid, parts: List<(u64, Id)>) -> Result<Id, AllocError>
+        requires { AreParts self.old field parts }
+        ensures grows { Grows self.old self.new }
+        ensures ok { IfOk result (λ d. HasLeaves self.new d
+            (λ pk. look self.old (child_at 0 parts (slice_index pk field)) pk)) }
+        ensures later { IfOk result (λ d. field ≤ top self.new d) }
+    {
+        self.choice(field, &parts)
+    }
+
+    /// The diagram of a choice by a field.
+    fn choice(&mut self, field: Fid, parts: &List<(u64, Id)>) -> Result<Id, AllocError>
+        requires { AreParts self.old field parts.now }
+        ensures grows { Grows self.old self.new }
+        ensures ok { IfOk result (λ d. HasLeaves self.new d
+            (λ pk. look self.old (child_at 0 parts.now (slice_index pk field)) pk)) }
+        ensures later { IfOk result (λ d. field ≤ top self.new d) }
+    {
+        let kept = join(*self.nodes.allocator(), parts)?;
+        if kept.len() == 1 {
+            return Ok(kept.at(0).1);
+        }
+        let d = self.place(Node::Case(field, kept))?;
+        let _nodes = &self.nodes;
+        Ok(d)
+    }
+
+    /// How many nodes there are.
+    pub(crate) fn len(&self) -> usize
+        ensures { result ≡ length self.now.nodes }
+    {
+        self.nodes.len()
+    }
+
+    /// The number of this node, which is made where it isn't there.
+    fn place(&mut self, node: Node) -> Result<Id, AllocError>
+        requires { Fits self.old.maxes self.old.nodes node }
+        ensures grows { Grows self.old self.new }
+        ensures ok { IfOk result (λ d. IsId self.new d × (node_of self.new d ≡ node)) }
+    {
+        let (place, _) = self.nodes.insert_full(node)?;
+        Ok(Id::new(place))
+    }
+}
+
+/// The child of the part that holds the value.
+fn part_child(parts: &[(u64, Id)], value: u64) -> Id
+    requires { 0 < length parts.now }
+    ensures { result ≡ child_at 0 parts.now value }
+{
+    let mut child = parts[0].1;
+    for (end, c) in parts {
+        if value <= *end {
+            return *c;
+        }
+        child = *c;
+    }
+    child
+}
+
+/// The parts with neighbours of one child joined.
+fn join(alloc: Global, parts: &List<(u64, Id)>) -> Result<List<(u64, Id)>, AllocError>
+    ensures { IfOk result (λ kept. kept ≡ joined parts.now) }
+{
+    let mut kept = List::new(alloc);
+    let n = parts.len();
+    for i in 0..n {
+        let part = *parts.at(i);
+        if i + 1 == n || parts.at(i + 1).1 != part.1 {
+            kept.push(part)?;
+        }
+    }
+    Ok(kept)
+}
+
+/// The largest value at each place, 0 where no field is.
+fn maxima(fields: &Fields) -> [u64; 18]
+    requires { length fields.now.maxima ≤ 18 }
+    ensures { result ≡ fields.now.maxima ++ replicate (18 - length fields.now.maxima) 0 }
+{
+    let mut all = [0; 18];
+    for place in 0..fields.len() {
+        all[place] = fields.max(Fid::new(place as u8));
+    }
+    all
+}
