@@ -1,0 +1,8 @@
+use Rattle.nk.proofs.Meant.{too_long_meant}
+use Rattle.nk.proofs.top.reply_from.Goals as goal
+
+-- the source gave more than the limit
+pub returns-in-Err-TooLong : goal.returns-in-Err-TooLong
+returns-in-Err-TooLong g c =
+    let cause = rw c.in-Err-TooLong.field-0-is at c.in-Err-TooLong.ensures.cause in
+    too_long_meant _ _ cause.1 cause.0

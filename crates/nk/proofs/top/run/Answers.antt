@@ -1,0 +1,22 @@
+use Rattle.nk.specs.Ends.{Ends}
+use Rattle.nk.proofs.Endings.{caused, complete}
+use Rattle.nk.proofs.top.run.Goals as goal
+
+-- all of them follow from how the run ends
+pub returns-clause-causes : goal.returns-clause-causes
+returns-clause-causes g c =
+    let ends : Ends _ _ _ _ c.deliver.result = record {
+      answer = _;
+      meant = c.decide-reply.ensures.meant;
+      delivered = c.deliver.ensures.delivered;
+    } in
+    caused _ _ _ _ _ ends
+
+pub returns-clause-complete : goal.returns-clause-complete
+returns-clause-complete g c =
+    let ends : Ends _ _ _ _ c.deliver.result = record {
+      answer = _;
+      meant = c.decide-reply.ensures.meant;
+      delivered = c.deliver.ensures.delivered;
+    } in
+    complete _ _ _ _ _ ends

@@ -1,0 +1,60 @@
+-- The status and the text that the words and the input fix.
+use Rattle.std.specs.Prelude.{◌≡◌, ℕ, List, Bool, true, false, Option, Some, None, MatchBool}
+use Rattle.std.specs.Prelude.{codes, length, nat_lt}
+use Rattle.nk.specs.declared.status.Status.{Status}
+use Rattle.nk.specs.declared.status.Status.TheVariants.{Done, Differs, Usage, Text, Refused}
+use Rattle.nk.specs.declared.status.Status.TheVariants.{ReadFault, NoMemory, TooLong}
+use Rattle.nk_words.specs.declared.words.Command.{Command}
+use Rattle.nk_words.specs.declared.words.Command.TheVariants.{Compile}
+use Rattle.nk.specs.Compiling.{Outcome, done, differs, text_refused, policy_refused, IsCompileAnswer}
+
+-- a status and its text
+pub record Answer : Type 0 where
+  pub status : Status
+  pub text : List ℕ
+
+abbrev pub answer : Status → List ℕ → Answer
+answer s text = record { status = s; text = text }
+
+-- the text goes to `out`, and nothing to `err`; else the other way round
+abbrev pub goes_out : Status → Bool
+goes_out Done = true
+goes_out Differs = true
+goes_out s = false
+
+abbrev pub usage : Answer
+usage = answer Usage (codes "usage: nk COMMAND ARGUMENTS\n")
+
+abbrev pub read_fault : Answer
+read_fault = answer ReadFault (codes "read fault\n")
+
+abbrev pub no_memory : Answer
+no_memory = answer NoMemory (codes "no memory\n")
+
+abbrev pub too_long : Answer
+too_long = answer TooLong (codes "too long\n")
+
+-- how many bytes an input has at most
+abbrev pub limit : ℕ
+limit = 16777216
+
+-- the status of each kind of answer that a command has
+abbrev pub answer_of : Outcome → Answer
+answer_of (done text) = answer Done text
+answer_of (differs text) = answer Differs text
+answer_of (text_refused text) = answer Text text
+answer_of (policy_refused text) = answer Refused text
+
+-- what a command answers to an input within the limit
+abbrev pub IsOutcome : Command → List ℕ → Outcome → Type 0
+IsOutcome (Compile name) bytes outcome = IsCompileAnswer name bytes outcome
+
+-- the answer is one that the command has to the input
+abbrev pub IsOutcomeOf : Command → List ℕ → Answer → Type 0
+IsOutcomeOf c bytes a = (outcome : Outcome) × IsOutcome c bytes outcome × (a ≡ answer_of outcome)
+
+-- the answer to a command, or to words that are none, and the input
+abbrev pub IsAnswerTo : Option Command → List ℕ → Answer → Type 0
+IsAnswerTo None bytes a = a ≡ usage
+IsAnswerTo (Some c) bytes a =
+    MatchBool (nat_lt limit (length bytes)) (a ≡ too_long) (IsOutcomeOf c bytes a)

@@ -1,0 +1,154 @@
+-- How a run ends.
+use Rattle.std.specs.Prelude.{◌≡◌, ◌⊎◌, ◌<◌, ◌≤◌, ℕ, List, length, Option, Some, None, IsSome, MatchBool}
+use Rattle.std.specs.Io.KnownBytes.{IsAtEnd, Keeps}
+use Rattle.nk_io.specs.Reading.{GaveMore, GaveWithin}
+use Rattle.nk_words.specs.Words.{command_of}
+use Rattle.nk_words.specs.declared.words.Command.{Command}
+use Rattle.nk.specs.declared.status.Status.{Status}
+use Rattle.nk.specs.declared.status.Status.TheVariants.{Done, Differs, Usage, Text, Refused}
+use Rattle.nk.specs.declared.status.Status.TheVariants.{ReadFault, WriteFault, NoMemory, TooLong}
+use Rattle.nk.specs.Compiling.{Outcome, done, differs, text_refused, policy_refused}
+use Rattle.nk.specs.Answer.{Answer, IsAnswerTo, IsOutcome, answer_of, goes_out, limit}
+use Rattle.nk.specs.Answer.{no_memory, read_fault, too_long, usage}
+use Rattle.nk.specs.Use.{FailedAt, HadLeft, HasRisen, IsQuiet, IsUntouched, Took, Use}
+
+-- What was read for an answer with this status: nothing where the words are no command, more than
+-- the limit where that is the answer, and else all that was left.
+abbrev pub IsRead : Option Command → Use → Status → Type 0
+IsRead None source s = Keeps source.old source.new
+IsRead (Some c) source TooLong = GaveMore limit source.old source.new
+IsRead (Some c) source s = IsAtEnd source.new
+
+-- the command and the input fix this answer
+pub record IsFixedBy (c : Option Command) (source : Use) (a : Answer) : Type 0 where
+  pub bytes : List ℕ
+  pub left : HadLeft source bytes
+  pub answer : IsAnswerTo c bytes a
+  pub read : IsRead c source a.status
+  pub quiet : IsQuiet source
+
+-- a call of the source failed while the input of a command was read
+pub record IsReadFault (c : Option Command) (source : Use) (a : Answer) : Type 0 where
+  pub answer : a ≡ read_fault
+  pub rose : HasRisen source
+  pub command : IsSome c
+  pub given : GaveWithin limit source.old source.new
+
+-- memory ran out, and no call of the source failed
+pub record IsNoMemory (source : Use) (a : Answer) : Type 0 where
+  pub answer : a ≡ no_memory
+  pub quiet : IsQuiet source
+  pub given : GaveWithin limit source.old source.new
+
+-- Why a run means to give an answer with this status. A failed write is no answer.
+abbrev pub IsCauseTo : Status → Option Command → Use → Answer → Type 0
+IsCauseTo ReadFault c source a = IsReadFault c source a
+IsCauseTo NoMemory c source a = IsNoMemory source a
+IsCauseTo WriteFault c source a = ⊥
+IsCauseTo s c source a = IsFixedBy c source a
+
+-- why a run means to give the answer to this command
+abbrev pub IsMeantTo : Option Command → Use → Answer → Type 0
+IsMeantTo c source a = IsCauseTo a.status c source a
+
+-- why a run means to give the answer to these words: the source failed, memory ran out, or it is
+-- the one that the words and the input fix
+abbrev pub IsMeant : List (List ℕ) → Use → Answer → Type 0
+IsMeant words source a = IsMeantTo (command_of words) source a
+
+-- the sink that the answer goes to took the whole of it, and the other was not touched
+abbrev pub IsSent : Answer → Use → Use → Type 0
+IsSent a out err = MatchBool (goes_out a.status)
+    (Took out a.text × IsUntouched err) (Took err a.text × IsUntouched out)
+
+-- the sink that the answer goes to failed at it, and the other was not touched
+abbrev pub FailsIn : Answer → Use → Use → Type 0
+FailsIn a out err = MatchBool (goes_out a.status)
+    (FailedAt out a.text × IsUntouched err) (FailedAt err a.text × IsUntouched out)
+
+-- the answer went out whole, or its sink failed at it
+abbrev pub Delivers : Answer → Use → Use → Status → Type 0
+Delivers a out err s =
+    ((s ≡ a.status) × IsSent a out err) ⊎ ((s ≡ WriteFault) × FailsIn a out err)
+
+-- the run meant an answer for a cause, and then sent it or failed at it
+pub record Ends (words : List (List ℕ)) (source out err : Use) (s : Status) : Type 0 where
+  pub answer : Answer
+  pub meant : IsMeant words source answer
+  pub delivered : Delivers answer out err s
+
+-- the words are a command that has an answer of this kind to all of the input, and it was sent
+pub record Answers (words : List (List ℕ)) (source out err : Use) (kind : List ℕ → Outcome)
+    : Type 0 where
+  pub command : Command
+  pub bytes : List ℕ
+  pub text : List ℕ
+  pub given : command_of words ≡ Some command
+  pub left : HadLeft source bytes
+  pub fits : length bytes ≤ limit
+  pub is_outcome : IsOutcome command bytes (kind text)
+  pub end : IsAtEnd source.new
+  pub quiet : IsQuiet source
+  pub sent : IsSent (answer_of (kind text)) out err
+
+-- the words are no command, nothing was read, and that was said
+pub record IsUsage (words : List (List ℕ)) (source out err : Use) : Type 0 where
+  pub none : command_of words ≡ None
+  pub unread : IsUntouched source
+  pub sent : IsSent usage out err
+
+-- the words are a command, more bytes than the limit were left, and that was said
+pub record IsTooLong (words : List (List ℕ)) (source out err : Use) : Type 0 where
+  pub command : IsSome (command_of words)
+  pub bytes : List ℕ
+  pub left : HadLeft source bytes
+  pub longer : limit < length bytes
+  pub given : GaveMore limit source.old source.new
+  pub quiet : IsQuiet source
+  pub sent : IsSent too_long out err
+
+-- a sink failed at the answer that was meant
+pub record IsWriteFault (words : List (List ℕ)) (source out err : Use) : Type 0 where
+  pub answer : Answer
+  pub meant : IsMeant words source answer
+  pub failed : FailsIn answer out err
+
+-- the cause of each status
+abbrev pub IsCaused : List (List ℕ) → Use → Use → Use → Status → Type 0
+IsCaused words source out err Done = Answers words source out err done
+IsCaused words source out err Differs = Answers words source out err differs
+IsCaused words source out err Text = Answers words source out err text_refused
+IsCaused words source out err Refused = Answers words source out err policy_refused
+IsCaused words source out err Usage = IsUsage words source out err
+IsCaused words source out err TooLong = IsTooLong words source out err
+IsCaused words source out err ReadFault =
+    IsReadFault (command_of words) source read_fault × IsSent read_fault out err
+IsCaused words source out err NoMemory = IsNoMemory source no_memory × IsSent no_memory out err
+IsCaused words source out err WriteFault = IsWriteFault words source out err
+
+-- the run ended with the answer that the words and the input fix
+pub record EndsFixed (words : List (List ℕ)) (source out err : Use) (s : Status) : Type 0 where
+  pub answer : Answer
+  pub fixed : IsFixedBy (command_of words) source answer
+  pub status : s ≡ answer.status
+  pub sent : IsSent answer out err
+
+-- where no count rose, the run ends with the answer that is fixed, or for want of memory
+abbrev pub IsComplete : List (List ℕ) → Use → Use → Use → Status → Type 0
+IsComplete words source out err s = ¬ HasRisen source → ¬ HasRisen out → ¬ HasRisen err
+    → (s ≡ NoMemory) ⊎ EndsFixed words source out err s
+
+-- What failed is told. The counts were below their last value.
+pub record TellsFaults (source out err : Use) (s : Status) : Type 0 where
+  -- A failed read is never taken for the end of the input: the run says so, or fails at saying so.
+  pub read : source.before < source.now
+      → ((s ≡ ReadFault) × IsSent read_fault out err)
+      ⊎ ((s ≡ WriteFault) × FailsIn read_fault out err)
+  pub write : (out.before < out.now) ⊎ (err.before < err.now) → s ≡ WriteFault
+
+-- Of two facts about `out` and `err`, the one of the sink that a run with this status leaves alone.
+abbrev pub LeavesAlone : Status → Type 0 → Type 0 → Type 0
+LeavesAlone Done out err = err
+LeavesAlone Differs out err = err
+LeavesAlone WriteFault out err = out ⊎ err
+LeavesAlone s out err = out

@@ -1,0 +1,7 @@
+pub mod Status
+pub mod Use
+pub mod Messages
+pub mod Compiling
+pub mod Answer
+pub mod Ends
+pub mod Reply

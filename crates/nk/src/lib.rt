@@ -1,0 +1,14 @@
+//! The commands over bytes: what is read, what is answered, and how a run ends.
+#![tactic(auto)]
+
+mod compiling;
+mod messages;
+mod reply;
+mod status;
+#[cfg(test)]
+mod tests;
+mod top;
+
+pub use reply::{Reply, Said};
+pub use status::Status;
+pub use top::run;

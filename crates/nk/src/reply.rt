@@ -1,0 +1,66 @@
+//! What a run means to say, and how it is sent.
+ghost use Rattle.std.specs.Prelude.{◌≡◌};
+ghost use Rattle.nk.specs.Use.{use_of};
+ghost use Rattle.nk.specs.Ends.{Delivers, LeavesAlone};
+ghost use Rattle.nk.specs.Reply.{answer_in, Sends};
+
+use crate::Status;
+use nk_io::{Sink, write_all};
+
+/// What a command answers, whole, before its first byte is written. Each line of a text ends with a
+/// line feed.
+#[derive(Drop)]
+pub enum Said {
+    /// It is done: the answer.
+    Done(Vec<u8>),
+    /// What was compared differs: how.
+    Differs(Vec<u8>),
+    /// The text of the input is refused: the message.
+    Text(Vec<u8>),
+    /// The policy is refused: the message.
+    Refused(Vec<u8>),
+}
+
+/// What a run means to say.
+#[derive(Drop)]
+pub enum Reply {
+    /// What the command answers.
+    Said(Said),
+    /// The words are not those of a command.
+    Usage,
+    /// A call of the source failed.
+    ReadFault,
+    /// There was not enough memory.
+    NoMemory,
+    /// The input has more bytes than the limit.
+    TooLong,
+}
+
+/// Sends the answer to its sink, and leaves the other as it is. It takes no memory.
+pub fn deliver<O: Sink, E: Sink>(reply: &Reply, out: &mut O, err: &mut E) -> Status
+    ensures delivered { Delivers (answer_in reply.now)
+        (use_of O.taken O.faults out.old out.new)
+        (use_of E.taken E.faults err.old err.new) result }
+    ensures alone { LeavesAlone result (out.new ≡ out.old) (err.new ≡ err.old) }
+{
+    match reply {
+        Reply::Said(Said::Done(text)) => send(out, text, Status::Done),
+        Reply::Said(Said::Differs(text)) => send(out, text, Status::Differs),
+        Reply::Said(Said::Text(text)) => send(err, text, Status::Text),
+        Reply::Said(Said::Refused(text)) => send(err, text, Status::Refused),
+        Reply::Usage => send(err, b"usage: nk COMMAND ARGUMENTS\n", Status::Usage),
+        Reply::ReadFault => send(err, b"read fault\n", Status::ReadFault),
+        Reply::NoMemory => send(err, b"no memory\n", Status::NoMemory),
+        Reply::TooLong => send(err, b"too long\n", Status::TooLong),
+    }
+}
+
+/// Sends the bytes, and answers the status where all of them went out.
+fn send<K: Sink>(sink: &mut K, bytes: &[u8], status: Status) -> Status
+    ensures { Sends (use_of K.taken K.faults sink.old sink.new) bytes.now status result }
+{
+    match write_all(sink, bytes) {
+        Ok(()) => status,
+        Err(_) => Status::WriteFault,
+    }
+}

@@ -1,0 +1,104 @@
+//! The top call.
+ghost use Rattle.std.specs.Prelude.{◌≡◌, None, Some, IfOk};
+ghost use Rattle.nk_words.specs.Words.{command_of, texts};
+ghost use Rattle.nk.specs.Answer.{IsOutcome};
+ghost use Rattle.nk.specs.Use.{use_of};
+ghost use Rattle.nk.specs.Ends.{Ends, IsCaused, IsComplete, IsMeant, IsMeantTo};
+ghost use Rattle.nk.specs.Ends.{LeavesAlone, TellsFaults};
+ghost use Rattle.nk.specs.Reply.{answer_in, said, IsReplyTo};
+
+use crate::Status;
+use crate::compiling::compile_answer;
+use crate::reply::{Reply, Said, deliver};
+use nk_io::{ReadError, Sink, Source, read_all};
+use nk_words::{Command, WordsError, read_words};
+use std::alloc::{AllocError, Global};
+
+/// How many bytes an input has at most.
+const LIMIT: u64 = 16_777_216;
+
+/// Does what the words ask for, which are those after the program's name. Words that are no command
+/// are told before anything is read; else the source is read to its end. The whole answer is built
+/// before its first byte is written: on `out` for the statuses `Done` and `Differs`, and on `err` for
+/// the others. After a write that fails nothing more is written.
+pub fn run<S: Source, O: Sink, E: Sink>(
+    alloc: Global,
+    words: &[String],
+    source: &mut S,
+    out: &mut O,
+    err: &mut E,
+) -> Status
+    // An answer was meant for a cause, and then sent, or its sink failed at it.
+    ensures ends { Ends (texts words.now)
+        (use_of S.left S.faults source.old source.new)
+        (use_of O.taken O.faults out.old out.new)
+        (use_of E.taken E.faults err.old err.new) result }
+    // When each status comes.
+    ensures causes { IsCaused (texts words.now)
+        (use_of S.left S.faults source.old source.new)
+        (use_of O.taken O.faults out.old out.new)
+        (use_of E.taken E.faults err.old err.new) result }
+    // Where nothing failed, the answer that is fixed went out, or memory ran out.
+    ensures complete { IsComplete (texts words.now)
+        (use_of S.left S.faults source.old source.new)
+        (use_of O.taken O.faults out.old out.new)
+        (use_of E.taken E.faults err.old err.new) result }
+    // What failed is told.
+    ensures faults { TellsFaults
+        (use_of S.left S.faults source.old source.new)
+        (use_of O.taken O.faults out.old out.new)
+        (use_of E.taken E.faults err.old err.new) result }
+    // Words that are no command, and only those, are told as such, and then nothing is read.
+    ensures usage { result ≡ Status.Usage → command_of (texts words.now) ≡ None }
+    ensures unread { command_of (texts words.now) ≡ None → source.new ≡ source.old }
+    // No call was made on the sink that the answer doesn't go to.
+    ensures alone { LeavesAlone result (out.new ≡ out.old) (err.new ≡ err.old) }
+{
+    let reply = decide(alloc, words, source);
+    deliver(&reply, out, err)
+}
+
+/// What the run means to say. Nothing is written yet.
+fn decide<S: Source>(alloc: Global, words: &[String], source: &mut S) -> Reply
+    ensures meant { IsMeant (texts words.now)
+        (use_of S.left S.faults source.old source.new) (answer_in result) }
+    ensures unread { command_of (texts words.now) ≡ None → source.new ≡ source.old }
+{
+    match read_words(alloc, words) {
+        Ok(command) => reply_from(alloc, &command, source),
+        Err(WordsError::Usage) => Reply::Usage,
+        Err(WordsError::NoMemory) => Reply::NoMemory,
+    }
+}
+
+/// What the run means to say to this command.
+fn reply_from<S: Source>(alloc: Global, command: &Command, source: &mut S) -> Reply
+    ensures { IsMeantTo (Some command.now)
+        (use_of S.left S.faults source.old source.new) (answer_in result) }
+{
+    match read_all(alloc, source, LIMIT) {
+        Ok(bytes) => reply_to(alloc, command, &bytes),
+        Err(ReadError::ReadFault) => Reply::ReadFault,
+        Err(ReadError::TooLong) => Reply::TooLong,
+        Err(ReadError::NoMemory) => Reply::NoMemory,
+    }
+}
+
+/// What the command answers to the input, where memory doesn't run out.
+fn reply_to(alloc: Global, command: &Command, bytes: &[u8]) -> Reply
+    ensures { IsReplyTo command.now bytes.now result }
+{
+    match perform(alloc, command, bytes) {
+        Ok(said) => Reply::Said(said),
+        Err(_) => Reply::NoMemory,
+    }
+}
+
+/// What the command answers to the input.
+fn perform(alloc: Global, command: &Command, bytes: &[u8]) -> Result<Said, AllocError>
+    ensures { IfOk result (λ s. IsOutcome command.now bytes.now (said s)) }
+{
+    match command {
+        Command::Compile(name) => compile_answer(alloc, name.as_str(), bytes),
+    }
+}
