@@ -1,5 +1,9 @@
 pub mod Ascending
 pub mod FieldTables
+pub mod Gives
+pub mod Items
 pub mod Lists
+pub mod Printing
+pub mod ReadBack
 pub mod Thens
 pub mod Withouts

@@ -5,8 +5,9 @@ use crate::list::List;
 use crate::packet::Packet;
 use std::alloc::AllocError;
 
-/// A history: the recorded packets, oldest first, and the last packet.
-#[derive(PartialEq, Eq, Debug, Drop)]
+/// A history: the recorded packets, oldest first, and the last packet. Histories are ordered by their records in turn,
+/// then by the last packet.
+#[derive(PartialEq, Eq, PartialOrd, Ord, Debug, Drop)]
 pub struct History {
     /// The recorded packets, oldest first.
     pub records: List<Packet>,

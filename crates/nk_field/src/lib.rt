@@ -4,15 +4,18 @@
 mod act;
 mod fields;
 mod history;
+pub mod laws;
 mod list;
 mod packet;
+mod reading;
 mod short;
-#[cfg(test)]
-mod tests;
+mod texts;
 
 pub use act::Act;
 pub use fields::{Fields, FieldsError, MOST_FIELDS};
 pub use history::History;
 pub use list::List;
 pub use packet::{Fid, PLACES, Packet};
+pub use reading::{PacketError, read_packet};
 pub use short::Short;
+pub use texts::{history_text, packet_text};

@@ -49,8 +49,9 @@ impl Fid {
 }
 
 /// One value per field, and 0 at each place that no field has. A contract sees it as the list of its eighteen values,
-/// and `IsPacket` says that they are in the ranges of some fields.
-#[derive(Clone, Copy, PartialEq, Eq, Debug)]
+/// and `IsPacket` says that they are in the ranges of some fields. Packets are ordered by the first field where they
+/// differ.
+#[derive(Clone, Copy, PartialEq, Eq, PartialOrd, Ord, Debug)]
 pub struct Packet {
     values: [u64; 18],
 }

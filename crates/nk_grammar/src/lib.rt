@@ -27,8 +27,6 @@ mod laws;
 mod parts;
 mod place;
 mod reader;
-#[cfg(test)]
-mod tests;
 mod text;
 
 pub use ast::{Ast, Asts, Number, Word};

@@ -12,8 +12,6 @@ mod front;
 mod kind;
 mod laws;
 mod lexemes;
-#[cfg(test)]
-mod tests;
 mod token;
 
 pub use bytes::Bytes;

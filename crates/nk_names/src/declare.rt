@@ -16,7 +16,7 @@ use crate::lets::Lets;
 use crate::names::{Names, field_with};
 use nk_field::{Fields, FieldsError};
 use nk_grammar::{Ast, Decl, Number, Word};
-use nk_topo::{LinkEnd, Topo, TopoError};
+use nk_topo::{LinkEnd, TopoBuilder, TopoError};
 use std::alloc::{AllocError, Global};
 use std::collections::HashSet;
 
@@ -95,7 +95,7 @@ pub(crate) fn no_names(alloc: Global) -> Result<Names, AllocError>
     ensures { IfOk result (λ n. said_in n ≡ nothing_said) }
 {
     let fields = Fields::new(alloc)?;
-    let topo = Topo::new(alloc)?;
+    let topo = TopoBuilder::new(alloc);
     let lets = Lets::new(alloc);
     Ok(Names { fields, topo, lets })
 }

@@ -16,8 +16,6 @@ mod names;
 pub mod reading;
 mod rows;
 mod shape;
-#[cfg(test)]
-mod tests;
 
 pub use fault::{FaultKind, NamesError};
 use nk_field::{Fields, List};

@@ -4,13 +4,13 @@ ghost use Rattle.nk_field.specs.Packet.{IsFieldTable, field_named};
 
 use crate::lets::Lets;
 use nk_field::{Fid, Fields};
-use nk_topo::Topo;
+use nk_topo::TopoBuilder;
 
 /// The fields, the topology and the policies declared so far.
 #[derive(Drop)]
 pub(crate) struct Names {
     pub(crate) fields: Fields,
-    pub(crate) topo: Topo,
+    pub(crate) topo: TopoBuilder,
     pub(crate) lets: Lets,
     ghost table: { IsFieldTable fields },
 }

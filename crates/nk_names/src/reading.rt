@@ -24,6 +24,7 @@ pub fn program(alloc: Global, f: &File) -> Result<Program, NamesError>
         names = with_decl(alloc, names, decl)?;
     }
     let Names { fields, topo, lets } = names;
+    let topo = topo.finish()?;
     let _switches = topo.switches();
     Ok(Program {
         fields,

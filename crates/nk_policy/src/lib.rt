@@ -13,6 +13,3 @@ pub use measure::{depth, dups, is_predicate, size};
 pub use policy::{Pol, Pols};
 pub use rebuild::{expand_links, marked};
 pub use text::pol_text;
-
-#[cfg(test)]
-mod examples;

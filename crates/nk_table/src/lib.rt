@@ -4,8 +4,6 @@
 mod copies;
 pub mod laws;
 mod search;
-#[cfg(test)]
-mod tests;
 
 use nk_field::{Act, Fid, Fields, List};
 use nk_topo::Topo;

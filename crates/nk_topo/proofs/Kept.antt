@@ -79,7 +79,7 @@ first_from (k ∷ ls) l up i = ⊎_elim this (λ j. later j (first_from ls l up.
         ap (λ b. if b then Some (k.to_switch, k.to_port) else target_among ls l.from_switch l.from_port) other ∙ rest
 
 -- no link begins at a port from which none leads
-none_from : (ls : List Link) (sw pt : ℕ) (l : Link) → IsNone (target_among ls sw pt) → In ls l →
+pub none_from : (ls : List Link) (sw pt : ℕ) (l : Link) → IsNone (target_among ls sw pt) → In ls l →
     ((l.from_switch == sw) && (l.from_port == pt)) ≡ false
 none_from [] sw pt l none i = absurd i
 none_from (k ∷ ls) sw pt l none i =

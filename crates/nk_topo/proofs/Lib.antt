@@ -1,3 +1,4 @@
+pub mod Gathers
 pub mod Insides
 pub mod Kept
 pub mod Members

@@ -1,9 +1,9 @@
 //! Switches with their ports, and the links between ports.
 #![tactic(auto)]
 
+mod builder;
 mod search;
-#[cfg(test)]
-mod tests;
 mod topo;
 
+pub use builder::TopoBuilder;
 pub use topo::{LinkEnd, Topo, TopoError};

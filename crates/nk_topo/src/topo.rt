@@ -47,12 +47,15 @@ pub enum TopoError {
 /// Switches with their ports, and links between declared ports: at most one begins at a port, and at most one ends
 /// there. A contract sees it as a `Topology`: switches ascend by number, the ports of each ascend, and links ascend by
 /// source.
+///
+/// Both are kept sorted, so one that is declared before others that are greater moves these: a `TopoBuilder` takes them in
+/// any order.
 #[derive(Drop)]
 pub struct Topo {
-    numbers: Vec<u16>,
-    ports: Vec<Vec<u16>>,
-    links: Vec<(u16, u16, u16, u16)>,
-    targets: HashSet<(u16, u16)>,
+    pub(crate) numbers: Vec<u16>,
+    pub(crate) ports: Vec<Vec<u16>>,
+    pub(crate) links: Vec<(u16, u16, u16, u16)>,
+    pub(crate) targets: HashSet<(u16, u16)>,
 }
 
 impl Model for Topo {
