@@ -2,7 +2,9 @@ pub mod Parts
 pub mod Built
 pub mod Weaves
 pub mod Merges
-pub mod Restricted
+pub mod Turned
+pub mod Gathers
+pub mod MadeOf
 pub mod Sequences
 pub mod Sorted
 pub mod Acts

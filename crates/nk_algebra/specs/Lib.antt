@@ -1,4 +1,5 @@
 pub mod Subs
+pub mod MadeOf
 pub mod Leaves
 pub mod Spans
 pub mod Seqs

@@ -1,11 +1,10 @@
 //! Targets, and assignments.
-ghost use Rattle.std.specs.Prelude.{◌≡◌, ℕ, ◌<◌, ◌≤◌, [], ◌∷◌, IfOk, length, drop, slice_index};
+ghost use Rattle.std.specs.Prelude.{◌≡◌, ℕ, ◌<◌, ◌≤◌, [], ◌∷◌, map, IfOk, slice_index};
 ghost use Rattle.nk_store.specs.Held.{IsId, look, top, Grows, HasLeaves};
-ghost use Rattle.nk_algebra.specs.Leaves.{merged, gathered, out_to, aimed};
+ghost use Rattle.nk_algebra.specs.Leaves.{out_to, aimed};
 ghost use Rattle.nk_algebra.specs.Predicates.{Ends};
 
-use crate::leaves::join_sorted;
-use crate::pairs::{Join, merge};
+use crate::maps::{LeafMap, map_leaves};
 use nk_field::{Act, Fid, List};
 use nk_store::{Id, Out, Store};
 use std::alloc::{AllocError, Global};
@@ -16,39 +15,28 @@ struct ToTarget {
     target: u64,
 }
 
-impl Join for ToTarget {
-    ghost joined = { λ s a b. aimed s.target a };
+impl LeafMap for ToTarget {
+    ghost mapped = { λ s os. aimed s.target os };
 
     ghost allowed = { λ _ _. Unit {0} };
 
-    fn join(&self, alloc: Global, a: &[Out], _b: &[Out]) -> Result<List<Out>, AllocError> {
-        aim_outs(alloc, self.target, a)
+    fn map(&self, alloc: Global, outs: &[Out]) -> Result<List<Out>, AllocError> {
+        outs_to(alloc, self.target, outs)
     }
 }
 
-/// Each out with one target, ascending.
-fn aim_outs(alloc: Global, target: u64, outs: &[Out]) -> Result<List<Out>, AllocError>
-    ensures { IfOk result (λ r. r ≡ aimed target outs.now) }
+/// Each out with one target, in their order.
+fn outs_to(alloc: Global, target: u64, outs: &[Out]) -> Result<List<Out>, AllocError>
+    ensures { IfOk result (λ r. r ≡ map (out_to target) outs.now) }
 {
     let mut all = List::new(alloc);
-    let mut i = outs.len();
-    while i > 0 {
-        i -= 1;
-        all = with_aimed(alloc, target, &outs[i], &all)?;
+    for o in outs {
+        all.push(Out {
+            act: o.act.copy()?,
+            target,
+        })?;
     }
     Ok(all)
-}
-
-/// The list with one more out, which gets the target.
-fn with_aimed(alloc: Global, target: u64, o: &Out, all: &List<Out>) -> Result<List<Out>, AllocError>
-    ensures { IfOk result (λ r. r ≡ merged (out_to target o.now ∷ []) all.now) }
-{
-    let mut one = List::new(alloc);
-    one.push(Out {
-        act: o.act.copy()?,
-        target,
-    })?;
-    join_sorted(alloc, one.as_slice(), all.as_slice())
 }
 
 /// The diagram with one target for all.
@@ -59,7 +47,7 @@ pub fn aim(st: &mut Store, d: Id, target: u64) -> Result<Id, AllocError>
     ensures later { IfOk result (λ r. top st.old d ≤ top st.new r) }
     ensures ends { IfOk result (λ r. target ≡ 0 → Ends (look st.new r)) }
 {
-    merge(st, &ToTarget { target }, d, d)
+    map_leaves(st, &ToTarget { target }, d)
 }
 
 /// The assignment of a value to a field.

@@ -22,8 +22,6 @@ struct Absent;
 impl Join for Together {
     ghost joined = { λ _. merged };
 
-    ghost allowed = { λ _ _. Unit {0} };
-
     fn known(&self, st: &Store, a: Id, b: Id) -> Option<Id> {
         if let Some(d) = united(st, a, b) {
             return Some(d);
@@ -65,7 +63,7 @@ fn is_nothing(st: &Store, d: Id) -> bool
 }
 
 /// Two ascending lists as one.
-pub fn join_sorted(alloc: Global, a: &[Out], b: &[Out]) -> Result<List<Out>, AllocError>
+fn join_sorted(alloc: Global, a: &[Out], b: &[Out]) -> Result<List<Out>, AllocError>
     ensures { IfOk result (λ r. r ≡ merged a.now b.now) }
 {
     let mut all = List::new(alloc);
@@ -95,8 +93,6 @@ pub fn join_sorted(alloc: Global, a: &[Out], b: &[Out]) -> Result<List<Out>, All
 
 impl Join for Guard {
     ghost joined = { λ _. guarded };
-
-    ghost allowed = { λ _ _. Unit {0} };
 
     fn known(&self, st: &Store, a: Id, b: Id) -> Option<Id> {
         if let Some(d) = guarded_by_leaf(st, a, b) {
@@ -135,8 +131,6 @@ fn guarded_by_leaf(st: &Store, a: Id, b: Id) -> Option<Id>
 
 impl Join for Absent {
     ghost joined = { λ _. absent };
-
-    ghost allowed = { λ _ _. Unit {0} };
 
     fn known(&self, st: &Store, a: Id, b: Id) -> Option<Id> {
         st.recall(Operation::Negate, a, b)

@@ -15,8 +15,6 @@ use std::alloc::{AllocError, Global};
 pub trait Join {
     ghost joined: { Self → Items Out → Items Out → Items Out };
 
-    ghost allowed: { Self → Items ℕ → Type 0 };
-
     /// Two diagrams put together, where that is known at once.
     fn known(&self, _st: &Store, _a: Id, _b: Id) -> Option<Id>
         requires left { IsId _st.now _a }
@@ -42,7 +40,7 @@ pub trait Join {
         requires right { Strict b.now }
         ensures is { IfOk result (λ r. r ≡ joined self.now a.now b.now) }
         ensures sorted { IfOk result (λ r. Strict r) }
-        ensures suits { IfOk result (λ r. (maxes : Items ℕ) → allowed self.now maxes → Every (Suits maxes) a.now → Every (Suits maxes) b.now → Every (Suits maxes) r) };
+        ensures suits { IfOk result (λ r. (maxes : Items ℕ) → Every (Suits maxes) a.now → Every (Suits maxes) b.now → Every (Suits maxes) r) };
 }
 
 /// The first field that one of two diagrams tests, if any.
@@ -64,7 +62,6 @@ fn first_field(st: &Store, a: Id, b: Id) -> Option<Fid>
 pub fn merge<J: Join>(st: &mut Store, j: &J, a: Id, b: Id) -> Result<Id, AllocError>
     requires left { IsId st.old a }
     requires right { IsId st.old b }
-    requires allowed { J.allowed j.now st.old.maxes }
     ensures grows { Grows st.old st.new }
     ensures ok { IfOk result (λ d. HasLeaves st.new d (λ pk. J.joined j.now (look st.old a pk) (look st.old b pk))) }
     ensures later { IfOk result (λ d. min (top st.old a) (top st.old b) ≤ top st.new d) }
@@ -81,7 +78,6 @@ fn merge_case<J: Join>(st: &mut Store, j: &J, f: Fid, a: Id, b: Id) -> Result<Id
     requires left { IsId st.old a }
     requires right { IsId st.old b }
     requires first { IsFirst st.old a b f }
-    requires allowed { J.allowed j.now st.old.maxes }
     ensures grows { Grows st.old st.new }
     ensures ok { IfOk result (λ d. HasLeaves st.new d (λ pk. J.joined j.now (look st.old a pk) (look st.old b pk))) }
     ensures later { IfOk result (λ d. min (top st.old a) (top st.old b) ≤ top st.new d) }
@@ -110,7 +106,6 @@ fn known_top<J: Join>(st: &Store, j: &J, a: Id, b: Id) -> Option<Id>
 fn merge_leaves<J: Join>(st: &mut Store, j: &J, a: Id, b: Id) -> Result<Id, AllocError>
     requires left { IsId st.old a }
     requires right { IsId st.old b }
-    requires allowed { J.allowed j.now st.old.maxes }
     requires left_leaf { top st.old a ≡ 18 }
     requires right_leaf { top st.old b ≡ 18 }
     ensures grows { Grows st.old st.new }
@@ -136,7 +131,6 @@ fn merge_parts<J: Join>(
     requires left { IsId st.old a }
     requires right { IsId st.old b }
     requires first { IsFirst st.old a b f }
-    requires allowed { J.allowed j.now st.old.maxes }
     ensures grows { Grows st.old st.new }
     ensures parts { IfOk result (λ ps. AreParts st.new f ps) }
     ensures ok { IfOk result (λ ps. (v : ℕ) (pk : Items ℕ) → IsWhole pk → look st.new (child_at 0 ps v) pk ≡ J.joined j.now (look st.old (sub st.old f v a) pk) (look st.old (sub st.old f v b) pk)) }

@@ -1,11 +1,22 @@
 //! A diagram at one value of its first field.
-ghost use Rattle.std.specs.Prelude.{◌≡◌, ℕ, ◌<◌, ◌≤◌, length, slice_index, slice_index_or};
+ghost use Rattle.std.specs.Prelude.{◌≡◌, ℕ, ◌<◌, ◌≤◌, length, MatchOption, slice_index, slice_index_or};
 ghost use Rattle.nk_store.specs.Nodes.{Rises};
 ghost use Rattle.nk_store.specs.Held.{IsId, top};
-ghost use Rattle.nk_algebra.specs.Subs.{found_in, IsPart};
+ghost use Rattle.nk_algebra.specs.Subs.{found_in, IsPart, IsSplit};
 
 use nk_field::Fid;
 use nk_store::{Id, Node, Store};
+
+/// The field that a diagram tests first.
+pub fn tested(st: &Store, a: Id) -> Option<Fid>
+    requires { IsId st.now a }
+    ensures { MatchOption result (top st.now a ≡ 18) (λ f. (f < 18) × (top st.now a ≡ f) × IsSplit st.now f a) }
+{
+    match st.view(a) {
+        Node::Leaf(_) => None,
+        Node::Case(f, _) => Some(*f),
+    }
+}
 
 /// What the diagram is at a value of the field: up to which value, and which diagram.
 pub fn part_at(st: &Store, d: Id, f: Fid, v: u64) -> (u64, Id)

@@ -1,10 +1,9 @@
 //! One diagram, then another one.
-ghost use Rattle.std.specs.Prelude.{◌≡◌, ℕ, ◌≤◌, ◌<◌, List as Items, [], ◌∷◌, ◌++◌, IfOk, OnOk, MatchOption, ◌-◌, min, cond, ltb, slice_index, slice_index_or, drop, length};
+ghost use Rattle.std.specs.Prelude.{◌≡◌, ℕ, ◌≤◌, ◌<◌, List as Items, [], ◌∷◌, ◌++◌, IfOk, OnOk, MatchOption, ◌-◌, min, cond, ltb, map, slice_index, slice_index_or, drop, length};
 ghost use Rattle.nk_field.specs.Act.{applied};
 ghost use Rattle.nk_store.specs.Leaves.{IsActFrom};
 ghost use Rattle.nk_store.specs.Nodes.{child_at};
 ghost use Rattle.nk_store.specs.Held.{IsId, IsWhole, look, top, Grows, HasLeaves};
-ghost use Rattle.nk_algebra.specs.Leaves.{merged};
 ghost use Rattle.nk_algebra.specs.Subs.{sub, IsSplit};
 ghost use Rattle.nk_algebra.specs.Seqs.{out_after, prefixed, seq_leaf, outs_of, no_out, out_made};
 ghost use Rattle.nk_algebra.specs.Unions.{over_places};
@@ -13,9 +12,9 @@ ghost use Rattle.nk_algebra.specs.Predicates.{IsPredicate, Ends};
 
 use crate::choices::choose;
 use crate::constants::empty;
-use crate::leaves::{join_sorted, union};
-use crate::pairs::{Join, merge};
-use crate::part::part_at;
+use crate::leaves::union;
+use crate::maps::{LeafMap, map_leaves};
+use crate::part::{part_at, tested};
 use crate::restricts::restrict;
 use nk_field::{Act, Fid, List};
 use nk_store::{Id, Node, Operation, Out, Store};
@@ -27,39 +26,28 @@ struct Prefix<'a> {
     act: &'a Act,
 }
 
-impl<'a> Join for Prefix<'a> {
-    ghost joined = { λ s a b. prefixed s.act.now a };
+impl<'a> LeafMap for Prefix<'a> {
+    ghost mapped = { λ s os. prefixed s.act.now os };
 
     ghost allowed = { λ s maxes. IsActFrom maxes 0 s.act.now };
 
-    fn join(&self, alloc: Global, a: &[Out], _b: &[Out]) -> Result<List<Out>, AllocError> {
-        prefix_outs(alloc, self.act, a)
+    fn map(&self, alloc: Global, outs: &[Out]) -> Result<List<Out>, AllocError> {
+        outs_after(alloc, self.act, outs)
     }
 }
 
-/// Each out after an act, ascending.
-fn prefix_outs(alloc: Global, act: &Act, outs: &[Out]) -> Result<List<Out>, AllocError>
-    ensures { IfOk result (λ r. r ≡ prefixed act.now outs.now) }
+/// Each out after an act, in their order.
+fn outs_after(alloc: Global, act: &Act, outs: &[Out]) -> Result<List<Out>, AllocError>
+    ensures { IfOk result (λ r. r ≡ map (out_after act.now) outs.now) }
 {
     let mut all = List::new(alloc);
-    let mut i = outs.len();
-    while i > 0 {
-        i -= 1;
-        all = with_after(alloc, act, &outs[i], &all)?;
+    for o in outs {
+        all.push(Out {
+            act: act.then(&o.act)?,
+            target: o.target,
+        })?;
     }
     Ok(all)
-}
-
-/// The list with one more out, put after an act.
-fn with_after(alloc: Global, act: &Act, o: &Out, all: &List<Out>) -> Result<List<Out>, AllocError>
-    ensures { IfOk result (λ r. r ≡ merged (out_after act.now o.now ∷ []) all.now) }
-{
-    let mut one = List::new(alloc);
-    one.push(Out {
-        act: act.then(&o.act)?,
-        target: o.target,
-    })?;
-    join_sorted(alloc, one.as_slice(), all.as_slice())
 }
 
 /// The diagram's leaf at the packet that an act makes.
@@ -103,7 +91,7 @@ pub fn put_after(st: &mut Store, d: Id, act: &Act) -> Result<Id, AllocError>
     ensures ok { IfOk result (λ r. HasLeaves st.new r (λ pk. prefixed act.now (look st.old d pk))) }
     ensures later { IfOk result (λ r. top st.old d ≤ top st.new r) }
 {
-    merge(st, &Prefix { act }, d, d)
+    map_leaves(st, &Prefix { act }, d)
 }
 
 /// All that the second diagram makes of what the first one gives, whatever the first one's targets: each act of the
@@ -151,17 +139,6 @@ fn seq_case(st: &mut Store, f: Fid, a: Id, b: Id) -> Result<Id, AllocError>
 {
     let parts = seq_parts(st, f, a, b)?;
     choose(st, f, parts)
-}
-
-/// The field that a diagram tests first.
-pub fn tested(st: &Store, a: Id) -> Option<Fid>
-    requires { IsId st.now a }
-    ensures { MatchOption result (top st.now a ≡ 18) (λ f. (f < 18) × (top st.now a ≡ f) × IsSplit st.now f a) }
-{
-    match st.view(a) {
-        Node::Leaf(_) => None,
-        Node::Case(f, _) => Some(*f),
-    }
 }
 
 /// How many outs a leaf has.
@@ -259,62 +236,5 @@ fn seq_parts(st: &mut Store, f: Fid, a: Id, b: Id) -> Result<List<(u64, Id)>, Al
             return Ok(parts);
         }
         from = end + 1;
-    }
-}
-
-#[cfg(test)]
-mod tests {
-    use super::*;
-    use crate::aims::{aim, assign};
-    use crate::leaves::{both, negate};
-    use crate::spans::test;
-    use crate::unions::union_all;
-    use nk_field::{Fields, Packet};
-    use std::test::Fail;
-
-    /// `dst:=1` and then `dst=0` passes nothing; `dst=0` and then `dst:=1` passes the packet with `dst` 0. A second
-    /// call with the same diagrams makes no node.
-    #[test]
-    fn order_matters(rt: HostRuntime) -> Result<(), Fail> {
-        let alloc = rt.alloc();
-        let mut fields = Fields::new(alloc)?;
-        let dst = fields.add("dst", 1)?;
-        let mut st = Store::new(alloc, &fields)?;
-        let _place = dst.place();
-        assert_eq!(rt; st.max(dst), 1);
-        let set = assign(&mut st, dst, 1)?;
-        let is = test(&mut st, dst, 0)?;
-        let first = seq(&mut st, set, is)?;
-        let second = seq(&mut st, is, set)?;
-        let zero = Packet::zero();
-        assert_eq!(rt; st.look(first, &zero).len(), 0);
-        assert_eq!(rt; st.look(second, &zero).len(), 1);
-        let nodes = st.len();
-        let again = seq(&mut st, is, set)?;
-        assert!(rt; again == second);
-        assert_eq!(rt; st.len(), nodes);
-        Ok(())
-    }
-
-    /// Of `dst=0`, `~dst=0` and `dst=0` aimed at 5: together a packet with `dst` 0 goes to 0 and to 5.
-    #[test]
-    fn leaves_are_united(rt: HostRuntime) -> Result<(), Fail> {
-        let alloc = rt.alloc();
-        let mut fields = Fields::new(alloc)?;
-        let dst = fields.add("dst", 1)?;
-        let mut st = Store::new(alloc, &fields)?;
-        let _place = dst.place();
-        let is = test(&mut st, dst, 0)?;
-        let not = negate(&mut st, is)?;
-        let far = aim(&mut st, is, 5)?;
-        let nowhere = both(&mut st, not, is)?;
-        let near = union(&mut st, is, nowhere)?;
-        assert!(rt; near == is);
-        let part = restrict(&mut st, not, dst, 1)?;
-        let all = union_all(&mut st, &[near, far])?;
-        let zero = Packet::zero();
-        assert_eq!(rt; st.look(all, &zero).len(), 2);
-        assert_eq!(rt; st.look(part, &zero).len(), 1);
-        Ok(())
     }
 }

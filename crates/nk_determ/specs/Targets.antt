@@ -8,6 +8,10 @@ abbrev pub option_out : List (ℕ × ℕ) → Option ℕ → List Out
 option_out g None = []
 option_out g (Some target) = record { act = g; target = target } ∷ []
 
+-- the out with the target that the table has at its target's place, if any
+abbrev pub out_by_table : List (Option ℕ) → Out → List Out
+out_by_table table o = option_out o.act (slice_index_or table o.target None)
+
 -- each out with the target that the table has at its target's place, if any
 abbrev pub retargeted : List (Option ℕ) → List Out → List Out
-retargeted table os = gathered (λ o. option_out o.act (slice_index_or table o.target None)) os
+retargeted table os = gathered (out_by_table table) os

@@ -1,10 +1,9 @@
 //! Targets by a table.
-ghost use Rattle.std.specs.Prelude.{◌≡◌, ℕ, ◌≤◌, ◌∷◌, [], None, List as Items, IfOk, slice_index_or, length, drop};
+ghost use Rattle.std.specs.Prelude.{◌≡◌, ◌≤◌, ◌++◌, None, IfOk, OnOk, flat_map, slice_index_or};
 ghost use Rattle.nk_store.specs.Held.{IsId, look, top, Grows, HasLeaves};
-ghost use Rattle.nk_algebra.specs.Leaves.{merged};
-ghost use Rattle.nk_determ.specs.Targets.{option_out, retargeted};
+ghost use Rattle.nk_determ.specs.Targets.{out_by_table, retargeted};
 
-use nk_algebra::{Join, join_sorted, merge};
+use nk_algebra::{LeafMap, map_leaves};
 use nk_field::List;
 use nk_store::{Id, Out, Store};
 use std::alloc::{AllocError, Global};
@@ -15,46 +14,42 @@ struct ByTable<'a> {
     table: &'a [Option<u64>],
 }
 
-impl<'a> Join for ByTable<'a> {
-    ghost joined = { λ s a b. retargeted s.table.now a };
+impl<'a> LeafMap for ByTable<'a> {
+    ghost mapped = { λ s os. retargeted s.table.now os };
 
     ghost allowed = { λ _ _. Unit {0} };
 
-    fn join(&self, alloc: Global, a: &[Out], _b: &[Out]) -> Result<List<Out>, AllocError> {
-        retarget_outs(alloc, self.table, a)
+    fn map(&self, alloc: Global, outs: &[Out]) -> Result<List<Out>, AllocError> {
+        outs_by_table(alloc, self.table, outs)
     }
 }
 
-/// The outs with their new targets, ascending.
-fn retarget_outs(
+/// The outs with their new targets, in their order.
+fn outs_by_table(
     alloc: Global,
     table: &[Option<u64>],
     outs: &[Out],
 ) -> Result<List<Out>, AllocError>
-    ensures { IfOk result (λ r. r ≡ retargeted table.now outs.now) }
+    ensures { IfOk result (λ r. r ≡ flat_map (out_by_table table.now) outs.now) }
 {
     let mut all = List::new(alloc);
-    let mut i = outs.len();
-    while i > 0 {
-        i -= 1;
-        let one = retarget_out(alloc, table, &outs[i])?;
-        all = join_sorted(alloc, one.as_slice(), all.as_slice())?;
+    for o in outs {
+        push_by_table(&mut all, table, o)?;
     }
     Ok(all)
 }
 
-/// The out with its new target, or nothing.
-fn retarget_out(alloc: Global, table: &[Option<u64>], o: &Out) -> Result<List<Out>, AllocError>
-    ensures { IfOk result (λ r. r ≡ option_out o.now.act (slice_index_or table.now o.now.target None)) }
+/// Appends the out with its new target, if it has one.
+fn push_by_table(all: &mut List<Out>, table: &[Option<u64>], o: &Out) -> Result<(), AllocError>
+    ensures { OnOk result (all.new ≡ all.old ++ out_by_table table.now o.now) }
 {
-    let mut one = List::new(alloc);
     if let Some(target) = new_target(table, o.target) {
-        one.push(Out {
+        all.push(Out {
             act: o.act.copy()?,
             target,
         })?;
     }
-    Ok(one)
+    Ok(())
 }
 
 /// What the table has at a place, if it has it.
@@ -76,5 +71,5 @@ pub fn retarget(st: &mut Store, d: Id, table: &[Option<u64>]) -> Result<Id, Allo
     ensures ok { IfOk result (λ r. HasLeaves st.new r (λ pk. retargeted table.now (look st.old d pk))) }
     ensures later { IfOk result (λ r. top st.old d ≤ top st.new r) }
 {
-    merge(st, &ByTable { table }, d, d)
+    map_leaves(st, &ByTable { table }, d)
 }

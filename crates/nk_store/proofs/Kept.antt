@@ -1,6 +1,9 @@
 -- Answers keep their meaning while the store grows.
 use Rattle.std.proofs.Common.{◌≡◌, ℕ, Bool, true, false, cond, ◌&&◌, List, Option, Some, None, IfSome, refl, sym, ◌∙◌, ap, subst, eqb-true}
 use Rattle.std.specs.Map.{lookup}
+use Rattle.std.specs.Prelude.{OnOk, OnErr}
+use Rattle.std.specs.declared.result.Result.{Result}
+use Rattle.std.specs.declared.result.Result.TheVariants.{Ok, Err}
 use Rattle.nk_store.specs.declared.operation.Operation.{Operation}
 use Rattle.nk_store.specs.declared.operation.Operation.TheVariants.{Union, Both, Negate, Seq, Split}
 use Rattle.nk_store.specs.declared.operation.Key.{Key}
@@ -92,6 +95,14 @@ answers_kept st old new k d m r u = λ q e is. by q e is (key_eq k q) refl
         let answer : d ≡ e = let eq : Some d ≡ Some e = sym (u q ∙ ap (λ b. cond b (Some d) (lookup (key_eq q) old)) h) ∙ is in cc in
         subst (λ x. IsAnswer st q.operation q.left q.right x) answer (subst (λ (x : Key). IsAnswer st x.operation x.left x.right d) same r)
     by q e is false h = m q e (sym (u q ∙ ap (λ b. cond b (Some d) (lookup (key_eq q) old)) h) ∙ is)
+
+-- the same whatever a call answers that keeps it or leaves all as it was
+pub answers_after : {T E : Type 0} (st : Held) (old new : List (Key × ℕ)) (k : Key) (d : ℕ) (r : Result T E) →
+    AreAnswers st old → IsAnswer st k.operation k.left k.right d →
+    OnOk r ((q : Key) → lookup (key_eq q) new ≡ cond (key_eq k q) (Some d) (lookup (key_eq q) old)) →
+    OnErr r (new ≡ old) → AreAnswers st new
+answers_after st old new k d (Ok x) m a u e = answers_kept st old new k d m a u
+answers_after st old new k d (Err x) m a u e = subst (AreAnswers st) (sym e) m
 
 -- no answer at all is kept at first
 pub answers_none : (st : Held) (rows : List (Key × ℕ)) → ((k : Key) → lookup (key_eq k) rows ≡ None) →

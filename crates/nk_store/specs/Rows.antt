@@ -1,6 +1,7 @@
 -- The answers of operations that a store keeps.
 use Rattle.std.specs.Prelude.{◌≡◌, ℕ, Bool, List, Some}
 use Rattle.std.specs.Map.{lookup}
+use Rattle.indexmap.specs.IndexMap.{insert_entry}
 use Rattle.nk_store.specs.declared.operation.Operation.{Operation}
 use Rattle.nk_store.specs.declared.operation.Key.{Key}
 use Rattle.nk_store.specs.contracts.operation.KeyPartialEq.TheImpl.{ghosts}
@@ -16,6 +17,14 @@ pub record IsAnswer (st : Held) (operation : Operation) (a b d : ℕ) : Type 0 w
 -- whether two keys are one
 abbrev pub key_eq : Key → Key → Bool
 key_eq k q = ghosts.eq k q
+
+-- what an answer on two diagrams is found by
+abbrev pub key_of : Operation → ℕ → ℕ → Key
+key_of operation a b = record { operation = operation; left = a; right = b }
+
+-- the rows with one more put in: at the place of its key, where that is there, else behind all others
+abbrev pub with_row : List (Key × ℕ) → Key → ℕ → List (Key × ℕ)
+with_row rows k d = insert_entry ghosts.eq rows k d
 
 -- what is kept of each key is the answer of its operation on its diagrams
 abbrev pub AreAnswers : Held → List (Key × ℕ) → Type 0

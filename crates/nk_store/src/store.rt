@@ -1,15 +1,15 @@
 //! The store.
-ghost use Rattle.std.specs.Prelude.{◌≡◌, ℕ, ◌≤◌, [], length, true, slice_index, IfOk, IfSome, List as Items};
+ghost use Rattle.std.specs.Prelude.{◌≡◌, ℕ, ◌≤◌, [], ◌∷◌, length, true, slice_index, IfOk, IfSome, List as Items};
 ghost use Rattle.nk_store.specs.declared.node.Out.{Out};
 ghost use Rattle.nk_store.specs.Nodes.{child_at, Sound};
 ghost use Rattle.nk_store.specs.Leaves.{Strict, Every, Suits, AreOrdered};
 ghost use Rattle.nk_store.specs.Held.{IsId, node_of, look, top, Grows, HasLeaves, AreParts, IsNodeOf, IsStill, IsReduced, AreTidy, Agree, IsCanonical, IsOver, HasFields};
 ghost use Rattle.nk_store.specs.Rows.{IsAnswer};
 
+use crate::answers::Answers;
 use crate::node::{Id, Node, Out};
 use crate::node_table::NodeTable;
-use crate::operation::{Key, Operation};
-use indexmap::IndexMap;
+use crate::operation::Operation;
 use nk_field::{Fid, Fields, List, Packet};
 use std::alloc::{AllocError, Global};
 use std::marker::Model;
@@ -19,7 +19,7 @@ use std::marker::Model;
 #[derive(Drop)]
 pub struct Store {
     table: NodeTable,
-    answers: IndexMap<Key, Id>,
+    answers: Answers,
 }
 
 impl Model for Store {
@@ -30,7 +30,7 @@ impl Model for Store {
 
     ghost view = { λ s. s.table };
 
-    ghost invariant = { λ s. AreAnswers s.table s.answers.entries };
+    ghost invariant = { λ s. AreAnswers s.table s.answers };
 }
 
 impl Store {
@@ -43,7 +43,7 @@ impl Store {
     {
         Ok(Store {
             table: NodeTable::new(alloc, fields)?,
-            answers: IndexMap::new(alloc),
+            answers: Answers::new(alloc),
         })
     }
 
@@ -163,12 +163,7 @@ impl Store {
     pub fn recall(&self, operation: Operation, a: Id, b: Id) -> Option<Id>
         ensures { IfSome result (λ d. IsAnswer self.now operation a b d) }
     {
-        let key = Key {
-            operation,
-            left: a,
-            right: b,
-        };
-        self.answers.get(&key).copied()
+        self.answers.recall(operation, a, b)
     }
 
     /// Keeps the answer of an operation on two diagrams. The diagrams stay as they are, also where memory runs out.
@@ -176,13 +171,7 @@ impl Store {
         requires { IsAnswer self.old operation a b d }
         ensures { self.new ≡ self.old }
     {
-        let key = Key {
-            operation,
-            left: a,
-            right: b,
-        };
-        self.answers.insert(key, d)?;
-        Ok(())
+        self.answers.keep(operation, a, b, d)
     }
 }
 
@@ -194,66 +183,4 @@ fn in_order(outs: List<Out>) -> List<Out>
     all.sort_unstable();
     all.dedup();
     List::from_vec(all)
-}
-
-#[cfg(test)]
-mod tests {
-    use super::*;
-    use nk_field::Act;
-    use std::test::Fail;
-
-    /// The leaf without an out stands once, and a choice between one child twice is that child.
-    #[test]
-    fn equal_diagrams_are_one(rt: HostRuntime) -> Result<(), Fail> {
-        let alloc = rt.alloc();
-        let mut fields = Fields::new(alloc)?;
-        let dst = fields.add("dst", 3)?;
-        let tag = fields.add("vlan", 7)?;
-        fields.set_tag(tag);
-        let mut st = Store::new(alloc, &fields)?;
-        assert_eq!(rt; st.width(), 4);
-        assert_eq!(rt; st.max(dst), 3);
-        assert!(rt; st.tag() == Some(tag));
-        let none = st.leaf_in_order(List::new(alloc))?;
-        let again = st.leaf_in_order(List::new(alloc))?;
-        assert!(rt; st.same(none, again));
-        assert_eq!(rt; st.len(), 1);
-        let mut outs = List::new(alloc);
-        outs.push(Out {
-            act: Act::none(alloc),
-            target: 0,
-        })?;
-        let all = st.leaf_in_order(outs)?;
-        assert!(rt; !st.same(none, all));
-        assert_eq!(rt; st.len(), 2);
-        assert_eq!(rt; st.look(all, &Packet::zero()).len(), 1);
-        Ok(())
-    }
-
-    /// Outs in any order and number are one leaf.
-    #[test]
-    fn outs_are_put_in_order(rt: HostRuntime) -> Result<(), Fail> {
-        let alloc = rt.alloc();
-        let fields = Fields::new(alloc)?;
-        let mut st = Store::new(alloc, &fields)?;
-        let mut outs = List::new(alloc);
-        outs.push(to(alloc, 5))?;
-        outs.push(to(alloc, 0))?;
-        outs.push(to(alloc, 5))?;
-        let d = st.leaf(outs)?;
-        let zero = Packet::zero();
-        let leaf = st.look(d, &zero);
-        assert_eq!(rt; leaf.len(), 2);
-        Ok(())
-    }
-
-    /// The packet itself, to a target.
-    fn to(alloc: Global, target: u64) -> Out
-        ensures { result ≡ record { act = []; target = target } }
-    {
-        Out {
-            act: Act::none(alloc),
-            target,
-        }
-    }
 }

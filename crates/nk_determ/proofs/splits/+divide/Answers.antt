@@ -4,7 +4,7 @@ use Rattle.nk_store.proofs.Stores.{grows_on}
 use Rattle.nk_store.specs.Nodes.{child_at}
 use Rattle.nk_store.specs.Held.{HasLeaves, look}
 use Rattle.nk_algebra.specs.Choices.{AreChoices}
-use Rattle.nk_algebra.proofs.Restricted.{set_within}
+use Rattle.nk_algebra.proofs.Turned.{set_within}
 use Rattle.nk_algebra.proofs.Chosen.{Serving, value_leaf, value_push, value_choices, value_all, value_made}
 use Rattle.nk_determ.specs.Exact.{split_leaf}
 use Rattle.nk_determ.proofs.splits.+divide.Goals as goal

@@ -2,4 +2,4 @@ use Rattle.nk_store.proofs.Kept.{answers_grown}
 use Rattle.nk_store.proofs.store.Store.case.Goals as goal
 
 pub invariant_of-self : goal.invariant_of-self
-invariant_of-self c = answers_grown c.self.inside.table c.case.new.self c.self.inside.answers.entries c.case.ensures.grows c.self.invariant
+invariant_of-self c = answers_grown c.self.inside.table c.case.new.self c.self.inside.answers c.case.ensures.grows c.self.invariant

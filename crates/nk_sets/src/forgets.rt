@@ -1,0 +1,153 @@
+//! Sets with a field forgotten.
+ghost use Rattle.std.specs.Prelude.{◌≡◌, ◌<◌, eqb, map, IfOk, OnOk, MatchOption};
+ghost use Rattle.std.specs.Map.{lookup};
+ghost use Rattle.nk_store.specs.Held.{IsId, IsStill, IsCase, Grows, top};
+ghost use Rattle.nk_sets.specs.PacketSets.{IsSet};
+ghost use Rattle.nk_sets.specs.Forgets.{IsForgotten, AreForgotten};
+
+use nk_algebra::union_all;
+use nk_field::{Fid, List};
+use nk_store::{Id, Node, Store};
+use std::alloc::{AllocError, Global};
+use std::collections::HashMap;
+
+/// The packets that are in the set for some value of the field. Each node of the set is visited once.
+pub(crate) fn forget(st: &mut Store, s: Id, f: Fid) -> Result<Id, AllocError>
+    requires { IsSet st.old s }
+    ensures grows { Grows st.old st.new }
+    ensures ok { IfOk result (λ r. IsForgotten st.new f s r) }
+{
+    let _place = f.place();
+    let mut seen = HashMap::new(st.alloc());
+    forget_once(st, &mut seen, s, f)
+}
+
+/// The set with the field forgotten, which is looked up where it was made before.
+#[cycle(forget)]
+fn forget_once(st: &mut Store, seen: &mut HashMap<Id, Id>, s: Id, f: Fid) -> Result<Id, AllocError>
+    requires set { IsSet st.old s }
+    requires field { f < 18 }
+    requires seen { AreForgotten st.old f seen.old.entries }
+    ensures grows { Grows st.old st.new }
+    ensures ok { IfOk result (λ r. IsForgotten st.new f s r) }
+    ensures seen { OnOk result (AreForgotten st.new f seen.new.entries) }
+{
+    if let Some(r) = known(seen, s) {
+        return Ok(r);
+    }
+    let r = forget_new(st, seen, s, f)?;
+    seen.insert(s, r)?;
+    Ok(r)
+}
+
+/// What the table has for a set.
+fn known(seen: &HashMap<Id, Id>, s: Id) -> Option<Id>
+    ensures { result ≡ lookup (eqb s) seen.now.entries }
+{
+    seen.get(&s).copied()
+}
+
+/// The set with the field forgotten, made anew.
+#[cycle(forget)]
+fn forget_new(st: &mut Store, seen: &mut HashMap<Id, Id>, s: Id, f: Fid) -> Result<Id, AllocError>
+    requires set { IsSet st.old s }
+    requires field { f < 18 }
+    requires seen { AreForgotten st.old f seen.old.entries }
+    ensures grows { Grows st.old st.new }
+    ensures ok { IfOk result (λ r. IsForgotten st.new f s r) }
+    ensures seen { OnOk result (AreForgotten st.new f seen.new.entries) }
+{
+    match choice(st, s)? {
+        Some((g, parts)) => forget_case(st, seen, s, g, parts.as_slice(), f),
+        None => Ok(s),
+    }
+}
+
+/// A set that tests a field, with the field forgotten.
+#[cycle(forget)]
+fn forget_case(
+    st: &mut Store,
+    seen: &mut HashMap<Id, Id>,
+    s: Id,
+    g: Fid,
+    parts: &[(u64, Id)],
+    f: Fid,
+) -> Result<Id, AllocError>
+    requires set { IsSet st.old s }
+    requires field { f < 18 }
+    requires case { IsCase st.old s g parts.now }
+    requires seen { AreForgotten st.old f seen.old.entries }
+    ensures grows { Grows st.old st.new }
+    ensures ok { IfOk result (λ r. IsForgotten st.new f s r) }
+    ensures seen { OnOk result (AreForgotten st.new f seen.new.entries) }
+{
+    let _laws = st.laws();
+    if g.place() < f.place() {
+        forget_parts(st, seen, s, g, parts, f)
+    } else if g == f {
+        forget_here(st, s, f, parts)
+    } else {
+        Ok(s)
+    }
+}
+
+/// The field that a set tests first, with the set's parts.
+fn choice(st: &Store, s: Id) -> Result<Option<(Fid, List<(u64, Id)>)>, AllocError>
+    requires { IsId st.now s }
+    ensures parts { IfOk result (λ o. MatchOption o (top st.now s ≡ 18) (λ x. IsCase st.now s x.0 x.1)) }
+    ensures still { IsStill st.now s }
+{
+    match st.view(s) {
+        Node::Leaf(_) => Ok(None),
+        Node::Case(f, parts) => Ok(Some((*f, parts.copy()?))),
+    }
+}
+
+/// A set that tests an earlier field first, with the field forgotten.
+#[cycle(forget)]
+fn forget_parts(
+    st: &mut Store,
+    seen: &mut HashMap<Id, Id>,
+    s: Id,
+    g: Fid,
+    parts: &[(u64, Id)],
+    f: Fid,
+) -> Result<Id, AllocError>
+    requires set { IsSet st.old s }
+    requires field { f < 18 }
+    requires case { IsCase st.old s g parts.now }
+    requires before { g < f }
+    requires seen { AreForgotten st.old f seen.old.entries }
+    ensures grows { Grows st.old st.new }
+    ensures ok { IfOk result (λ r. IsForgotten st.new f s r) }
+    ensures seen { OnOk result (AreForgotten st.new f seen.new.entries) }
+{
+    let _laws = st.laws();
+    let mut made = List::new(st.alloc());
+    for (end, child) in parts {
+        let r = forget_once(st, seen, *child, f)?;
+        made.push((*end, r))?;
+    }
+    st.case(g, made)
+}
+
+/// A set that tests the field first, with the field forgotten: its children together.
+fn forget_here(st: &mut Store, s: Id, f: Fid, parts: &[(u64, Id)]) -> Result<Id, AllocError>
+    requires set { IsSet st.old s }
+    requires case { IsCase st.old s f parts.now }
+    ensures grows { Grows st.old st.new }
+    ensures ok { IfOk result (λ r. IsForgotten st.new f s r) }
+{
+    let _before = st.laws();
+    let children = children(st.alloc(), parts)?;
+    let r = union_all(st, &children)?;
+    let _after = st.laws();
+    Ok(r)
+}
+
+/// The children of the parts.
+fn children(alloc: Global, parts: &[(u64, Id)]) -> Result<Vec<Id>, AllocError>
+    ensures { IfOk result (λ ds. ds.items ≡ map (λ p. p.1) parts.now) }
+{
+    parts.iter().map(|p| p.1).collect(alloc)
+}

@@ -1,0 +1,4 @@
+pub mod Lacks
+pub mod Room
+pub mod Rounds
+pub mod Leads

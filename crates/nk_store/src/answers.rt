@@ -1,0 +1,72 @@
+//! Answers of operations that are kept.
+ghost use Rattle.std.specs.Prelude.{◌≡◌, [], cond, Some, OnOk, OnErr};
+ghost use Rattle.std.specs.Map.{lookup};
+ghost use Rattle.nk_store.specs.declared.operation.Key.{Key};
+ghost use Rattle.nk_store.specs.Rows.{key_of, key_eq, with_row};
+
+use crate::node::Id;
+use crate::operation::{Key, Operation};
+use indexmap::IndexMap;
+use std::alloc::{AllocError, Global};
+use std::marker::Model;
+
+/// Answers, each found by its operation and its diagrams. An operation on one diagram has it twice.
+#[derive(Drop)]
+pub(crate) struct Answers {
+    rows: IndexMap<Key, Id>,
+}
+
+impl Model for Answers {
+    ghost use Rattle.std.specs.Prelude.{ℕ, List};
+    ghost use Rattle.nk_store.specs.declared.operation.Key.{Key};
+
+    ghost Value = { List (Key × ℕ) };
+
+    ghost view = { λ s. s.rows.entries };
+}
+
+impl Answers {
+    /// No answer.
+    pub(crate) fn new(alloc: Global) -> Answers
+        ensures { result ≡ [] }
+    {
+        Answers {
+            rows: IndexMap::new(alloc),
+        }
+    }
+
+    /// The answer that was kept last for an operation and two diagrams.
+    pub(crate) fn recall(&self, operation: Operation, a: Id, b: Id) -> Option<Id>
+        ensures { result ≡ lookup (key_eq (key_of operation a b)) self.now }
+    {
+        self.rows.get(&key(operation, a, b)).copied()
+    }
+
+    /// Keeps an answer; where memory runs out, all stays as it was.
+    pub(crate) fn keep(
+        &mut self,
+        operation: Operation,
+        a: Id,
+        b: Id,
+        d: Id,
+    ) -> Result<(), AllocError>
+        ensures rows { OnOk result (self.new ≡ with_row self.old (key_of operation a b) d) }
+        ensures found { OnOk result ((q : Key) → lookup (key_eq q) self.new
+            ≡ cond (key_eq (key_of operation a b) q) (Some d) (lookup (key_eq q) self.old)) }
+        ensures err { OnErr result (self.new ≡ self.old) }
+    {
+        self.rows.insert(key(operation, a, b), d)?;
+        Ok(())
+    }
+}
+
+/// What an answer is found by.
+fn key(operation: Operation, left: Id, right: Id) -> Key
+    ensures { result ≡ key_of operation left right }
+{
+    Key {
+        operation,
+        left,
+        right,
+    }
+}
