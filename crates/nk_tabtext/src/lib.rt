@@ -6,14 +6,28 @@ ghost use Rattle.std.specs.Fmt.{decimal};
 ghost use Rattle.std.specs.List.{flat_map};
 ghost use Rattle.nk_tabtext.specs.Text.{table_bytes, section_text};
 
+mod declared;
 mod head;
+mod laws;
+mod names;
+mod parts;
+mod reader;
+mod reading;
 mod rules;
-#[cfg(test)]
-mod tests;
+mod stage;
+mod tables;
+mod values;
+mod written;
 
 use itoa::Buffer;
+pub use laws::{
+    a_text_has_one_reading, printed_tables_are_read, read_tables_are_printable, texts_are_answered,
+    texts_are_read,
+};
 use nk_table::Tables;
+pub use reading::read_tables;
 use std::alloc::{AllocError, Global};
+pub use written::ReadError;
 
 /// The printed text of tables: `tables 1`, then a line for each declared field, for the tag, each switch and each link,
 /// and the table of each switch with its groups and rows.

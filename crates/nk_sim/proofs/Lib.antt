@@ -1,0 +1,7 @@
+pub mod Emitting
+pub mod OneTrace
+pub mod Orders
+pub mod Ports
+pub mod Sizes
+pub mod Steps
+pub mod Trails

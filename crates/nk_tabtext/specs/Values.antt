@@ -1,0 +1,307 @@
+-- The tables that a text writes, or the line of its first fault. Fields, switches and links are declared first; then come
+-- the tables of switches, with groups by number, matches and assignments by field, rows and buckets as they are written.
+use Rattle.std.specs.Prelude.{ℕ, ◌==◌, ◌||◌, not, nat_lt, nat_le, Bool, false, ⊤, Option, Some, None, Ok, Err, is_some, is_none, if◌then◌else◌, unwrap_or, map, List, [], ◌∷◌, ◌++◌, length, slice_index, IsUtf8}
+use Rattle.std.specs.declared.result.Result.{Result}
+use Rattle.std.specs.Option.{option_or}
+use Rattle.std.specs.List.{list_any}
+use Rattle.std.specs.Map.{lookup}
+use Rattle.std.specs.Ordering.{nat_cmp}
+use Rattle.std.specs.BTreeMap.{insert_entry, is_at}
+use Rattle.nk_lex.specs.declared.token.Token.{Token}
+use Rattle.nk_lex.specs.declared.token.LexError.{LexError}
+use Rattle.nk_lex.specs.declared.token.LexError.TheVariants as lexical
+use Rattle.nk_lex.specs.Lex.{tokens_of}
+use Rattle.nk_field.specs.Packet.{FieldTable, built_in, field_named, with_field}
+use Rattle.nk_field.specs.Act.{act_then}
+use Rattle.nk_topo.specs.Topology.{Topology, Link, no_topology, numbers_of, is_switch, is_port, is_target, link_from, with_switch, with_link}
+use Rattle.nk_table.specs.declared.Tables.{Tables}
+use Rattle.nk_table.specs.declared.Table.{Table}
+use Rattle.nk_table.specs.declared.Row.{Row}
+use Rattle.nk_table.specs.declared.Group.{Group}
+use Rattle.nk_table.specs.declared.Bucket.{Bucket}
+use Rattle.nk_table.specs.declared.Target.{Target}
+use Rattle.nk_table.specs.declared.Target.TheVariants as does
+use Rattle.nk_table.specs.declared.Exit.{Exit}
+use Rattle.nk_table.specs.declared.Exit.TheVariants as exit
+use Rattle.nk_tabtext.specs.declared.written.Word.{Word}
+use Rattle.nk_tabtext.specs.declared.written.Number.{Number}
+use Rattle.nk_tabtext.specs.declared.written.Pair.{Pair}
+use Rattle.nk_tabtext.specs.declared.written.Declaration.{Declaration}
+use Rattle.nk_tabtext.specs.declared.written.Declaration.TheVariants as declared
+use Rattle.nk_tabtext.specs.declared.written.Way.{Way}
+use Rattle.nk_tabtext.specs.declared.written.Way.TheVariants as way
+use Rattle.nk_tabtext.specs.declared.written.WrittenBucket.{WrittenBucket}
+use Rattle.nk_tabtext.specs.declared.written.WrittenTarget.{WrittenTarget}
+use Rattle.nk_tabtext.specs.declared.written.WrittenTarget.TheVariants as target
+use Rattle.nk_tabtext.specs.declared.written.WrittenRow.{WrittenRow}
+use Rattle.nk_tabtext.specs.declared.written.WrittenGroup.{WrittenGroup}
+use Rattle.nk_tabtext.specs.declared.written.WrittenTable.{WrittenTable}
+use Rattle.nk_tabtext.specs.declared.written.WrittenTables.{WrittenTables}
+use Rattle.nk_tabtext.specs.declared.written.ReadError.{ReadError}
+use Rattle.nk_tabtext.specs.declared.written.ReadError.TheVariants as error
+use Rattle.nk_tabtext.specs.Machine.{and_then, written_of}
+
+-- the line of a fault, or none
+abbrev pub MaybeFault : Type 0
+MaybeFault = Option ℕ
+
+-- a fault on this line, where something is wrong
+abbrev pub fault_if : Bool → ℕ → MaybeFault
+fault_if wrong line = if wrong then Some line else None
+
+-- the first fault, else the second
+abbrev pub first_of : MaybeFault → MaybeFault → MaybeFault
+first_of first second = option_or first second
+
+-- a number above a bound
+abbrev pub above : ℕ → Number → MaybeFault
+above most n = fault_if (nat_lt most n.value) n.line
+
+-- the value, unless there is a fault
+abbrev pub unless : {X : Type 0} → MaybeFault → X → Result X ReadError
+unless None x = Ok x
+unless (Some line) x = Err (error.TableFault line)
+
+-- the rest, unless there is a fault
+abbrev pub checked : {X : Type 0} → MaybeFault → Result X ReadError → Result X ReadError
+checked None rest = rest
+checked (Some line) rest = Err (error.TableFault line)
+
+-- ---- declarations
+
+-- what is declared: fields and a topology
+pub record Said : Type 0 where
+  pub fields : FieldTable
+  pub topo : Topology
+
+-- before the first declaration
+abbrev pub nothing_said : Said
+nothing_said = record { fields = built_in; topo = no_topology }
+
+-- a place that is there, from `low` on
+abbrev pub is_from : ℕ → Option ℕ → Bool
+is_from low None = false
+is_from low (Some f) = nat_le low f
+
+-- a field: its name is new, and there is room for it
+abbrev pub field_fault : FieldTable → Word → MaybeFault
+field_fault fields w =
+    first_of (fault_if (is_some (field_named fields w.text)) w.line) (fault_if (nat_le 18 (length fields.maxima)) w.line)
+
+-- the tag: there is none so far, and it is a declared field
+abbrev pub tag_fault : FieldTable → Word → MaybeFault
+tag_fault fields w =
+    first_of (fault_if (is_some fields.tag) w.line) (fault_if (not (is_from 2 (field_named fields w.text))) w.line)
+
+-- a port behind others: in range, and none of them
+abbrev pub port_read : (before : List ℕ) → Number → Result ℕ ReadError
+port_read before p =
+    unless (first_of (above 65535 p) (fault_if (list_any (λ q. p.value == q) before) p.line)) p.value
+
+-- ports behind others
+abbrev pub ports_read : (before : List ℕ) → List Number → Result (List ℕ) ReadError
+ports_read before [] = Ok before
+ports_read before (p ∷ ps) = and_then (port_read before p) (λ n. ports_read (before ++ n ∷ []) ps)
+
+-- a switch: in range and new
+abbrev pub switch_fault : Topology → Number → MaybeFault
+switch_fault topo n = first_of (above 65535 n) (fault_if (is_switch topo n.value) n.line)
+
+-- the four numbers of a link, which are a switch and a port, twice
+abbrev pub links_ends : Number → Number → Number → Number → MaybeFault
+links_ends a m b n = first_of (first_of (first_of (above 65535 a) (above 65535 m)) (above 65535 b)) (above 65535 n)
+
+-- a link from port m of switch a to port n of switch b: its numbers are in range, its ends are ports, no other link has
+-- its source, and none has its target
+abbrev pub link_fault : Topology → Number → Number → Number → Number → MaybeFault
+link_fault topo a m b n =
+    first_of
+    (links_ends a m b n)
+    (first_of
+    (first_of
+    (fault_if (not (is_port topo a.value m.value)) m.line)
+    (fault_if (not (is_port topo b.value n.value)) n.line))
+    (first_of
+    (fault_if (is_some (link_from topo a.value m.value)) m.line)
+    (fault_if (is_target topo b.value n.value) n.line)))
+
+-- the link with these four numbers
+abbrev pub link_with : Number → Number → Number → Number → Link
+link_with a m b n = record { from_switch = a.value; from_port = m.value; to_switch = b.value; to_port = n.value }
+
+-- what is said after one more declaration
+abbrev pub said_with : Said → Declaration → Result Said ReadError
+said_with s (declared.Field w n) = unless (field_fault s.fields w) (record s { fields = with_field s.fields w.text n.value })
+said_with s (declared.Tag w) =
+    unless (tag_fault s.fields w) (record s { fields = record s.fields { tag = field_named s.fields w.text } })
+said_with s (declared.Switch n p ps) =
+    checked (switch_fault s.topo n)
+    (and_then (ports_read [] (p ∷ ps)) (λ numbers. Ok (record s { topo = with_switch s.topo n.value numbers })))
+said_with s (declared.Link a m b n) = unless (link_fault s.topo a m b n) (record s { topo = with_link s.topo (link_with a m b n) })
+
+-- what is said after these declarations
+abbrev pub said_after : List Declaration → Said → Result Said ReadError
+said_after [] s = Ok s
+said_after (d ∷ ds) s = and_then (said_with s d) (said_after ds)
+
+-- a declared name is text
+abbrev pub IsNamed : Declaration → Type 0
+IsNamed (declared.Field w n) = IsUtf8 w.text
+IsNamed d = ⊤
+
+-- ---- the tables of switches
+
+-- the place of a field, and its largest value
+abbrev pub place_in : FieldTable → Word → ℕ
+place_in fields w = unwrap_or (field_named fields w.text) 0
+
+abbrev pub most_in : FieldTable → Word → ℕ
+most_in fields w = slice_index fields.maxima (place_in fields w)
+
+-- a match or an assignment behind others: its name is a field's from `low` on, and new, and its value is in range
+abbrev pub pair_fault : FieldTable → (low : ℕ) → List (ℕ × ℕ) → Pair → MaybeFault
+pair_fault fields low before p =
+    first_of
+    (first_of
+    (fault_if (not (is_from low (field_named fields p.name.text))) p.name.line)
+    (fault_if (list_any (λ s. s.0 == place_in fields p.name) before) p.name.line))
+    (above (most_in fields p.name) p.number)
+
+-- the field and the value
+abbrev pub pair_read : FieldTable → (low : ℕ) → List (ℕ × ℕ) → Pair → Result (ℕ × ℕ) ReadError
+pair_read fields low before p = unless (pair_fault fields low before p) (place_in fields p.name, p.number.value)
+
+-- all of them, by field
+abbrev pub pairs_read : FieldTable → (low : ℕ) → List (ℕ × ℕ) → List Pair → Result (List (ℕ × ℕ)) ReadError
+pairs_read fields low before [] = Ok before
+pairs_read fields low before (p ∷ ps) =
+    and_then (pair_read fields low before p) (λ s. pairs_read fields low (act_then before (s ∷ [])) ps)
+
+-- an exit: its number is a port's
+abbrev pub way_read : Way → Result Exit ReadError
+way_read way.Back = Ok exit.Back
+way_read (way.Port n) = unless (above 65535 n) (exit.Port n.value)
+
+-- a bucket by its parts
+abbrev pub bucket_of : List (ℕ × ℕ) → Exit → Bucket
+bucket_of sets e = record { sets = sets; exit = e }
+
+-- a bucket: it assigns declared fields
+abbrev pub bucket_read : FieldTable → WrittenBucket → Result Bucket ReadError
+bucket_read fields b =
+    and_then (pairs_read fields 2 [] b.sets) (λ sets. and_then (way_read b.way) (λ e. Ok (bucket_of sets e)))
+
+-- buckets behind others
+abbrev pub buckets_read : FieldTable → List Bucket → List WrittenBucket → Result (List Bucket) ReadError
+buckets_read fields before [] = Ok before
+buckets_read fields before (b ∷ bs) =
+    and_then (bucket_read fields b) (λ x. buckets_read fields (before ++ x ∷ []) bs)
+
+-- whether a number is a key of these entries
+abbrev pub has_key : {X : Type 0} → List (ℕ × X) → ℕ → Bool
+has_key entries n = is_some (lookup (is_at (nat_cmp n)) entries)
+
+-- a group's number is at least 1, and new
+abbrev pub group_fault : List (ℕ × Group) → Number → MaybeFault
+group_fault before n = fault_if ((n.value == 0) || has_key before n.value) n.line
+
+-- a group by its parts
+abbrev pub group_of : Number → List Bucket → Group
+group_of n bs = record { number = n.value; buckets = bs }
+
+-- a group behind others
+abbrev pub group_read : FieldTable → List (ℕ × Group) → WrittenGroup → Result Group ReadError
+group_read fields before g =
+    checked (group_fault before g.number)
+    (and_then (bucket_read fields g.first) (λ b. and_then (buckets_read fields (b ∷ []) g.more) (λ bs. Ok (group_of g.number bs))))
+
+-- groups behind others, by number
+abbrev pub groups_read : FieldTable → List (ℕ × Group) → List WrittenGroup → Result (List (ℕ × Group)) ReadError
+groups_read fields before [] = Ok before
+groups_read fields before (g ∷ gs) =
+    and_then (group_read fields before g) (λ x. groups_read fields (insert_entry nat_cmp before x.number x) gs)
+
+-- a target: a group is one of the table's
+abbrev pub target_read : FieldTable → List (ℕ × Group) → WrittenTarget → Result Target ReadError
+target_read fields groups (target.Bucket b) = and_then (bucket_read fields b) (λ x. Ok (does.Bucket x))
+target_read fields groups (target.Group n) = unless (fault_if (not (has_key groups n.value)) n.line) (does.Group n.value)
+target_read fields groups target.Discard = Ok does.Discard
+
+-- a row by its parts
+abbrev pub row_with : Number → List (ℕ × ℕ) → Target → Row
+row_with p ms t = record { priority = p.value; matches = ms; target = t }
+
+-- a row: it matches fields but the switch
+abbrev pub row_read : FieldTable → List (ℕ × Group) → WrittenRow → Result Row ReadError
+row_read fields groups r =
+    checked (above 65535 r.priority)
+    (and_then (pairs_read fields 1 [] r.matches) (λ ms. and_then (target_read fields groups r.target) (λ t. Ok (row_with r.priority ms t))))
+
+-- rows behind others
+abbrev pub rows_read : FieldTable → List (ℕ × Group) → List Row → List WrittenRow → Result (List Row) ReadError
+rows_read fields groups before [] = Ok before
+rows_read fields groups before (r ∷ rs) =
+    and_then (row_read fields groups r) (λ x. rows_read fields groups (before ++ x ∷ []) rs)
+
+-- a table's switch is declared, and has no table before
+abbrev pub table_fault : Topology → List (ℕ × Table) → Number → MaybeFault
+table_fault topo before n =
+    first_of (above 65535 n) (fault_if (not (is_switch topo n.value) || has_key before n.value) n.line)
+
+-- a table by its parts
+abbrev pub table_of : Number → List (ℕ × Group) → List Row → Table
+table_of n groups rows = record { switch = n.value; groups = map (λ e. e.1) groups; rows = rows }
+
+-- a table behind others
+abbrev pub table_read : Said → List (ℕ × Table) → WrittenTable → Result Table ReadError
+table_read s before t =
+    checked (table_fault s.topo before t.switch)
+    (and_then (groups_read s.fields [] t.groups) (λ gs. and_then (rows_read s.fields gs [] t.rows) (λ rs. Ok (table_of t.switch gs rs))))
+
+-- tables behind others, by switch
+abbrev pub tables_read : Said → List (ℕ × Table) → List WrittenTable → Result (List (ℕ × Table)) ReadError
+tables_read s before [] = Ok before
+tables_read s before (t ∷ ts) =
+    and_then (table_read s before t) (λ x. tables_read s (insert_entry nat_cmp before x.switch x) ts)
+
+-- a table without groups and rows
+abbrev pub empty_table : ℕ → Table
+empty_table sw = record { switch = sw; groups = []; rows = [] }
+
+-- the table of a switch, empty where none is written
+abbrev pub table_for : List (ℕ × Table) → ℕ → Table
+table_for tables sw = unwrap_or (lookup (is_at (nat_cmp sw)) tables) (empty_table sw)
+
+-- ---- the whole
+
+-- the number behind the word `tables` is 1
+abbrev pub version_fault : Number → MaybeFault
+version_fault n = fault_if (not (n.value == 1)) n.line
+
+-- the tables of all declared switches
+abbrev pub whole : Said → List (ℕ × Table) → Tables
+whole s tables = record { fields = s.fields; topo = s.topo; tables = map (table_for tables) (numbers_of s.topo) }
+
+-- the tables that are written, where `line` is the last token's: a tag is declared
+abbrev pub tables_from : ℕ → WrittenTables → Result Tables ReadError
+tables_from line x =
+    checked (version_fault x.version)
+    (and_then (said_after x.declarations nothing_said)
+    (λ s. and_then (tables_read s [] x.tables) (λ ts. unless (fault_if (is_none s.fields.tag) line) (whole s ts))))
+
+-- the last token's line, or the one given where there is no token
+abbrev pub last_line : ℕ → List Token → ℕ
+last_line line [] = line
+last_line line (t ∷ ts) = last_line t.line ts
+
+-- a lexical fault
+abbrev pub lexed : {X : Type 0} → Result X LexError → Result X ReadError
+lexed (Ok x) = Ok x
+lexed (Err lexical.NoMemory) = Err error.NoMemory
+lexed (Err (lexical.BadByte line)) = Err (error.BadByte line)
+lexed (Err (lexical.NumberTooLarge line)) = Err (error.NumberTooLarge line)
+
+-- the tables of a text, or its first fault
+abbrev pub tables_of : List ℕ → Result Tables ReadError
+tables_of text =
+    and_then (lexed (tokens_of text)) (λ ts. and_then (written_of ts) (λ x. tables_from (last_line 1 ts) x))

@@ -1,0 +1,97 @@
+//! The tables of a text.
+ghost use Rattle.std.specs.Prelude.{◌≡◌, All, IfOk, IsUtf8};
+ghost use Rattle.nk_lex.specs.Lex.{tokens_of};
+ghost use Rattle.nk_tabtext.specs.Machine.{Returns, written_of};
+ghost use Rattle.nk_tabtext.specs.ReadBack.{IsPrintable};
+ghost use Rattle.nk_tabtext.specs.Values.{IsNamed, last_line, lexed, tables_from, tables_of};
+
+use crate::declared::declare;
+use crate::names::Names;
+use crate::reader::read_text;
+use crate::tables::{each, tables};
+use crate::values::refuse_if;
+use crate::written::{ReadError, WrittenTables};
+use nk_lex::{LexError, Token, tokens};
+use nk_table::Tables;
+use std::alloc::Global;
+
+/// The tokens of a text, or its first lexical fault.
+fn lex(alloc: Global, text: &[u8]) -> Result<Vec<Token>, ReadError>
+    ensures tokens { Returns (λ v. v.items) result (lexed (tokens_of text.now)) }
+    ensures texts { IfOk result (λ v. All (λ t. IsUtf8 t.text) v.items) }
+{
+    match tokens(alloc, text) {
+        Ok(tokens) => Ok(tokens),
+        Err(LexError::NoMemory) => Err(ReadError::NoMemory),
+        Err(LexError::BadByte { line }) => Err(ReadError::BadByte { line }),
+        Err(LexError::NumberTooLarge { line }) => Err(ReadError::NumberTooLarge { line }),
+    }
+}
+
+/// What a text's tokens write.
+#[tactic(auto, using(crate::proofs::Answering::named_of))]
+fn written(alloc: Global, tokens: &[Token]) -> Result<WrittenTables, ReadError>
+    ensures written { Returns (λ x. x) result (written_of tokens.now) }
+    ensures named { All (λ t. IsUtf8 t.text) tokens.now → IfOk result (λ x. All IsNamed x.declarations) }
+{
+    match read_text(alloc, tokens) {
+        Ok(text) => Ok(text),
+        Err(error) => Err(error),
+    }
+}
+
+/// The line of the last token, or 1.
+fn last_line(tokens: &[Token]) -> u64
+    ensures { result ≡ last_line 1 tokens.now }
+{
+    let mut line = 1;
+    for token in tokens {
+        line = token.line;
+    }
+    line
+}
+
+/// The tables that are written, where `line` is that of the last token.
+#[tactic(auto, using(crate::proofs::Numbers::numbers_rise))]
+fn tables_from(alloc: Global, line: u64, text: &WrittenTables) -> Result<Tables, ReadError>
+    requires { All IsNamed text.now.declarations }
+    ensures { Returns (λ t. t) result (tables_from line text.now) }
+{
+    refuse_if(text.version.value != 1, text.version.line)?;
+    let names = declare(alloc, text.declarations.as_slice())?;
+    let read = tables(alloc, &names, text.tables.as_slice())?;
+    refuse_if(names.fields.tag().is_none(), line)?;
+    let tables = each(alloc, names.topo.switches(), read)?;
+    let Names { fields, topo } = names;
+    Ok(Tables {
+        fields,
+        topo,
+        tables,
+    })
+}
+
+/// The tables of a text, or its first fault with its line, in this order: a byte that begins no token or a number above
+/// 281,474,976,710,655; the first token with which no text goes on, or the end of what is no text yet; then, in the order
+/// of the text, what breaks a rule, at the line of the number or name at fault; last, where no tag is declared, the line of
+/// the last token.
+///
+/// The number behind `tables` is 1. Fields have names of their own, at most sixteen; the tag is one of them, declared
+/// above it, once; switches and ports are at most 65,535, a switch is declared once, with each port once; a link leads from
+/// a declared port to a declared one, and no two begin or end at one port. A table's switch is declared, and has no table
+/// before. A group's number is at least 1 and no other group's of the table, and a row's group is one of the table's. A
+/// priority is at most 65,535. Rows match declared fields and `pt`, buckets assign declared fields, each at most once and in
+/// its range, and send to ports of at most 65,535.
+///
+/// Tables stand by switch, a declared switch without a table having an empty one, groups by number, matches and
+/// assignments by field, rows and buckets as in the text.
+///
+/// They are such as can be printed and read back.
+pub fn read_tables(alloc: Global, text: &[u8]) -> Result<Tables, ReadError>
+    ensures tables { Returns (λ t. t) result (tables_of text.now) }
+    ensures printable { IfOk result IsPrintable }
+{
+    let tokens = lex(alloc, text)?;
+    let written = written(alloc, tokens.as_slice())?;
+    let line = last_line(tokens.as_slice());
+    tables_from(alloc, line, &written)
+}

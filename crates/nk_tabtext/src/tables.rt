@@ -1,0 +1,88 @@
+//! The tables of all switches.
+ghost use Rattle.std.specs.Prelude.{◌≡◌, ◌<◌, [], map, unwrap_or, AllPairs, IfOk};
+ghost use Rattle.nk_tabtext.specs.Machine.{Returns};
+ghost use Rattle.nk_tabtext.specs.Said.{said_in};
+ghost use Rattle.nk_tabtext.specs.Values.{empty_table, table_for, table_read, tables_read};
+
+use crate::names::Names;
+use crate::values::{groups, refuse_if, rows, small};
+use crate::written::{ReadError, WrittenTable};
+use nk_field::List;
+use nk_table::{Group, Table};
+use std::alloc::{AllocError, Global};
+use std::collections::BTreeMap;
+
+/// The tables that are written, by switch.
+pub(crate) type Tabled = BTreeMap<u16, Table>;
+
+/// A table behind others.
+fn table(
+    alloc: Global,
+    names: &Names,
+    before: &Tabled,
+    t: &WrittenTable,
+) -> Result<Table, ReadError>
+    ensures { Returns (λ x. x) result (table_read (said_in names.now) before.now.entries t.now) }
+{
+    let switch = small(t.switch)?;
+    let unknown = !names.topo.is_switch(switch);
+    refuse_if(unknown || before.contains_key(&switch), t.switch.line)?;
+    let groups = groups(alloc, &names.fields, t.groups.as_slice())?;
+    let rows = rows(alloc, &names.fields, &groups, t.rows.as_slice())?;
+    let groups: Vec<Group> = groups.into_values().collect(alloc)?;
+    Ok(Table {
+        switch,
+        groups: List::from_vec(groups),
+        rows,
+    })
+}
+
+/// The tables that are written, by switch.
+pub(crate) fn tables(
+    alloc: Global,
+    names: &Names,
+    all: &[WrittenTable],
+) -> Result<Tabled, ReadError>
+    ensures { Returns (λ m. m.entries) result (tables_read (said_in names.now) [] all.now) }
+{
+    let mut before = BTreeMap::new(alloc);
+    for t in all {
+        let table = table(alloc, names, &before, t)?;
+        if before.insert(table.switch, table).is_err() {
+            return Err(ReadError::NoMemory);
+        }
+    }
+    Ok(before)
+}
+
+/// The table of a switch that is taken, or an empty one.
+fn or_empty(alloc: Global, table: Option<Table>, switch: u16) -> Table
+    ensures { result ≡ unwrap_or table (empty_table switch) }
+{
+    match table {
+        Some(table) => table,
+        None => Table {
+            switch,
+            groups: List::new(alloc),
+            rows: List::new(alloc),
+        },
+    }
+}
+
+/// The table of each of these switches, empty where none is written.
+pub(crate) fn each(
+    alloc: Global,
+    switches: &[u16],
+    tables: Tabled,
+) -> Result<List<Table>, AllocError>
+    requires { AllPairs (λ p q. p < q) switches.now }
+    ensures { IfOk result (λ l. l ≡ map (table_for tables.entries) switches.now) }
+{
+    let mut tables = tables;
+    let mut all = List::new(alloc);
+    for switch in switches {
+        let table = tables.remove(switch);
+        all.push(or_empty(alloc, table, *switch))?;
+    }
+    Ok(all)
+}

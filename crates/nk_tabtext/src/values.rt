@@ -1,0 +1,249 @@
+//! Matches, buckets, groups and rows as they are written, and what they mean.
+ghost use Rattle.std.specs.Prelude.{◌≡◌, ◌<◌, [], ◌∷◌, Ok, map, length, IfSome, MatchResult};
+ghost use Rattle.std.specs.Prelude.{◌==◌};
+ghost use Rattle.std.specs.List.{list_any};
+ghost use Rattle.nk_field.specs.Packet.{field_named};
+ghost use Rattle.nk_tabtext.specs.Machine.{Returns};
+ghost use Rattle.nk_tabtext.specs.Values.{
+  bucket_read,
+  buckets_read,
+  fault_if,
+  group_fault,
+  group_read,
+  groups_read,
+  has_key,
+  pair_read,
+  pairs_read,
+  row_read,
+  rows_read,
+  target_read,
+  unless,
+  way_read,
+  above,
+};
+
+use crate::written::{
+    Number, Pair, ReadError, Way, WrittenBucket, WrittenGroup, WrittenRow, WrittenTarget,
+};
+use nk_field::{Act, Fid, Fields, List};
+use nk_table::{Bucket, Exit, Group, Row, Target};
+use std::alloc::Global;
+use std::collections::BTreeMap;
+
+/// The largest number of a switch and of a port, and the largest priority.
+const LARGEST: u64 = 65_535;
+
+/// The groups of a table, by number.
+pub(crate) type Groups = BTreeMap<u64, Group>;
+
+/// Ends with a table fault on the line, where something is wrong.
+pub(crate) fn refuse_if(wrong: bool, line: u64) -> Result<(), ReadError>
+    ensures { result ≡ unless (fault_if wrong line) tt }
+{
+    if wrong {
+        Err(ReadError::TableFault { line })
+    } else {
+        Ok(())
+    }
+}
+
+/// The number of a switch or a port, or a priority.
+pub(crate) fn small(n: Number) -> Result<u16, ReadError>
+    ensures { result ≡ unless (above 65535 n) n.value }
+{
+    if LARGEST < n.value {
+        Err(ReadError::TableFault { line: n.line })
+    } else {
+        Ok(n.value as u16)
+    }
+}
+
+/// The field with the name.
+pub(crate) fn field_with(fields: &Fields, name: &[u8]) -> Option<Fid>
+    ensures is { result ≡ field_named fields.now name.now }
+    ensures within { IfSome result (λ f. f < length fields.now.maxima) }
+{
+    let _declared = fields.declared();
+    for place in 0..fields.len() {
+        let field = Fid::new(place as u8);
+        if name == fields.name(field).as_bytes() {
+            return Some(field);
+        }
+    }
+    None
+}
+
+/// Whether a field stands among these.
+fn has_field(pairs: &[(Fid, u64)], field: Fid) -> bool
+    ensures { result ≡ list_any (λ s. s.0 == field) pairs.now }
+{
+    for (f, _) in pairs {
+        if *f == field {
+            return true;
+        }
+    }
+    false
+}
+
+/// A match or an assignment behind others, of a field from `low` on.
+fn pair(
+    fields: &Fields,
+    low: usize,
+    before: &[(Fid, u64)],
+    pair: &Pair,
+) -> Result<(Fid, u64), ReadError>
+    ensures { result ≡ pair_read fields.now low before.now pair.now }
+{
+    let line = pair.name.line;
+    match field_with(fields, pair.name.text.as_slice()) {
+        Some(field) => {
+            if field.place() < low || has_field(before, field) {
+                return Err(ReadError::TableFault { line });
+            }
+            if fields.max(field) < pair.number.value {
+                return Err(ReadError::TableFault {
+                    line: pair.number.line,
+                });
+            }
+            Ok((field, pair.number.value))
+        }
+        None => Err(ReadError::TableFault { line }),
+    }
+}
+
+/// Matches or assignments of fields from `low` on, each field once.
+fn pairs(alloc: Global, fields: &Fields, low: usize, pairs: &[Pair]) -> Result<Act, ReadError>
+    ensures { Returns (λ a. a) result (pairs_read fields.now low [] pairs.now) }
+{
+    let mut before = Act::none(alloc);
+    for p in pairs {
+        let (field, value) = pair(fields, low, before.as_slice(), p)?;
+        before = before.then(&Act::one(alloc, field, value)?)?;
+    }
+    Ok(before)
+}
+
+/// An exit.
+fn exit(way: Way) -> Result<Exit, ReadError>
+    ensures { result ≡ way_read way }
+{
+    match way {
+        Way::Back => Ok(Exit::Back),
+        Way::Port(n) => {
+            if LARGEST < n.value {
+                return Err(ReadError::TableFault { line: n.line });
+            }
+            Ok(Exit::Port(n.value as u16))
+        }
+    }
+}
+
+/// A bucket.
+fn bucket(alloc: Global, fields: &Fields, b: &WrittenBucket) -> Result<Bucket, ReadError>
+    ensures { Returns (λ x. x) result (bucket_read fields.now b.now) }
+{
+    let sets = pairs(alloc, fields, 2, b.sets.as_slice())?;
+    let exit = exit(b.way)?;
+    Ok(Bucket { sets, exit })
+}
+
+/// The buckets of a group.
+fn buckets(
+    alloc: Global,
+    fields: &Fields,
+    first: Bucket,
+    more: &[WrittenBucket],
+) -> Result<List<Bucket>, ReadError>
+    ensures { Returns (λ l. l) result (buckets_read fields.now (first ∷ []) more.now) }
+{
+    let mut before = List::new(alloc);
+    before.push(first)?;
+    for b in more {
+        before.push(bucket(alloc, fields, b)?)?;
+    }
+    Ok(before)
+}
+
+/// A group behind others.
+fn group(
+    alloc: Global,
+    fields: &Fields,
+    before: &Groups,
+    g: &WrittenGroup,
+) -> Result<Group, ReadError>
+    ensures { Returns (λ x. x) result (group_read fields.now before.now.entries g.now) }
+{
+    let number = g.number.value;
+    refuse_if(number == 0 || before.contains_key(&number), g.number.line)?;
+    let first = bucket(alloc, fields, &g.first)?;
+    let buckets = buckets(alloc, fields, first, g.more.as_slice())?;
+    Ok(Group { number, buckets })
+}
+
+/// The groups of a table, by number.
+pub(crate) fn groups(
+    alloc: Global,
+    fields: &Fields,
+    all: &[WrittenGroup],
+) -> Result<Groups, ReadError>
+    ensures { Returns (λ m. m.entries) result (groups_read fields.now [] all.now) }
+{
+    let mut before = BTreeMap::new(alloc);
+    for g in all {
+        let group = group(alloc, fields, &before, g)?;
+        if before.insert(group.number, group).is_err() {
+            return Err(ReadError::NoMemory);
+        }
+    }
+    Ok(before)
+}
+
+/// What a row does.
+fn target(
+    alloc: Global,
+    fields: &Fields,
+    groups: &Groups,
+    t: &WrittenTarget,
+) -> Result<Target, ReadError>
+    ensures { Returns (λ x. x) result (target_read fields.now groups.now.entries t.now) }
+{
+    match t {
+        WrittenTarget::Bucket(b) => Ok(Target::Bucket(bucket(alloc, fields, b)?)),
+        WrittenTarget::Group(n) => {
+            refuse_if(!groups.contains_key(&n.value), n.line)?;
+            Ok(Target::Group(n.value))
+        }
+        WrittenTarget::Discard => Ok(Target::Discard),
+    }
+}
+
+/// A row.
+fn row(alloc: Global, fields: &Fields, groups: &Groups, r: &WrittenRow) -> Result<Row, ReadError>
+    ensures { Returns (λ x. x) result (row_read fields.now groups.now.entries r.now) }
+{
+    let priority = small(r.priority)?;
+    let act = pairs(alloc, fields, 1, r.matches.as_slice())?;
+    let matches = List::from_vec(Vec::from_slice(alloc, act.as_slice())?);
+    let target = target(alloc, fields, groups, &r.target)?;
+    Ok(Row {
+        priority,
+        matches,
+        target,
+    })
+}
+
+/// The rows of a table.
+pub(crate) fn rows(
+    alloc: Global,
+    fields: &Fields,
+    groups: &Groups,
+    all: &[WrittenRow],
+) -> Result<List<Row>, ReadError>
+    ensures { Returns (λ l. l) result (rows_read fields.now groups.now.entries [] all.now) }
+{
+    let mut before = List::new(alloc);
+    for r in all {
+        before.push(row(alloc, fields, groups, r)?)?;
+    }
+    Ok(before)
+}
