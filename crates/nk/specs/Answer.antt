@@ -5,8 +5,9 @@ use Rattle.nk.specs.declared.status.Status.{Status}
 use Rattle.nk.specs.declared.status.Status.TheVariants.{Done, Differs, Usage, Text, Refused}
 use Rattle.nk.specs.declared.status.Status.TheVariants.{ReadFault, NoMemory, TooLong}
 use Rattle.nk_words.specs.declared.words.Command.{Command}
-use Rattle.nk_words.specs.declared.words.Command.TheVariants.{Compile}
+use Rattle.nk_words.specs.declared.words.Command.TheVariants.{Compile, Trace}
 use Rattle.nk.specs.Compiling.{Outcome, done, differs, text_refused, policy_refused, IsCompileAnswer}
+use Rattle.nk.specs.Tracing.{IsTraceAnswer}
 
 -- a status and its text
 pub record Answer : Type 0 where
@@ -48,6 +49,7 @@ answer_of (policy_refused text) = answer Refused text
 -- what a command answers to an input within the limit
 abbrev pub IsOutcome : Command → List ℕ → Outcome → Type 0
 IsOutcome (Compile name) bytes outcome = IsCompileAnswer name bytes outcome
+IsOutcome (Trace hops packet) bytes outcome = IsTraceAnswer hops packet bytes outcome
 
 -- the answer is one that the command has to the input
 abbrev pub IsOutcomeOf : Command → List ℕ → Answer → Type 0

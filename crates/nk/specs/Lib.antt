@@ -5,3 +5,4 @@ pub mod Compiling
 pub mod Answer
 pub mod Ends
 pub mod Reply
+pub mod Tracing

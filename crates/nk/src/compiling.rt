@@ -4,12 +4,12 @@ ghost use Rattle.nk_lex.specs.Lex.{largest};
 ghost use Rattle.nk_grammar.specs.File.{declaration_of, IsWritten};
 ghost use Rattle.nk_grammar.specs.FileMachine.{file_of};
 ghost use Rattle.nk_names.specs.ProgramOf.{program_of, said_by};
-ghost use Rattle.nk.specs.Compiling.{IsCompileAnswer, ToDeclarations, ToProgram, ToSaid, text_refused};
+ghost use Rattle.nk.specs.Compiling.{IsCompileAnswer, ToDeclarations, ToProgram, ToSaid};
 ghost use Rattle.nk.specs.Messages.{fault_line};
 ghost use Rattle.nk.specs.Reply.{said};
 
 use crate::Said;
-use crate::messages::{fault_message, refusal_message, words_of};
+use crate::messages::{refusal_message, text_fault, words_of};
 use nk_compile::{CompileError, compile};
 use nk_grammar::{File, GrammarError, file};
 use nk_lex::{LexError, Token, tokens};
@@ -65,11 +65,4 @@ fn answer_to_program(alloc: Global, name: &str, program: &Program) -> Result<Sai
         Err(CompileError::Refused(reason)) => Ok(Said::Refused(refusal_message(alloc, reason)?)),
         Err(CompileError::NoMemory) => Err(AllocError),
     }
-}
-
-/// The fault of a text.
-fn text_fault(alloc: Global, line: u64, words: &str) -> Result<Said, AllocError>
-    ensures { IfOk result (λ s. said s ≡ text_refused (fault_line line words.now)) }
-{
-    Ok(Said::Text(fault_message(alloc, line, words)?))
 }

@@ -5,9 +5,8 @@ mod compiling;
 mod messages;
 mod reply;
 mod status;
-#[cfg(test)]
-mod tests;
 mod top;
+mod tracing;
 
 pub use reply::{Reply, Said};
 pub use status::Status;

@@ -1,14 +1,17 @@
 //! The messages for texts and policies that are refused.
 ghost use Rattle.std.specs.Prelude.{◌≡◌, ◌++◌, IfOk, codes, decimal};
+ghost use Rattle.nk.specs.Compiling.{text_refused};
 ghost use Rattle.nk.specs.Messages.{fault_line, fault_words, refusal_line};
+ghost use Rattle.nk.specs.Reply.{said};
 
+use crate::Said;
 use itoa::Buffer;
 use nk_compile::Refusal;
 use nk_names::FaultKind;
 use std::alloc::{AllocError, Global};
 
 /// `line N: WORDS` with a line feed.
-pub(crate) fn fault_message(alloc: Global, line: u64, words: &str) -> Result<Vec<u8>, AllocError>
+fn fault_message(alloc: Global, line: u64, words: &str) -> Result<Vec<u8>, AllocError>
     ensures { IfOk result (λ v. v.items ≡ fault_line line words.now) }
 {
     let mut buffer = Buffer::new();
@@ -60,4 +63,11 @@ pub(crate) fn refusal_message(alloc: Global, reason: Refusal) -> Result<Vec<u8>,
         Refusal::OffEdge => b"refused C7: off edge\n",
     };
     Vec::from_slice(alloc, message)
+}
+
+/// The fault of a text.
+pub(crate) fn text_fault(alloc: Global, line: u64, words: &str) -> Result<Said, AllocError>
+    ensures { IfOk result (λ s. said s ≡ text_refused (fault_line line words.now)) }
+{
+    Ok(Said::Text(fault_message(alloc, line, words)?))
 }

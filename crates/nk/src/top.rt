@@ -10,6 +10,7 @@ ghost use Rattle.nk.specs.Reply.{answer_in, said, IsReplyTo};
 use crate::Status;
 use crate::compiling::compile_answer;
 use crate::reply::{Reply, Said, deliver};
+use crate::tracing::trace_answer;
 use nk_io::{ReadError, Sink, Source, read_all};
 use nk_words::{Command, WordsError, read_words};
 use std::alloc::{AllocError, Global};
@@ -100,5 +101,6 @@ fn perform(alloc: Global, command: &Command, bytes: &[u8]) -> Result<Said, Alloc
 {
     match command {
         Command::Compile(name) => compile_answer(alloc, name.as_str(), bytes),
+        Command::Trace(hops, packet) => trace_answer(alloc, *hops, packet.as_str(), bytes),
     }
 }

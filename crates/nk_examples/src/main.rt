@@ -1,4 +1,5 @@
-//! Compiles each example in the folder `data`, and says whether the answer is the text beside it.
+//! Compiles each example in the folder `data`, follows a packet through its tables, and says whether the answers are the
+//! texts beside it.
 #![tactic(auto)]
 
 use nk::{Status, run};
@@ -14,26 +15,49 @@ const EXAMPLES: [(&str, &str, &str); 4] = [
     ("two-switches", "route", "refusal"),
 ];
 
+/// A packet that is followed through the tables of an example; the answer is in the file that ends in `trace`.
+const TRACES: [(&str, &str); 3] = [
+    (
+        "access-list",
+        "sw=1,pt=1,source=3405803783,destination=167772170,service=443",
+    ),
+    ("gateway", "sw=1,pt=1,destination=3405803783"),
+    ("quarantine", "sw=1,pt=3"),
+];
+
 fn main(rt: HostRuntime) -> io::Result<()> {
     let alloc = rt.alloc();
     for (name, policy, ending) in EXAMPLES {
         let input = fs::read(&rt, &format!(in alloc; "{name}.nk")?)?;
         let wanted = fs::read(&rt, &format!(in alloc; "{name}.{ending}")?)?;
-        let said = if answers(alloc, policy, input, &wanted)? {
-            "as written"
-        } else {
-            "another answer"
-        };
+        let said = said_of(answers(alloc, &["compile", policy], input, &wanted)?);
         println!(rt; "{name}: {said}")?;
+    }
+    for (name, packet) in TRACES {
+        let input = fs::read(&rt, &format!(in alloc; "{name}.tables")?)?;
+        let wanted = fs::read(&rt, &format!(in alloc; "{name}.trace")?)?;
+        let said = said_of(answers(alloc, &["trace", "0", packet], input, &wanted)?);
+        println!(rt; "{name}, a packet: {said}")?;
     }
     Ok(())
 }
 
-/// Whether compiling the policy gives this answer, tables on one sink or a message on the other.
-fn answers(alloc: Global, policy: &str, input: Vec<u8>, wanted: &[u8]) -> Result<bool, AllocError> {
+/// Whether an answer is the one that was wanted, in words.
+fn said_of(same: bool) -> &'static str {
+    if same { "as written" } else { "another answer" }
+}
+
+/// Whether a command gives this answer, on one sink, or a message on the other.
+fn answers(
+    alloc: Global,
+    command: &[&str],
+    input: Vec<u8>,
+    wanted: &[u8],
+) -> Result<bool, AllocError> {
     let mut words = Vec::new(alloc);
-    words.push(String::from_str(alloc, "compile")?)?;
-    words.push(String::from_str(alloc, policy)?)?;
+    for word in command {
+        words.push(String::from_str(alloc, word)?)?;
+    }
     let mut source = PlainSource::new(input);
     let mut out = sink(alloc)?;
     let mut err = sink(alloc)?;

@@ -30,4 +30,5 @@ nk_top = record {
 
 -- the program with all of its commands
 unfoldable pub nk_app : App
-nk_app = with_subcommand nk_top (leaf_shape (codes "compile") (codes "NAME" ∷ []))
+nk_app = with_subcommand (with_subcommand nk_top (leaf_shape (codes "compile") (codes "NAME" ∷ [])))
+    (leaf_shape (codes "trace") (codes "HOPS" ∷ codes "PACKET" ∷ []))

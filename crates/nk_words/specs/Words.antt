@@ -8,22 +8,33 @@ use Rattle.clap.specs.Walk.{Row, Text, first_of}
 use Rattle.clap.specs.Simple.{subcommand_of}
 use Rattle.clap.specs.Faults.{fault_of}
 use Rattle.nk_words.specs.declared.words.Command.{Command}
-use Rattle.nk_words.specs.declared.words.Command.TheVariants.{Compile}
+use Rattle.nk_words.specs.declared.words.Command.TheVariants.{Compile, Trace}
 use Rattle.nk_words.specs.declared.words.WordsError.{WordsError}
 use Rattle.nk_words.specs.declared.words.WordsError.TheVariants.{NoMemory, Usage}
 use Rattle.nk_words.specs.App.{nk_app}
+use Rattle.nk_words.specs.Number.{number_upto}
 
 -- the words as texts
 abbrev pub texts : List (String Global) → List Text
 texts words = map (λ w. string_bytes w) words
 
+-- the number of an argument
+abbrev pub number_of : Text → ℕ → List Row → Option ℕ
+number_of id largest rows = option_and_then (number_upto largest) (first_of id rows)
+
 -- the command `compile NAME`, from what was found of its argument
 abbrev pub compile_of : List Row → Option Command
 compile_of rows = option_map (λ name. Compile name) (first_of (codes "NAME") rows)
 
+-- the command `trace HOPS PACKET`, from what was found of its arguments
+abbrev pub trace_of : List Row → Option Command
+trace_of rows = option_and_then (λ hops. option_map (λ packet. Trace hops packet) (first_of (codes "PACKET") rows))
+    (number_of (codes "HOPS") 65535 rows)
+
 -- the command of this name, from what was found of its arguments
 abbrev pub command_with : Text → List Row → Option Command
-command_with name rows = if bytes_eq name (codes "compile") then compile_of rows else None
+command_with name rows = if bytes_eq name (codes "compile") then compile_of rows
+    else if bytes_eq name (codes "trace") then trace_of rows else None
 
 -- the command of the subcommand that was found
 abbrev pub command_found : Option (Text × List Row) → Option Command
@@ -33,10 +44,6 @@ command_found = option_and_then (λ p. command_with p.0 p.1)
 abbrev pub command_of : List Text → Option Command
 command_of words =
     if length (fault_of nk_app words) == 0 then command_found (subcommand_of nk_app words) else None
-
--- the policy's name in a command
-abbrev pub name_of : Command → List ℕ
-name_of (Compile name) = name
 
 -- what was read, and Usage only where there is nothing to read
 abbrev pub Reads : {X : Type 0} → Option X → Result X WordsError → Type 0

@@ -6,9 +6,10 @@ ghost use Rattle.clap.specs.Simple.{app_of, subcommand_rows_of, with_rule, with_
 ghost use Rattle.clap.specs.Walk.{first_of, rows_of};
 ghost use Rattle.nk_words.specs.App.{leaf_app, leaf_shape, nk_app, nk_top, wanted};
 ghost use Rattle.nk_words.specs.Words.{Reads, command_found, command_of, command_with, compile_of};
-ghost use Rattle.nk_words.specs.Words.{name_of, texts};
+ghost use Rattle.nk_words.specs.Words.{number_of, texts, trace_of};
 
 use crate::Bytes;
+use crate::number::number;
 use clap::error::ErrorKind;
 use clap::{Arg, ArgMatches};
 use std::alloc::{AllocError, Global};
@@ -19,17 +20,9 @@ use thiserror::Error;
 pub enum Command {
     /// `compile NAME`: the table of every switch for the policy of this name.
     Compile(Bytes),
-}
-
-impl Command {
-    /// The name of the policy that is meant.
-    pub fn name(&self) -> &str
-        ensures { result.now ≡ name_of self.now }
-    {
-        match self {
-            Command::Compile(name) => name.as_str(),
-        }
-    }
+    /// `trace HOPS PACKET`: the histories with which the packet leaves after at most so many link crossings, from
+    /// 0 to 65535. The packet is a text as `sw=1,pt=2,dst=3`.
+    Trace(u64, Bytes),
 }
 
 /// Why the words give no command.
@@ -106,7 +99,8 @@ fn top<'a>(alloc: Global) -> clap::Command<'a>
 fn application<'a>(alloc: Global) -> Result<clap::Command<'a>, AllocError>
     ensures { IfOk result (λ c. app_of c ≡ nk_app) }
 {
-    with_leaf(alloc, top(alloc), "compile", &["NAME"])
+    let app = with_leaf(alloc, top(alloc), "compile", &["NAME"])?;
+    with_leaf(alloc, app, "trace", &["HOPS", "PACKET"])
 }
 
 /// The command that the words give. `Usage` comes exactly where they give none.
@@ -139,6 +133,8 @@ fn command_named(alloc: Global, name: &str, found: &ArgMatches) -> Result<Comman
 {
     if name == "compile" {
         compile(alloc, found)
+    } else if name == "trace" {
+        trace(alloc, found)
     } else {
         Err(WordsError::Usage)
     }
@@ -150,6 +146,15 @@ fn compile(alloc: Global, found: &ArgMatches) -> Result<Command, WordsError>
 {
     let name = text(alloc, found, "NAME")?;
     Ok(Command::Compile(name))
+}
+
+/// `trace HOPS PACKET`.
+fn trace(alloc: Global, found: &ArgMatches) -> Result<Command, WordsError>
+    ensures { Reads (trace_of (rows_of (found_of found.now))) result }
+{
+    let hops = number_at(found, "HOPS", 65535)?;
+    let packet = text(alloc, found, "PACKET")?;
+    Ok(Command::Trace(hops, packet))
 }
 
 /// The word of an argument.
@@ -167,6 +172,19 @@ fn text(alloc: Global, found: &ArgMatches, id: &str) -> Result<Bytes, WordsError
         Some(value) => match Bytes::of_text(alloc, value) {
             Ok(bytes) => Ok(bytes),
             Err(_) => Err(WordsError::NoMemory),
+        },
+        None => Err(WordsError::Usage),
+    }
+}
+
+/// The number of an argument, at most the largest one.
+fn number_at(found: &ArgMatches, id: &str, largest: u64) -> Result<u64, WordsError>
+    ensures { Reads (number_of id.now largest (rows_of (found_of found.now))) result }
+{
+    match word(found, id) {
+        Some(value) => match number(value, largest) {
+            Some(number) => Ok(number),
+            None => Err(WordsError::Usage),
         },
         None => Err(WordsError::Usage),
     }

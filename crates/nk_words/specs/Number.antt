@@ -1,0 +1,14 @@
+-- A number among the words.
+use Rattle.std.specs.Prelude.{ℕ, ◌&&◌, Bool, List, Option, Some, None, if◌then◌else◌, length, nat_lt, nat_le}
+use Rattle.std.specs.Char.{is_ascii_digit}
+use Rattle.std.specs.List.{list_all}
+use Rattle.std.specs.Str.Parse.{digits_value}
+
+-- the word is digits alone, one at least, and its value is at most this one
+abbrev pub is_number_upto : ℕ → List ℕ → Bool
+is_number_upto largest word =
+    list_all is_ascii_digit word && (nat_lt 0 (length word) && nat_le (digits_value 10 word) largest)
+
+-- the number that the word is
+abbrev pub number_upto : ℕ → List ℕ → Option ℕ
+number_upto largest word = if is_number_upto largest word then Some (digits_value 10 word) else None
