@@ -1,0 +1,34 @@
+//! The diagram of a small policy.
+use nk_auto::diagram;
+use nk_field::{Fields, Packet};
+use nk_policy::{Pol, Pols};
+use nk_store::Store;
+use std::test::Fail;
+
+/// `dst=0; dst:=1 + ~dst=0` makes a `dst` of 0 one of 1, and leaves one of 2 as it is.
+#[test]
+fn a_policy_at_two_packets(rt: HostRuntime) -> Result<(), Fail> {
+    let alloc = rt.alloc();
+    let mut fields = Fields::new(alloc)?;
+    let dst = fields.add("dst", 3)?;
+    let mut st = Store::new(alloc, &fields)?;
+    let moved = vec![in alloc; Pol::Test(dst, 0), Pol::Set(dst, 1)]?;
+    let kept = Pol::Not(Box::new(alloc, Pol::Test(dst, 0))?);
+    let parts = vec![in alloc; Pol::Seq(Pols::new(moved)), kept]?;
+    let d = diagram(&mut st, &Pol::Sum(Pols::new(parts)))?;
+    let zero = Packet::zero();
+    let mut two = Packet::zero();
+    two.put(dst, 2);
+    let at_zero = st.look(d, &zero);
+    assert_eq!(rt; at_zero.len(), 1);
+    for out in at_zero {
+        assert_eq!(rt; out.act.apply(&zero).get(dst), 1);
+        assert_eq!(rt; out.target, 0);
+    }
+    let at_two = st.look(d, &two);
+    assert_eq!(rt; at_two.len(), 1);
+    for out in at_two {
+        assert_eq!(rt; out.act.apply(&two).get(dst), 2);
+    }
+    Ok(())
+}

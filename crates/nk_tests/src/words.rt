@@ -1,0 +1,62 @@
+//! Words and the commands that they give.
+use nk_words::{Command, WordsError, read_words};
+use std::alloc::Global;
+use std::test::Fail;
+
+/// What the words give: a command's number and its text, or nothing where they give no command. `compile` has 0.
+fn command_in(alloc: Global, words: &[&str]) -> Result<Option<(u64, String)>, Fail> {
+    let mut given = Vec::new(alloc);
+    for word in words {
+        given.push(String::from_str(alloc, word)?)?;
+    }
+    match read_words(alloc, &given) {
+        Ok(Command::Compile(name)) => Ok(Some((0, String::from_str(alloc, name.as_str())?))),
+        Ok(Command::Trace(hops, packet)) => Ok(Some((
+            hops,
+            String::from_str(alloc, packet.as_str())?,
+        ))),
+        Err(WordsError::Usage) => Ok(None),
+        Err(error) => Err(error.into()),
+    }
+}
+
+#[test]
+fn words_that_give_a_command(rt: HostRuntime) -> Result<(), Fail> {
+    let table: [(&[&str], u64, &str); 5] = [
+        (&["compile", "p"], 0, "p"),
+        (&["compile", "--", "-p"], 0, "-p"),
+        (&["compile", "-"], 0, "-"),
+        (&["compile", ""], 0, ""),
+        (&["trace", "0065535", "sw=1"], 65535, "sw=1"),
+    ];
+    for (words, number, text) in table {
+        match command_in(rt.alloc(), words)? {
+            Some((found, told)) => assert!(rt; found == number && told.as_str() == text),
+            None => panic!(rt; "no command"),
+        }
+    }
+    Ok(())
+}
+
+#[test]
+fn words_that_give_no_command(rt: HostRuntime) -> Result<(), Fail> {
+    let table: [&[&str]; 13] = [
+        &[],
+        &["compile"],
+        &["compile", "p", "q"],
+        &["compile", "-p"],
+        &["comp", "p"],
+        &["help"],
+        &["--help"],
+        &["-V"],
+        &["--", "compile", "p"],
+        &["trace", "1"],
+        &["trace", "+7", "sw=1"],
+        &["trace", "65536", "sw=1"],
+        &["trace", "", "sw=1"],
+    ];
+    for words in table {
+        assert!(rt; command_in(rt.alloc(), words)?.is_none());
+    }
+    Ok(())
+}
