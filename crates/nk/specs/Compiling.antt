@@ -16,9 +16,11 @@ use Rattle.nk_names.specs.declared.fault.NamesError.TheVariants as naming
 use Rattle.nk_names.specs.ProgramOf.{Said, said_by, program_of}
 use Rattle.nk_table.specs.declared.Tables.{Tables}
 use Rattle.nk_tabtext.specs.Text.{table_bytes}
+use Rattle.nk_tabtext.specs.Values.{tables_of}
 use Rattle.nk_compile.specs.declared.refusal.Refusal.{Refusal}
 use Rattle.nk_compile.specs.Headline.{IsCompiled}
 use Rattle.nk_compile.specs.Refusals.{IsRefused}
+use Rattle.nk_compile.specs.TextTables.{HasFewGroups}
 use Rattle.nk.specs.Messages.{fault_line, fault_words, refusal_line}
 
 -- the kinds of answer that a command has, each with its text: it is done; what was compared differs;
@@ -29,13 +31,15 @@ pub data Outcome : Type 0 where
   text_refused : List ℕ → Outcome
   policy_refused : List ℕ → Outcome
 
--- the text is that of the printed tables of the program's policy of this name, which is accepted, and the tables carry it
+-- The text is that of the printed tables of the program's policy of this name, which is accepted, and the tables carry it.
+-- Read again it is these tables, unless a switch has more groups than a text has numbers.
 pub record IsPrinted (said : Said) (name text : List ℕ) : Type 0 where
   pub program : Program
   pub says : said_by program ≡ said
   pub tables : Tables
   pub compiled : IsCompiled program name tables
   pub printed : text ≡ table_bytes tables
+  pub read : HasFewGroups tables → tables_of text ≡ Ok tables
 
 -- the text tells the first reason to refuse the program's policy of this name
 pub record IsRefusal (said : Said) (name text : List ℕ) : Type 0 where

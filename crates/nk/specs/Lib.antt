@@ -1,6 +1,7 @@
 pub mod Status
 pub mod Use
 pub mod Messages
+pub mod Declarable
 pub mod Compiling
 pub mod Answer
 pub mod Ends

@@ -60,7 +60,7 @@ mutual
   all_assign_weaker P Q h (part p ps) plain a = (assigns_weaker P Q h p plain.0 a.0, all_assign_weaker P Q h ps plain.1 a.1)
 
 -- a front of two is read at its two places
-fronts : (xs : List ℕ) (a b : ℕ) → take 2 xs ≡ a ∷ b ∷ [] → (get_or xs 0 0 ≡ a) × (get_or xs 1 0 ≡ b)
+pub fronts : (xs : List ℕ) (a b : ℕ) → take 2 xs ≡ a ∷ b ∷ [] → (get_or xs 0 0 ≡ a) × (get_or xs 1 0 ≡ b)
 fronts [] a b h = cc
 fronts (x ∷ []) a b h = cc
 fronts (x ∷ y ∷ xs) a b h = (ap (λ l. get_or l 0 0) h, ap (λ l. get_or l 1 0) h)

@@ -1,6 +1,8 @@
 pub mod Carried
+pub mod Climbs
 pub mod Declared
 pub mod Emitted
+pub mod FewTags
 pub mod Fitting
 pub mod LinkEnds
 pub mod Making
@@ -9,12 +11,16 @@ pub mod PlaceLemmas
 pub mod Printable
 pub mod Printed
 pub mod Reached
+pub mod Readable
+pub mod ResultBuckets
 pub mod RowsFor
 pub mod Sending
 pub mod Sent
 pub mod SetLemmas
 pub mod SmallestTable
+pub mod SoundRows
 pub mod SwitchLemmas
+pub mod TableGroups
 pub mod TagPlaces
 pub mod Waits
 pub mod Walks

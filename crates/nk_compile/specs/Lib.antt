@@ -12,4 +12,5 @@ pub mod Smallest
 pub mod Sought
 pub mod Split
 pub mod SwitchTables
+pub mod TextTables
 pub mod WholeTable

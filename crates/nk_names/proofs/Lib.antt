@@ -10,5 +10,6 @@ pub mod Misplaced
 pub mod Places
 pub mod Printed
 pub mod ReadingBack
+pub mod Topologies
 pub mod Writable
 pub mod Predicates

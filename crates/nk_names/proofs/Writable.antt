@@ -112,7 +112,7 @@ tag_more t w h none =
 -- ---- all declarations
 
 -- what is said where there is no fault
-unless_ok : (o : MaybeFault) (s s' : Said) → unless o s ≡ Ok s' → (o ≡ None) × (s ≡ s')
+pub unless_ok : (o : MaybeFault) (s s' : Said) → unless o s ≡ Ok s' → (o ≡ None) × (s ≡ s')
 unless_ok None s s' e = (refl, cc)
 unless_ok (Some x) s s' e = absurd (not_ok e)
   where

@@ -5,4 +5,5 @@ pub mod Named
 pub mod ProgramOf
 pub mod ProgramValue
 pub mod Shape
+pub mod Topologies
 pub mod ReadBack

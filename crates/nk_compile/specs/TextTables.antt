@@ -1,0 +1,21 @@
+-- Printed tables that are read back as themselves.
+use Rattle.std.specs.Prelude.{ℕ, ◌≤◌, List, length, All}
+use Rattle.nk_lex.specs.Lex.{largest}
+use Rattle.nk_names.specs.declared.Program.{Program}
+use Rattle.nk_names.specs.ProgramValue.{IsProgram}
+use Rattle.nk_names.specs.ReadBack.{IsWritable}
+use Rattle.nk_names.specs.Topologies.{IsDeclarable}
+use Rattle.nk_table.specs.declared.Tables.{Tables}
+use Rattle.nk_tabtext.specs.ReadBack.{IsPrintable}
+use Rattle.nk_compile.specs.Headline.{IsCompiled}
+
+-- no switch has more groups than a text has numbers
+abbrev pub HasFewGroups : Tables → Type 0
+HasFewGroups t = All (λ u. length u.groups ≤ largest) t.tables
+
+-- The tables that compiling a name gives are such as are read back from their text, where the program has fields and a
+-- topology that a text can declare.
+abbrev pub CompilesPrintable : Type 0
+CompilesPrintable = (program : Program) (name : List ℕ) (t : Tables)
+    → IsProgram program.fields program.topo program.lets → IsWritable program.fields → IsDeclarable program.topo
+    → IsCompiled program name t → HasFewGroups t → IsPrintable t
