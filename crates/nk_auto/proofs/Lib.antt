@@ -2,3 +2,11 @@ pub mod Made
 pub mod Means
 pub mod Misses
 pub mod Predicates
+pub mod Sending
+pub mod Ways
+pub mod Silences
+pub mod Going
+pub mod Sums
+pub mod Writing
+pub mod Stating
+pub mod Parts

@@ -22,13 +22,13 @@ abbrev pub final : List (ℕ × ℕ) → Out
 final g = record { act = g; target = 0 }
 
 -- the member of a list that has one at most
-one_of : (b : Bool) (x o : Out) → Has (cond b (x ∷ []) []) o → (b ≡ true) × (x ≡ o)
+pub one_of : (b : Bool) (x o : Out) → Has (cond b (x ∷ []) []) o → (b ≡ true) × (x ≡ o)
 one_of true x o (inl e) = (refl, e)
 one_of true x o (inr h) = absurd h
 one_of false x o h = absurd h
 
 -- and it is one
-is_one : (b : Bool) (x : Out) → b ≡ true → Has (cond b (x ∷ []) []) x
+pub is_one : (b : Bool) (x : Out) → b ≡ true → Has (cond b (x ∷ []) []) x
 is_one true x e = inl refl
 is_one false x e = cc
 
@@ -56,7 +56,7 @@ final_is : (o : Out) → o.target ≡ 0 → o ≡ final o.act
 final_is o e = ap (λ t. record { act = o.act; target = t }) e
 
 -- a field's value is its clipped one, in range
-clipped : (maxes pk : List ℕ) (f : ℕ) → InRange maxes pk →
+pub clipped : (maxes pk : List ℕ) (f : ℕ) → InRange maxes pk →
     min (slice_index pk f) (slice_index maxes f) ≡ slice_index pk f
 clipped maxes pk f r = let h = r.1 f in grind arith
 

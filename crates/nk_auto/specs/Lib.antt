@@ -1,2 +1,5 @@
 pub mod Leaves
 pub mod Plain
+pub mod Complements
+pub mod Continued
+pub mod Automaton

@@ -1,6 +1,15 @@
-//! The diagram of a policy without star, dup and link literal, by recursion on its tree.
+//! The automaton of a policy, as diagrams: what the policy does from its start and from each of its dups on, up to the
+//! next record.
 #![tactic(auto)]
 
+mod going_on;
 mod making;
+mod rows;
+mod silence;
+mod states;
 
+pub use going_on::continued;
 pub use making::diagram;
+pub use rows::continued_with_rows;
+pub use silence::silent;
+pub use states::automaton;

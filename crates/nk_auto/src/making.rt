@@ -65,7 +65,7 @@ fn made_all(st: &mut Store, ps: &[Pol]) -> Result<Id, AllocError>
 }
 
 /// The packet itself where the field has the value; nothing for a value past the field's highest.
-fn test_where(st: &mut Store, f: Fid, n: u64) -> Result<Id, AllocError>
+pub fn test_where(st: &mut Store, f: Fid, n: u64) -> Result<Id, AllocError>
     ensures grows { Grows st.old st.new }
     ensures ok { IfOk result (λ d. HasLeaves st.new d
         (λ pk. cond (eqb (min (slice_index pk f) (slice_index st.old.maxes f)) n)
@@ -80,7 +80,7 @@ fn test_where(st: &mut Store, f: Fid, n: u64) -> Result<Id, AllocError>
 }
 
 /// The packet with the field set; nothing for a value past the field's highest.
-fn set_where(st: &mut Store, f: Fid, n: u64) -> Result<Id, AllocError>
+pub fn set_where(st: &mut Store, f: Fid, n: u64) -> Result<Id, AllocError>
     ensures grows { Grows st.old st.new }
     ensures ok { IfOk result (λ d. HasLeaves st.new d
         (λ pk. cond (leb n (slice_index st.old.maxes f)) (one_out f n ∷ []) [])) }

@@ -1,0 +1,62 @@
+use Rattle.std.proofs.Common.{◌≡◌, arith, sym, subst, drop}
+use Rattle.std.proofs.lemmas.Result.{IfOk-weaker}
+use Rattle.nk_policy.specs.Policy.{seq_of}
+use Rattle.nk_policy.specs.Tree.{tree_of, trees_of}
+use Rattle.nk_store.specs.Held.{IsId}
+use Rattle.nk_store.proofs.Stores.{grows_on}
+use Rattle.nk_auto.specs.Continued.{IsContinued}
+use Rattle.nk_auto.proofs.Made.{leaves_grow}
+use Rattle.nk_auto.proofs.Parts.{trees_before}
+use Rattle.nk_auto.proofs.Going.{continued_grow, cons_continued, star_continued}
+use Rattle.nk_auto.proofs.Sums.{AreOf, IsOnward, one_more_of, ids_of, sum_continued}
+use Rattle.nk_auto.proofs.going_on.+continued.Goals as goal
+
+pub continued_any-loop-i-preserved : goal.continued_any-loop-i-preserved
+continued_any-loop-i-preserved t c = record {
+  grows = grows_on _ _ _ c.loop-i.invariant.grows c.continued.ensures.grows;
+  within = omega (arith, c.loop-i.invariant.within);
+  made = subst (AreOf (IsOnward c.args.next) c.continued.new.st c.push.new.self) (sym (trees_before c.args.ps.now c.loop-i.i c.index-ps-i.result c.loop-i-test.true c.loop-i.invariant.within c.index-ps-i.is))
+      (one_more_of (IsOnward c.args.next) (λ old new d p g h. continued_grow old new d p c.args.next g h) c.loop-i.st c.continued.new.st c.loop-i.ids c.push.new.self (trees_of (drop c.loop-i.i c.args.ps.now)) c.in_ok-d.d (tree_of c.index-ps-i.result) c.continued.ensures.grows c.in_ok-push.ensures.ok c.loop-i.invariant.made c.in_ok-d.ensures.ok);
+}
+
+pub continued_any-union_all-requires : goal.continued_any-union_all-requires
+continued_any-union_all-requires t c =
+    ids_of (IsOnward c.args.next) (λ st d p h. h.id) c.loop-i.st c.loop-i.ids c.as_slice.result.now (trees_of (drop c.loop-i.i c.args.ps.now)) c.as_slice.ensures c.loop-i.invariant.made
+
+pub continued_any-returns-clause-ok : goal.continued_any-returns-clause-ok
+continued_any-returns-clause-ok t c =
+    let zero_is : c.loop-i.i ≡ 0 = omega (arith, c.loop-i-test.false) in
+    let made : AreOf (IsOnward c.args.next) c.loop-i.st c.loop-i.ids (trees_of c.args.ps.now) = subst (λ n. AreOf (IsOnward c.args.next) c.loop-i.st c.loop-i.ids (trees_of (drop n c.args.ps.now))) zero_is c.loop-i.invariant.made in
+    let next_id : IsId c.loop-i.st c.args.next = c.loop-i.invariant.grows.ids c.args.next c.requires in
+    IfOk-weaker c.union_all.result _ _
+    (λ r united. sum_continued c.loop-i.st c.union_all.new.st c.loop-i.ids c.as_slice.result.now (trees_of c.args.ps.now) c.args.next r c.as_slice.ensures c.union_all.ensures.grows next_id made united)
+    c.union_all.ensures.ok
+
+pub continued_all-loop-i-preserved : goal.continued_all-loop-i-preserved
+continued_all-loop-i-preserved t c = record {
+  grows = grows_on _ _ _ c.loop-i.invariant.grows c.continued.ensures.grows;
+  within = omega (arith, c.loop-i.invariant.within);
+  rest =
+      let behind = continued_grow c.loop-i.st c.continued.new.st c.loop-i.rest (seq_of (trees_of (drop c.loop-i.i c.args.ps.now))) c.args.next c.continued.ensures.grows c.loop-i.invariant.rest in
+      subst (λ ps. IsContinued c.continued.new.st c.in_ok-rest.rest (seq_of ps) c.args.next) (sym (trees_before c.args.ps.now c.loop-i.i c.index-ps-i.result c.loop-i-test.true c.loop-i.invariant.within c.index-ps-i.is))
+      (cons_continued c.continued.new.st c.in_ok-rest.rest c.loop-i.rest c.args.next (tree_of c.index-ps-i.result) (trees_of (drop c.loop-i.i c.args.ps.now)) c.in_ok-rest.ensures.ok behind);
+}
+
+pub continued_star-returns-clause-ok : goal.continued_star-returns-clause-ok
+continued_star-returns-clause-ok t c =
+    let p = tree_of c.args.q.now in
+    let here = grows_on _ _ _ c.empty.ensures.grows (grows_on _ _ _ c.continued.ensures.grows c.silent_star.ensures.grows) in
+    star_continued c.silent_star.new.st c.union.new.st c.seq.new.st c.in_ok-nothing.nothing c.in_ok-records.records c.args.next c.in_ok-rounds.rounds c.in_ok-onward.onward c.in_ok-d.d p
+    c.laws.ensures.tidy c.union.ensures.grows c.seq.ensures.grows
+    (continued_grow c.continued.new.st c.silent_star.new.st c.in_ok-records.records p c.in_ok-nothing.nothing c.silent_star.ensures.grows c.in_ok-records.ensures.ok)
+    (leaves_grow c.empty.new.st c.silent_star.new.st c.in_ok-nothing.nothing _ (grows_on _ _ _ c.continued.ensures.grows c.silent_star.ensures.grows) c.in_ok-nothing.ensures.ok)
+    c.in_ok-rounds.ensures.ok
+    (here.ids c.args.next c.requires)
+    c.in_ok-onward.ensures.ok
+    c.in_ok-d.ensures.ok
+
+pub continued-returns-in-Link-clause-ok : goal.continued-returns-in-Link-clause-ok
+continued-returns-in-Link-clause-ok t c =
+    IfOk-weaker c.link_start.result _ _
+    (λ r h. subst (λ p. IsContinued c.link_start.new.st r (tree_of p) c.args.next) (sym c.in-Link.is) (h c.in-Link.field-2 c.in-Link.field-3 c.args.next c.requires))
+    c.link_start.ensures.ok

@@ -1,0 +1,29 @@
+use Rattle.std.proofs.Common.{◌≤◌, length, drop}
+use Rattle.nk_policy.specs.Policy.{seq_of}
+use Rattle.nk_policy.specs.Tree.{trees_of}
+use Rattle.nk_store.specs.Held.{Grows}
+use Rattle.nk_auto.specs.Continued.{IsContinued}
+use Rattle.nk_auto.proofs.Sums.{AreOf, IsOnward}
+use Rattle.nk_auto.proofs.going_on.+continued.Given as goal
+
+-- the parts from the place on have their diagrams
+abbrev pub invariant-continued_any-loop-i : goal.invariant-continued_any-loop-i
+invariant-continued_any-loop-i l = record {
+  grows : Grows l.fn.st l.st;
+  within : l.i ≤ length l.ps;
+  made : AreOf (IsOnward l.next) l.st l.ids (trees_of (drop l.i l.ps));
+}
+
+abbrev pub decreases-continued_any-loop-i : goal.decreases-continued_any-loop-i
+decreases-continued_any-loop-i l = l.i
+
+-- the parts from the place on are one diagram
+abbrev pub invariant-continued_all-loop-i : goal.invariant-continued_all-loop-i
+invariant-continued_all-loop-i l = record {
+  grows : Grows l.fn.st l.st;
+  within : l.i ≤ length l.ps;
+  rest : IsContinued l.st l.rest (seq_of (trees_of (drop l.i l.ps))) l.fn.next;
+}
+
+abbrev pub decreases-continued_all-loop-i : goal.decreases-continued_all-loop-i
+decreases-continued_all-loop-i l = l.i

@@ -1,0 +1,72 @@
+use Rattle.std.proofs.Common.{◌≡◌, arith, sym, subst, drop}
+use Rattle.std.proofs.lemmas.Result.{IfOk-weaker}
+use Rattle.nk_policy.specs.Policy.{sum_of, seq_of, star_of}
+use Rattle.nk_policy.specs.Tree.{tree_of, trees_of}
+use Rattle.nk_store.specs.Held.{IsId}
+use Rattle.nk_store.proofs.Stores.{grows_on}
+use Rattle.nk_auto.specs.Continued.{IsContinued, AreWritten}
+use Rattle.nk_auto.proofs.Parts.{trees_before}
+use Rattle.nk_auto.proofs.Going.{continued_grow, cons_continued}
+use Rattle.nk_auto.proofs.Writing.{seq_written, sum_written, star_written, not_written, written_grow}
+use Rattle.nk_auto.proofs.Sums.{AreOf, IsOnward, one_more_of, ids_of, sum_continued}
+use Rattle.nk_auto.proofs.rows.+with_rows.Goals as goal
+
+pub any_with_rows-loop-i-preserved : goal.any_with_rows-loop-i-preserved
+any_with_rows-loop-i-preserved t c =
+    let here = sym (trees_before c.args.ps.now c.loop-i.i c.index-ps-i.result c.loop-i-test.true c.loop-i.invariant.within c.index-ps-i.is) in
+    record {
+      grows = grows_on _ _ _ c.loop-i.invariant.grows c.continued_with_rows.ensures.grows;
+      within = omega (arith, c.loop-i.invariant.within);
+      made = subst (AreOf (IsOnward c.args.next) c.continued_with_rows.new.st c.push.new.self) here
+          (one_more_of (IsOnward c.args.next) (λ old new d p g h. continued_grow old new d p c.args.next g h) c.loop-i.st c.continued_with_rows.new.st c.loop-i.ids c.push.new.self (trees_of (drop c.loop-i.i c.args.ps.now)) c.in_ok-d.d (tree_of c.index-ps-i.result) c.continued_with_rows.ensures.grows c.in_ok-push.ensures.ok c.loop-i.invariant.made c.in_ok-d.ensures.ok);
+      written = subst (λ ps. AreWritten c.continued_with_rows.new.st c.args.rows.now c.continued_with_rows.new.rows c.args.base (sum_of ps) c.args.next) here
+          (sum_written c.loop-i.st c.continued_with_rows.new.st c.args.rows.now c.loop-i.rows c.continued_with_rows.new.rows c.args.base c.args.next (tree_of c.index-ps-i.result) (trees_of (drop c.loop-i.i c.args.ps.now)) c.continued_with_rows.ensures.grows c.loop-i.invariant.written c.in_ok-d.ensures.written);
+    }
+
+pub any_with_rows-union_all-requires : goal.any_with_rows-union_all-requires
+any_with_rows-union_all-requires t c =
+    ids_of (IsOnward c.args.next) (λ st d p h. h.id) c.loop-i.st c.loop-i.ids c.as_slice.result.now (trees_of (drop c.loop-i.i c.args.ps.now)) c.as_slice.ensures c.loop-i.invariant.made
+
+pub any_with_rows-returns-clause-ok : goal.any_with_rows-returns-clause-ok
+any_with_rows-returns-clause-ok t c =
+    let zero_is : c.loop-i.i ≡ 0 = omega (arith, c.loop-i-test.false) in
+    let made : AreOf (IsOnward c.args.next) c.loop-i.st c.loop-i.ids (trees_of c.args.ps.now) = subst (λ n. AreOf (IsOnward c.args.next) c.loop-i.st c.loop-i.ids (trees_of (drop n c.args.ps.now))) zero_is c.loop-i.invariant.made in
+    let next_id : IsId c.loop-i.st c.args.next = c.loop-i.invariant.grows.ids c.args.next c.requires in
+    IfOk-weaker c.union_all.result _ _
+    (λ r united. sum_continued c.loop-i.st c.union_all.new.st c.loop-i.ids c.as_slice.result.now (trees_of c.args.ps.now) c.args.next r c.as_slice.ensures c.union_all.ensures.grows next_id made united)
+    c.union_all.ensures.ok
+
+pub all_with_rows-loop-i-preserved : goal.all_with_rows-loop-i-preserved
+all_with_rows-loop-i-preserved t c =
+    let here = sym (trees_before c.args.ps.now c.loop-i.i c.index-ps-i.result c.loop-i-test.true c.loop-i.invariant.within c.index-ps-i.is) in
+    let behind = continued_grow c.loop-i.st c.continued_with_rows.new.st c.loop-i.rest (seq_of (trees_of (drop c.loop-i.i c.args.ps.now))) c.args.next c.continued_with_rows.ensures.grows c.loop-i.invariant.rest in
+    record {
+      grows = grows_on _ _ _ c.loop-i.invariant.grows c.continued_with_rows.ensures.grows;
+      within = omega (arith, c.loop-i.invariant.within);
+      rest = subst (λ ps. IsContinued c.continued_with_rows.new.st c.in_ok-rest.rest (seq_of ps) c.args.next) here
+          (cons_continued c.continued_with_rows.new.st c.in_ok-rest.rest c.loop-i.rest c.args.next (tree_of c.index-ps-i.result) (trees_of (drop c.loop-i.i c.args.ps.now)) c.in_ok-rest.ensures.ok behind);
+      written = subst (λ ps. AreWritten c.continued_with_rows.new.st c.args.rows.now c.continued_with_rows.new.rows c.args.base (seq_of ps) c.args.next) here
+          (seq_written c.loop-i.st c.continued_with_rows.new.st c.args.rows.now c.loop-i.rows c.continued_with_rows.new.rows c.args.base c.loop-i.rest c.args.next (tree_of c.index-ps-i.result) (trees_of (drop c.loop-i.i c.args.ps.now)) c.continued_with_rows.ensures.grows c.loop-i.invariant.written c.loop-i.invariant.rest c.in_ok-rest.ensures.written);
+    }
+
+pub any_with_rows-returns-clause-written : goal.any_with_rows-returns-clause-written
+any_with_rows-returns-clause-written t c =
+    let zero_is : c.loop-i.i ≡ 0 = omega (arith, c.loop-i-test.false) in
+    let written : AreWritten c.loop-i.st c.args.rows.now c.loop-i.rows c.args.base (sum_of (trees_of c.args.ps.now)) c.args.next =
+    subst (λ n. AreWritten c.loop-i.st c.args.rows.now c.loop-i.rows c.args.base (sum_of (trees_of (drop n c.args.ps.now))) c.args.next) zero_is c.loop-i.invariant.written in
+    IfOk-weaker c.union_all.result _ _ (λ r h. written_grow c.loop-i.st c.union_all.new.st c.args.rows.now c.loop-i.rows c.args.base (sum_of (trees_of c.args.ps.now)) c.args.next c.union_all.ensures.grows written) c.union_all.ensures.ok
+
+pub star_with_rows-returns-clause-ok : goal.star_with_rows-returns-clause-ok
+star_with_rows-returns-clause-ok t c =
+    continued_grow c.continued_star.new.st c.continued_with_rows.new.st c.in_ok-again.again (star_of (tree_of c.args.q.now)) c.args.next c.continued_with_rows.ensures.grows c.in_ok-again.ensures.ok
+
+pub star_with_rows-returns-clause-written : goal.star_with_rows-returns-clause-written
+star_with_rows-returns-clause-written t c =
+    star_written c.continued_with_rows.new.st c.args.rows.now c.continued_with_rows.new.rows c.args.base c.in_ok-again.again c.args.next (tree_of c.args.q.now) c.in_ok-_first.ensures.written
+    (continued_grow c.continued_star.new.st c.continued_with_rows.new.st c.in_ok-again.again (star_of (tree_of c.args.q.now)) c.args.next c.continued_with_rows.ensures.grows c.in_ok-again.ensures.ok)
+
+pub continued_with_rows-returns-in-Not-clause-written : goal.continued_with_rows-returns-in-Not-clause-written
+continued_with_rows-returns-in-Not-clause-written t c =
+    IfOk-weaker c.after_not.result _ _
+    (λ r h. subst (λ p. AreWritten c.after_not.new.st c.args.rows.now c.args.rows.now c.args.base (tree_of p) c.args.next) (sym c.in-Not.is) (not_written c.after_not.new.st c.args.rows.now c.args.base (tree_of c.in-Not.q.value) c.args.next))
+    c.after_not.ensures.ok

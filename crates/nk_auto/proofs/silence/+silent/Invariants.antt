@@ -1,0 +1,29 @@
+use Rattle.std.proofs.Common.{◌≤◌, length, drop}
+use Rattle.nk_policy.specs.Policy.{seq_of}
+use Rattle.nk_policy.specs.Tree.{trees_of}
+use Rattle.nk_store.specs.Held.{Grows}
+use Rattle.nk_auto.specs.Continued.{IsSilent}
+use Rattle.nk_auto.proofs.Sums.{AreOf}
+use Rattle.nk_auto.proofs.silence.+silent.Given as goal
+
+-- the parts from the place on have their diagrams
+abbrev pub invariant-silent_any-loop-i : goal.invariant-silent_any-loop-i
+invariant-silent_any-loop-i l = record {
+  grows : Grows l.fn.st l.st;
+  within : l.i ≤ length l.ps;
+  made : AreOf IsSilent l.st l.ids (trees_of (drop l.i l.ps));
+}
+
+abbrev pub decreases-silent_any-loop-i : goal.decreases-silent_any-loop-i
+decreases-silent_any-loop-i l = l.i
+
+-- the parts from the place on are one diagram
+abbrev pub invariant-silent_all-loop-i : goal.invariant-silent_all-loop-i
+invariant-silent_all-loop-i l = record {
+  grows : Grows l.fn.st l.st;
+  within : l.i ≤ length l.ps;
+  rest : IsSilent l.st l.rest (seq_of (trees_of (drop l.i l.ps)));
+}
+
+abbrev pub decreases-silent_all-loop-i : goal.decreases-silent_all-loop-i
+decreases-silent_all-loop-i l = l.i

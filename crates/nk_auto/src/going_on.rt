@@ -1,0 +1,162 @@
+//! What a policy does up to its first record, continued by a diagram.
+ghost use Rattle.std.specs.Prelude.{◌≡◌, ℕ, ◌+◌, ◌∷◌, [], IfOk};
+ghost use Rattle.nk_policy.specs.Policy.{test, assign, sum_of, seq_of, not_of, star_of, link, dup, part, no_part};
+ghost use Rattle.nk_policy.specs.Tree.{tree_of, trees_of};
+ghost use Rattle.nk_store.specs.Held.{IsId, Grows, HasLeaves};
+ghost use Rattle.nk_auto.specs.Continued.{IsContinued};
+
+use crate::silence::{silent_not, silent_set, silent_star, silent_test};
+use nk_algebra::{aim, empty, identity, seq, union, union_all};
+use nk_field::{Fid, List};
+use nk_policy::Pol;
+use nk_store::{Id, Store};
+use std::alloc::AllocError;
+
+/// The diagram of a policy up to its first record, continued by a diagram: where the policy ends without a record the
+/// diagram says what comes next, and where it records at its dup l the packet is sent to target l. The only error is
+/// that memory ran out.
+#[cycle(continued)]
+#[tactic(auto, using(nk_policy::proofs::Trees::tree_of_sum, nk_policy::proofs::Trees::tree_of_seq))]
+pub fn continued(st: &mut Store, p: &Pol, next: Id) -> Result<Id, AllocError>
+    requires { IsId st.old next }
+    ensures grows { Grows st.old st.new }
+    ensures ok { IfOk result (λ d. IsContinued st.new d (tree_of p.now) next) }
+{
+    match p {
+        Pol::Test(f, n) => after_test(st, *f, *n, next),
+        Pol::Set(f, n) => after_set(st, *f, *n, next),
+        Pol::Sum(ps) => continued_any(st, ps.as_slice(), next),
+        Pol::Seq(ps) => continued_all(st, ps.as_slice(), next),
+        Pol::Not(q) => after_not(st, q, next),
+        Pol::Star(q) => continued_star(st, q, next),
+        Pol::Dup(l) => before_dup(st, *l, next),
+        Pol::Link(a, m, _, _, l) => link_start(st, *a, *m, *l),
+    }
+}
+
+/// A test, continued by a diagram.
+pub fn after_test(st: &mut Store, f: Fid, n: u64, next: Id) -> Result<Id, AllocError>
+    requires { IsId st.old next }
+    ensures grows { Grows st.old st.new }
+    ensures ok { IfOk result (λ d. IsContinued st.new d (test f n) next) }
+{
+    let d = silent_test(st, f, n)?;
+    let r = seq(st, d, next)?;
+    st.laws();
+    Ok(r)
+}
+
+/// An assignment, continued by a diagram.
+pub fn after_set(st: &mut Store, f: Fid, n: u64, next: Id) -> Result<Id, AllocError>
+    requires { IsId st.old next }
+    ensures grows { Grows st.old st.new }
+    ensures ok { IfOk result (λ d. IsContinued st.new d (assign f n) next) }
+{
+    let d = silent_set(st, f, n)?;
+    let r = seq(st, d, next)?;
+    st.laws();
+    Ok(r)
+}
+
+/// A complement, continued by a diagram.
+pub fn after_not(st: &mut Store, q: &Pol, next: Id) -> Result<Id, AllocError>
+    requires { IsId st.old next }
+    ensures grows { Grows st.old st.new }
+    ensures ok { IfOk result (λ d. IsContinued st.new d (not_of (tree_of q.now)) next) }
+{
+    let d = silent_not(st, q)?;
+    let r = seq(st, d, next)?;
+    st.laws();
+    Ok(r)
+}
+
+/// A dup, continued by a diagram, to which it doesn't come before it records.
+pub fn before_dup(st: &mut Store, l: u32, next: Id) -> Result<Id, AllocError>
+    requires { IsId st.old next }
+    ensures grows { Grows st.old st.new }
+    ensures ok { IfOk result (λ d. IsContinued st.new d (dup l) next) }
+{
+    let d = recorded(st, u64::from(l))?;
+    Ok(d)
+}
+
+/// The packet itself, to a target.
+fn recorded(st: &mut Store, l: u64) -> Result<Id, AllocError>
+    ensures grows { Grows st.old st.new }
+    ensures ok { IfOk result (λ d. HasLeaves st.new d (λ pk. record { act = []; target = l } ∷ [])) }
+{
+    let d = identity(st)?;
+    aim(st, d, l)
+}
+
+/// A sum, each part continued by the diagram.
+#[cycle(continued)]
+fn continued_any(st: &mut Store, ps: &[Pol], next: Id) -> Result<Id, AllocError>
+    requires { IsId st.old next }
+    ensures grows { Grows st.old st.new }
+    ensures ok { IfOk result (λ d. IsContinued st.new d (sum_of (trees_of ps.now)) next) }
+{
+    let mut ids = List::new(st.alloc());
+    let mut i = ps.len();
+    while i > 0 {
+        i -= 1;
+        let d = continued(st, &ps[i], next)?;
+        ids.push(d)?;
+    }
+    union_all(st, ids.as_slice())
+}
+
+/// A sequence, each part continued by the parts behind it.
+#[cycle(continued)]
+fn continued_all(st: &mut Store, ps: &[Pol], next: Id) -> Result<Id, AllocError>
+    requires { IsId st.old next }
+    ensures grows { Grows st.old st.new }
+    ensures ok { IfOk result (λ d. IsContinued st.new d (seq_of (trees_of ps.now)) next) }
+{
+    let mut rest = next;
+    let mut i = ps.len();
+    while i > 0 {
+        i -= 1;
+        rest = continued(st, &ps[i], rest)?;
+    }
+    Ok(rest)
+}
+
+/// A star: rounds without a record, then the diagram or a round that records.
+#[cycle(continued)]
+pub fn continued_star(st: &mut Store, q: &Pol, next: Id) -> Result<Id, AllocError>
+    requires { IsId st.old next }
+    ensures grows { Grows st.old st.new }
+    ensures ok { IfOk result (λ d. IsContinued st.new d (star_of (tree_of q.now)) next) }
+{
+    let nothing = empty(st)?;
+    let records = continued(st, q, nothing)?;
+    let rounds = silent_star(st, q)?;
+    let onward = union(st, next, records)?;
+    let d = seq(st, rounds, onward)?;
+    st.laws();
+    Ok(d)
+}
+
+/// A link literal up to its first record: its two tests, and then the record.
+pub fn link_start(st: &mut Store, a: u16, m: u16, l: u32) -> Result<Id, AllocError>
+    ensures grows { Grows st.old st.new }
+    ensures ok { IfOk result (λ d. (b n next : ℕ) → IsId st.old next → IsContinued st.new d (link a m b n l) next) }
+{
+    let at_dup = recorded(st, u64::from(l))?;
+    let at_port = after_test(st, Fid::PORT, u64::from(m), at_dup)?;
+    let d = after_test(st, Fid::SWITCH, u64::from(a), at_port)?;
+    Ok(d)
+}
+
+/// What is left of a link literal after its first dup: the two assignments, and then the second record.
+pub fn link_rest(st: &mut Store, b: u16, n: u16, l: u32) -> Result<Id, AllocError>
+    ensures grows { Grows st.old st.new }
+    ensures ok { IfOk result (λ d. (next : ℕ) → IsId st.old next →
+        IsContinued st.new d (seq_of (part (assign 0 b) (part (assign 1 n) (part (dup (l + 1)) no_part)))) next) }
+{
+    let at_dup = recorded(st, u64::from(l) + 1)?;
+    let at_port = after_set(st, Fid::PORT, u64::from(n), at_dup)?;
+    let d = after_set(st, Fid::SWITCH, u64::from(b), at_port)?;
+    Ok(d)
+}

@@ -1,0 +1,113 @@
+//! What a policy does without a record.
+ghost use Rattle.std.specs.Prelude.{◌≡◌, ℕ, ◌∷◌, [], IfOk};
+ghost use Rattle.nk_policy.specs.Policy.{test, assign, sum_of, seq_of, not_of, star_of, dup, link};
+ghost use Rattle.nk_policy.specs.Tree.{tree_of, trees_of};
+ghost use Rattle.nk_store.specs.Held.{Grows};
+ghost use Rattle.nk_auto.specs.Continued.{IsSilent};
+
+use crate::making::{set_where, test_where};
+use nk_algebra::{empty, identity, negate, seq, union_all};
+use nk_field::{Fid, List};
+use nk_policy::Pol;
+use nk_star::star;
+use nk_store::{Id, Store};
+use std::alloc::AllocError;
+
+/// The diagram of a policy's runs without a record, to target 0. The only error is that memory ran out.
+#[cycle(silent)]
+#[tactic(auto, using(nk_policy::proofs::Trees::tree_of_sum, nk_policy::proofs::Trees::tree_of_seq))]
+pub fn silent(st: &mut Store, p: &Pol) -> Result<Id, AllocError>
+    ensures grows { Grows st.old st.new }
+    ensures ok { IfOk result (λ d. IsSilent st.new d (tree_of p.now)) }
+{
+    match p {
+        Pol::Test(f, n) => silent_test(st, *f, *n),
+        Pol::Set(f, n) => silent_set(st, *f, *n),
+        Pol::Sum(ps) => silent_any(st, ps.as_slice()),
+        Pol::Seq(ps) => silent_all(st, ps.as_slice()),
+        Pol::Not(q) => silent_not(st, q),
+        Pol::Star(q) => silent_star(st, q),
+        Pol::Dup(_) => never_silent(st),
+        Pol::Link(_, _, _, _, _) => never_silent(st),
+    }
+}
+
+/// The diagram of a complement.
+#[cycle(silent)]
+pub fn silent_not(st: &mut Store, q: &Pol) -> Result<Id, AllocError>
+    ensures grows { Grows st.old st.new }
+    ensures ok { IfOk result (λ d. IsSilent st.new d (not_of (tree_of q.now))) }
+{
+    let d = silent(st, q)?;
+    negate(st, d)
+}
+
+/// The diagram of a star.
+#[cycle(silent)]
+pub fn silent_star(st: &mut Store, q: &Pol) -> Result<Id, AllocError>
+    ensures grows { Grows st.old st.new }
+    ensures ok { IfOk result (λ d. IsSilent st.new d (star_of (tree_of q.now))) }
+{
+    let d = silent(st, q)?;
+    let r = star(st, d)?;
+    Ok(r)
+}
+
+/// The diagram of a dup or of a link literal, which record on each run.
+fn never_silent(st: &mut Store) -> Result<Id, AllocError>
+    ensures grows { Grows st.old st.new }
+    ensures dup { IfOk result (λ d. (l : ℕ) → IsSilent st.new d (dup l)) }
+    ensures link { IfOk result (λ d. (a m b n l : ℕ) → IsSilent st.new d (link a m b n l)) }
+{
+    let d = empty(st)?;
+    Ok(d)
+}
+
+/// The diagram of a test.
+pub fn silent_test(st: &mut Store, f: Fid, n: u64) -> Result<Id, AllocError>
+    ensures grows { Grows st.old st.new }
+    ensures ok { IfOk result (λ d. IsSilent st.new d (test f n)) }
+{
+    test_where(st, f, n)
+}
+
+/// The diagram of an assignment.
+pub fn silent_set(st: &mut Store, f: Fid, n: u64) -> Result<Id, AllocError>
+    ensures grows { Grows st.old st.new }
+    ensures ok { IfOk result (λ d. IsSilent st.new d (assign f n)) }
+{
+    set_where(st, f, n)
+}
+
+/// Those of a sum's parts together.
+#[cycle(silent)]
+fn silent_any(st: &mut Store, ps: &[Pol]) -> Result<Id, AllocError>
+    ensures grows { Grows st.old st.new }
+    ensures ok { IfOk result (λ d. IsSilent st.new d (sum_of (trees_of ps.now))) }
+{
+    let mut ids = List::new(st.alloc());
+    let mut i = ps.len();
+    while i > 0 {
+        i -= 1;
+        let d = silent(st, &ps[i])?;
+        ids.push(d)?;
+    }
+    union_all(st, ids.as_slice())
+}
+
+/// Those of a sequence's parts, built from the last part to the first.
+#[cycle(silent)]
+fn silent_all(st: &mut Store, ps: &[Pol]) -> Result<Id, AllocError>
+    ensures grows { Grows st.old st.new }
+    ensures ok { IfOk result (λ d. IsSilent st.new d (seq_of (trees_of ps.now))) }
+{
+    let mut rest = identity(st)?;
+    let mut i = ps.len();
+    while i > 0 {
+        i -= 1;
+        let d = silent(st, &ps[i])?;
+        rest = seq(st, d, rest)?;
+        st.laws();
+    }
+    Ok(rest)
+}

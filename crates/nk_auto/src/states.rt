@@ -1,0 +1,43 @@
+//! The automaton of a policy.
+ghost use Rattle.std.specs.Prelude.{◌≡◌, ℕ, ◌+◌, ◌≤◌, ◌^◌, IfOk, length};
+ghost use Rattle.nk_policy.specs.Policy.{marked_from, dups_of};
+ghost use Rattle.nk_policy.specs.Tree.{tree_of};
+ghost use Rattle.nk_store.specs.Held.{Grows};
+ghost use Rattle.nk_auto.specs.Continued.{IsFit};
+ghost use Rattle.nk_auto.specs.Automaton.{IsAutomaton};
+
+use crate::rows::continued_with_rows;
+use nk_algebra::identity;
+use nk_field::List;
+use nk_policy::{Pol, dups};
+use nk_store::{Id, Store};
+use std::alloc::{AllocError, Global};
+
+/// The automaton of a policy whose dups are numbered from `first` on in text order: the start's diagram, then one for
+/// each dup, ascending. A diagram sends to target 0 the packets at which the policy ends without a record, and to
+/// target l those that it records next, at its dup l. The only error is that memory ran out.
+pub fn automaton(st: &mut Store, p: &Pol, first: u32) -> Result<List<Id>, AllocError>
+    requires from { 1 ≤ first }
+    requires numbered { marked_from (tree_of p.now) first ≡ tree_of p.now }
+    requires few { first + dups_of (tree_of p.now) ≤ 2 ^ 32 }
+    ensures grows { Grows st.old st.new }
+    ensures ok { IfOk result (λ rows. IsFit st.old.maxes (tree_of p.now) → IsAutomaton st.new rows first (tree_of p.now)) }
+{
+    let count = dups(p) as usize;
+    let end = identity(st)?;
+    let mut rows = repeated(st.alloc(), end, count + 1)?;
+    let start = continued_with_rows(st, p, end, first - 1, &mut rows)?;
+    rows.put(0, start);
+    Ok(rows)
+}
+
+/// A list of so many times the diagram.
+fn repeated(alloc: Global, d: Id, count: usize) -> Result<List<Id>, AllocError>
+    ensures { IfOk result (λ rows. length rows ≡ count) }
+{
+    let mut rows = List::new(alloc);
+    for i in 0..count {
+        rows.push(d)?;
+    }
+    Ok(rows)
+}

@@ -1,0 +1,7 @@
+pub mod Silent
+pub mod Steps
+pub mod Rows
+pub mod InTurn
+pub mod Collected
+pub mod Rests
+pub mod Loops

@@ -1,0 +1,8 @@
+use Rattle.std.proofs.Common.{take}
+use Rattle.nk_policy.specs.Tree.{tree_of}
+use Rattle.nk_deriv.specs.Turns.{ArePutBehind}
+use Rattle.nk_deriv.proofs.turns.put_behind.Given as goal
+
+-- the rows so far are put behind
+abbrev pub invariant-loop-row : goal.invariant-loop-row
+invariant-loop-row l = ArePutBehind l.fn.out l.out (tree_of l.free) (take l.row-index l.rows)

@@ -1,0 +1,73 @@
+-- A policy, or what is left of it after a dup, as it is seen up to its first record (Foster et al., POPL 2015: the
+-- observation of a policy and its derivatives): where it ends without a record, and what it records first.
+use Rattle.std.specs.Prelude.{◌≡◌, ℕ, ◌⊎◌, ◌↔◌, true, List, [], ◌∷◌, All}
+use Rattle.nk_field.specs.declared.packet.Packet.{Packet}
+use Rattle.nk_field.specs.Packet.{FieldTable}
+use Rattle.nk_policy.specs.declared.policy.Pol.{Pol}
+use Rattle.nk_policy.specs.Policy.{Policy, Policies, test, assign, sum_of, seq_of, not_of, star_of, dup, link, no_part, part, is_predicate}
+use Rattle.nk_policy.specs.Tree.{tree_of}
+use Rattle.nk_policy.specs.Meaning.{Gives}
+use Rattle.nk_policy.specs.Progress.{RecordsAt}
+use Rattle.nk_policy.specs.After.{has_dup}
+use Rattle.nk_policy.specs.Ranges.{IsOver}
+use Rattle.nk_deriv.specs.declared.values.Part.{Part}
+
+-- each complement is of a predicate
+abbrev mutual
+  pub NegatesPredicates : Policy → Type 0
+  NegatesPredicates (test f n) = Unit {0}
+  NegatesPredicates (assign f n) = Unit {0}
+  NegatesPredicates (sum_of ps) = AllNegatePredicates ps
+  NegatesPredicates (seq_of ps) = AllNegatePredicates ps
+  NegatesPredicates (not_of p) = (is_predicate p ≡ true) × NegatesPredicates p
+  NegatesPredicates (star_of p) = NegatesPredicates p
+  NegatesPredicates (dup l) = Unit {0}
+  NegatesPredicates (link a m b n l) = Unit {0}
+
+  -- the same of each part
+  pub AllNegatePredicates : Policies → Type 0
+  AllNegatePredicates no_part = Unit {0}
+  AllNegatePredicates (part p ps) = NegatesPredicates p × AllNegatePredicates ps
+
+-- no dup and no link literal, and each complement is of a predicate
+abbrev mutual
+  pub IsDupFree : Policy → Type 0
+  IsDupFree (test f n) = Unit {0}
+  IsDupFree (assign f n) = Unit {0}
+  IsDupFree (sum_of ps) = AllDupFree ps
+  IsDupFree (seq_of ps) = AllDupFree ps
+  IsDupFree (not_of p) = (is_predicate p ≡ true) × IsDupFree p
+  IsDupFree (star_of p) = IsDupFree p
+  IsDupFree (dup l) = ⊥
+  IsDupFree (link a m b n l) = ⊥
+
+  -- the same of each part
+  pub AllDupFree : Policies → Type 0
+  AllDupFree no_part = Unit {0}
+  AllDupFree (part p ps) = IsDupFree p × AllDupFree ps
+
+-- q is dup-free, and over all fields that p is over
+pub record IsMadeOf (p q : Policy) : Type 0 where
+  pub dup_free : IsDupFree q
+  pub over : (fields : FieldTable) → IsOver fields p → IsOver fields q
+
+-- the policy of the row is made of p, and its label is one of p's dups
+abbrev pub IsRowOf : Policy → Pol × ℕ → Type 0
+IsRowOf p row = IsMadeOf p (tree_of row.0) × (has_dup p row.1 ≡ true)
+
+-- all that a part has is made of p
+pub record IsWithin (p : Policy) (part : Part) : Type 0 where
+  pub free : IsMadeOf p (tree_of part.free)
+  pub rows : All (IsRowOf p) part.rows
+
+-- some row of label l ends at y
+abbrev pub RowsGive : List (Pol × ℕ) → Packet → Packet → ℕ → Type 0
+RowsGive [] pk y l = ⊥
+RowsGive (row ∷ rows) pk y l = ((row.1 ≡ l) × Gives (tree_of row.0) pk [] y) ⊎ RowsGive rows pk y l
+
+-- The part is that of the state s: the policy s ends at x without a record exactly where the part's free policy does,
+-- and it records next, first of all, y at its dup l exactly where some row of label l ends at y.
+pub record IsPart (part : Part) (s : Policy) : Type 0 where
+  pub ends : (pk x : Packet) → Gives (tree_of part.free) pk [] x ↔ Gives s pk [] x
+  pub records : (pk y : Packet) (l : ℕ) → RowsGive part.rows pk y l ↔ RecordsAt s pk [] y l
+  pub within : IsWithin s part

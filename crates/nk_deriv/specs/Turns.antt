@@ -1,0 +1,104 @@
+-- Policies and parts one after the other: what a state does, and then what comes next.
+use Rattle.std.specs.Prelude.{◌≡◌, ℕ, ◌⊎◌, ◌↔◌, Bool, true, false, List, [], ◌∷◌, ◌++◌, map, All}
+use Rattle.nk_field.specs.declared.packet.Packet.{Packet}
+use Rattle.nk_field.specs.Packet.{FieldTable}
+use Rattle.nk_policy.specs.declared.policy.Pol.{Pol}
+use Rattle.nk_policy.specs.Policy.{Policy, Policies, sum_of, seq_of, star_of, no_part, part}
+use Rattle.nk_policy.specs.Tree.{tree_of}
+use Rattle.nk_policy.specs.Meaning.{Gives}
+use Rattle.nk_policy.specs.Progress.{RecordsAt}
+use Rattle.nk_policy.specs.After.{has_dup}
+use Rattle.nk_policy.specs.Ranges.{IsOver}
+use Rattle.nk_deriv.specs.declared.values.Part.{Part}
+use Rattle.nk_deriv.specs.Part.{IsMadeOf, IsRowOf, IsWithin, RowsGive, IsPart}
+
+-- the policy that drops each packet, written as the empty sum
+abbrev pub is_drop : Policy → Bool
+is_drop (sum_of no_part) = true
+is_drop _ = false
+
+-- the parts of a sequence, and any other policy as the one part of one
+abbrev pub steps_of : Policy → Policies
+steps_of (seq_of ps) = ps
+steps_of p = part p no_part
+
+-- the fields and the dups of s are p's
+pub record IsIn (p s : Policy) : Type 0 where
+  pub over : (fields : FieldTable) → IsOver fields p → IsOver fields s
+  pub dups : (l : ℕ) → has_dup s l ≡ true → has_dup p l ≡ true
+
+-- without a record, r does what p and then q does
+pub record IsTurn (r p q : Policy) : Type 0 where
+  pub ends : (pk x : Packet) → Gives r pk [] x ↔ ((z : Packet) × Gives p pk [] z × Gives q z [] x)
+  pub within : (s : Policy) → IsMadeOf s p → IsMadeOf s q → IsMadeOf s r
+
+-- without a record, r does what any number of rounds of p does
+pub record IsRounds (r p : Policy) : Type 0 where
+  pub ends : (pk x : Packet) → Gives r pk [] x ↔ Gives (star_of p) pk [] x
+  pub within : (s : Policy) → IsMadeOf s p → IsMadeOf s r
+
+-- without a record, r does what p does, and what q does
+pub record IsEither (r p q : Policy) : Type 0 where
+  pub ends : (pk x : Packet) → Gives r pk [] x ↔ (Gives p pk [] x ⊎ Gives q pk [] x)
+  pub within : (s : Policy) → IsMadeOf s p → IsMadeOf s q → IsMadeOf s r
+
+-- the rows record what the rows before do, and what a free policy and then the rows behind it do
+pub record ArePutBehind (old new : List (Pol × ℕ)) (free : Policy) (rows : List (Pol × ℕ)) : Type 0 where
+  pub records : (pk y : Packet) (l : ℕ)
+      → RowsGive new pk y l ↔ (RowsGive old pk y l ⊎ ((z : Packet) × Gives free pk [] z × RowsGive rows z y l))
+  pub within : (s : Policy) → All (IsRowOf s) old → IsMadeOf s free → All (IsRowOf s) rows → All (IsRowOf s) new
+
+-- from pk, the states of these parts in turn end at x without a record
+abbrev pub AllEnd : List Part → Packet → Packet → Type 0
+AllEnd [] pk x = x ≡ pk
+AllEnd (s ∷ states) pk x = (z : Packet) × Gives (tree_of s.free) pk [] z × AllEnd states z x
+
+-- they record first y at l
+abbrev pub AllRecord : List Part → Packet → Packet → ℕ → Type 0
+AllRecord [] pk y l = ⊥
+AllRecord (s ∷ states) pk y l =
+    RowsGive s.rows pk y l ⊎ ((z : Packet) × Gives (tree_of s.free) pk [] z × AllRecord states z y l)
+
+-- the free policy is that of the states in turn, and their rows are put behind those before
+pub record AreInTurn (old new : List (Pol × ℕ)) (free : Policy) (states : List Part) : Type 0 where
+  pub ends : (pk x : Packet) → Gives free pk [] x ↔ AllEnd states pk x
+  pub records : (pk y : Packet) (l : ℕ) → RowsGive new pk y l ↔ (RowsGive old pk y l ⊎ AllRecord states pk y l)
+  pub within : (s : Policy) → All (IsRowOf s) old → All (IsWithin s) states
+      → IsMadeOf s free × All (IsRowOf s) new
+
+-- the free policy is that of the state p, and its rows are put behind those before
+pub record IsCollected (old new : List (Pol × ℕ)) (free p : Policy) : Type 0 where
+  pub ends : (pk x : Packet) → Gives free pk [] x ↔ Gives p pk [] x
+  pub records : (pk y : Packet) (l : ℕ) → RowsGive new pk y l ↔ (RowsGive old pk y l ⊎ RecordsAt p pk [] y l)
+  pub within : (s : Policy) → IsIn s p → All (IsRowOf s) old → IsMadeOf s free × All (IsRowOf s) new
+
+-- the parts are those of the policies, one by one
+abbrev pub ArePartsOf : List Part → Policies → Type 0
+ArePartsOf [] no_part = Unit {0}
+ArePartsOf [] (part p ps) = ⊥
+ArePartsOf (s ∷ states) no_part = ⊥
+ArePartsOf (s ∷ states) (part p ps) = IsPart s p × ArePartsOf states ps
+
+-- the part is that of the states in turn, and then of the next one
+pub record IsContinued (r : Part) (states : List Part) (next : Part) : Type 0 where
+  pub ends : (pk x : Packet)
+      → Gives (tree_of r.free) pk [] x ↔ ((z : Packet) × AllEnd states pk z × Gives (tree_of next.free) z [] x)
+  pub records : (pk y : Packet) (l : ℕ)
+      → RowsGive r.rows pk y l ↔ (AllRecord states pk y l ⊎ ((z : Packet) × AllEnd states pk z × RowsGive next.rows z y l))
+  pub within : (s : Policy) → All (IsWithin s) states → IsWithin s next → IsWithin s r
+
+-- the part is that of the state s, and then of the next one
+pub record IsFollowed (r : Part) (s : Policy) (next : Part) : Type 0 where
+  pub ends : (pk x : Packet)
+      → Gives (tree_of r.free) pk [] x ↔ ((z : Packet) × Gives s pk [] z × Gives (tree_of next.free) z [] x)
+  pub records : (pk y : Packet) (l : ℕ)
+      → RowsGive r.rows pk y l ↔ (RecordsAt s pk [] y l ⊎ ((z : Packet) × Gives s pk [] z × RowsGive next.rows z y l))
+  pub within : (p : Policy) → IsIn p s → IsWithin p next → IsWithin p r
+
+-- behind the entries before stand new ones with these labels, each the part of what is left after its label, and then of
+-- the next one
+pub record AreRests (old new : List (ℕ × Part)) (rest : ℕ → Policy) (labels : List ℕ) (next : Part) : Type 0 where
+  pub added : List (ℕ × Part)
+  pub is : new ≡ old ++ added
+  pub labelled : map (λ e. e.0) added ≡ labels
+  pub follow : All (λ e. IsFollowed e.1 (rest e.0) next) added
