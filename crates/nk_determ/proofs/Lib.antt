@@ -1,3 +1,10 @@
 pub mod Exacts
 pub mod Laws
 pub mod Tables
+pub mod Ascents
+pub mod Runs
+pub mod Interned
+pub mod HaveSets
+pub mod Together
+pub mod Regrouped
+pub mod Followed

@@ -1,2 +1,5 @@
 pub mod Exact
 pub mod Targets
+pub mod Sets
+pub mod Branches
+pub mod States

@@ -1,8 +1,14 @@
-//! Diagrams made deterministic: each act of a leaf assigns exactly the fields that it changes.
+//! Diagrams made deterministic: each act of a leaf assigns exactly the fields that it changes, and a set of labels has
+//! one diagram, which leads from each packet to the set of all labels that record it next.
 #![tactic(auto)]
 
+mod branches;
+mod sets;
 mod splits;
+mod states;
 mod targets;
 
+pub use sets::{SetId, Sets};
 pub use splits::{mean_same, split};
+pub use states::state;
 pub use targets::retarget;

@@ -1,0 +1,132 @@
+-- Diagrams whose leaves have their sets.
+use Rattle.std.proofs.Common.{◌≡◌, ℕ, zero, suc, ◌+◌, ◌<◌, ◌≤◌, Bool, true, false, cond, eqb, leb, List, [], ◌∷◌, length, refl, sym, ◌∙◌, ap, subst, arith, get_or, inl, inr}
+use Rattle.std.specs.List.{list_any}
+use Rattle.std.specs.List.Sorted.{IsStrictlyIncreasing}
+use Rattle.std.proofs.lemmas.List.{get_or_default}
+use Rattle.std.proofs.lemmas.Bool.Decides.{leb_tells, eqb_tells}
+use Rattle.nk_store.specs.declared.node.Out.{Out}
+use Rattle.nk_store.specs.Nodes.{child_at, Each}
+use Rattle.nk_store.specs.Leaves.{Strict}
+use Rattle.nk_store.specs.Held.{Held, IsId, look, IsCase, IsChild}
+use Rattle.nk_store.proofs.Looks.{joined_some}
+use Rattle.nk_algebra.proofs.Members.{Has, has_contains, contains_has}
+use Rattle.nk_determ.specs.declared.branches.Branch.{Branch}
+use Rattle.nk_determ.specs.Branches.{begun, branches, targets_of, labels, labels_of}
+use Rattle.nk_determ.specs.Sets.{SetsGrow, holds, with_set}
+use Rattle.nk_determ.specs.States.{IsThere, HasAll, HasSets, AllHaveSets}
+use Rattle.nk_determ.proofs.Interned.{holds_grow, set_there}
+use Rattle.nk_determ.proofs.Runs.{branch_for, branches_are, target_has, label_has, labels_ascend}
+
+-- labels that are there stay so
+pub there_grow : (old new : List (List ℕ)) (ls : List ℕ) → SetsGrow old new → IsThere old ls → IsThere new ls
+there_grow old new [] g h = tt
+there_grow old new (l ∷ ls) g h = holds_grow old new (l ∷ ls) g h
+
+-- labels that were put in are there
+pub there_now : (sets new : List (List ℕ)) (ls : List ℕ) → new ≡ with_set sets ls → IsThere new ls
+there_now sets new [] e = tt
+there_now sets new (l ∷ ls) e = ap (λ s. holds s (l ∷ ls)) e ∙ set_there sets (l ∷ ls)
+
+-- a leaf that has its sets has them among more sets
+pub all_grow : (old new : List (List ℕ)) (outs : List Out) → SetsGrow old new → HasAll old outs → HasAll new outs
+all_grow old new outs g h a = there_grow old new (labels_of a outs) g (h a)
+
+-- a diagram that has its sets has them among more sets
+pub sets_grow : (old new : List (List ℕ)) (st : Held) (d : ℕ) → SetsGrow old new → HasSets old st d → HasSets new st d
+sets_grow old new st d g h pk = all_grow old new (look st d pk) g (h pk)
+
+-- one more does
+pub one_more : (sets : List (List ℕ)) (st : Held) (old new : List ℕ) (d : ℕ) → AllHaveSets sets st old → HasSets sets st d →
+    ((q : ℕ) → list_any (eqb q) new ≡ cond (eqb d q) true (list_any (eqb q) old)) → AllHaveSets sets st new
+one_more sets st old new d all one put q e =
+    elim (eqb_tells d q) [
+      | inl same ↦ subst (HasSets sets st) same.1 one
+      | inr other ↦ all q (sym (put q ∙ ap (λ b. cond b true (list_any (eqb q) old)) other.0) ∙ e)
+    ]
+
+-- where the labels of each branch are there, the leaf has its sets
+pub leaf_has : (sets : List (List ℕ)) (outs : List Out) → Strict outs → ((c : Branch) → Has (branches outs) c → IsThere sets (labels c.targets)) → HasAll sets outs
+leaf_has sets outs s all g = by (labels_of g outs) refl
+  where
+    by : (ls : List ℕ) → labels_of g outs ≡ ls → IsThere sets (labels_of g outs)
+    by [] e = subst (IsThere sets) (sym e) tt
+    by (l ∷ ls) e =
+        let r = label_has (targets_of g outs) l (subst (λ xs. Has xs l) (sym e) (inl refl)) in
+        let c = branch_for (begun []) outs (record { act = g; target = l }) (target_has g outs l r.1) in
+        subst (λ a. IsThere sets (labels_of a outs)) c.2 (subst (λ ts. IsThere sets (labels ts)) (branches_are outs s c.0 c.1) (all c.0 c.1))
+
+-- the child at a value is one of the parts' children
+child_place : (ps : List (ℕ × ℕ)) (d v : ℕ) → 0 < length ps → (k : ℕ) × (k < length ps) × (child_at d ps v ≡ (get_or ps k (0, 0)).1)
+child_place [] d v l = absurd (omega arith)
+child_place (p ∷ []) d v l = by (leb v p.0)
+  where
+    by : (b : Bool) → (k : ℕ) × (k < length (p ∷ [])) × (cond b p.1 p.1 ≡ (get_or (p ∷ []) k (0, 0)).1)
+    by true = (0, omega arith, refl)
+    by false = (0, omega arith, refl)
+child_place (p ∷ q ∷ ps) d v l = by (leb v p.0) (child_place (q ∷ ps) p.1 v (omega arith))
+  where
+    by : (b : Bool) → ((k : ℕ) × (k < length (q ∷ ps)) × (child_at p.1 (q ∷ ps) v ≡ (get_or (q ∷ ps) k (0, 0)).1)) → (k : ℕ) × (k < length (p ∷ q ∷ ps)) × (cond b p.1 (child_at p.1 (q ∷ ps) v) ≡ (get_or (p ∷ q ∷ ps) k (0, 0)).1)
+    by true r = (0, omega arith, refl)
+    by false r = (suc r.0, omega (arith, r.1), r.2)
+
+-- what holds of each child holds of the one at a place
+each_place : (P : ℕ → Type 0) (ps : List (ℕ × ℕ)) (k : ℕ) (e : ℕ × ℕ) → Each P ps → k < length ps → P (get_or ps k e).1
+each_place P [] k e h l = absurd (omega arith)
+each_place P (p ∷ ps) zero e h l = h.0
+each_place P (p ∷ ps) (suc k) e h l = each_place P ps k e h.1 (omega arith)
+
+-- where each child has its sets, the diagram has them
+case_has : (sets : List (List ℕ)) (st : Held) (d f : ℕ) (ps : List (ℕ × ℕ)) → IsCase st d f ps → 0 < length ps → ((k : ℕ) → k < length ps → HasSets sets st (get_or ps k (0, 0)).1) → HasSets sets st d
+case_has sets st d f ps c some all = λ pk.
+    let at = child_place ps 0 (get_or pk f 0) some in
+    subst (HasAll sets) (sym (c.leaf pk ∙ ap (λ k. look st k pk) at.2)) (all at.0 at.1 pk)
+
+-- one part more
+pub parts_more : (old new : List (List ℕ)) (st : Held) (ps : List (ℕ × ℕ)) (i d : ℕ) → SetsGrow old new → ((k : ℕ) → k < i → HasSets old st (get_or ps k (0, 0)).1) → d ≡ (get_or ps i (0, 0)).1 → HasSets new st d → (k : ℕ) → k < i + 1 → HasSets new st (get_or ps k (0, 0)).1
+parts_more old new st ps i d g done is h k m = elim (leb_tells i k) [
+  | inr before ↦ sets_grow old new st (get_or ps k (0, 0)).1 g (done k before.1)
+  | inl here ↦
+      let same : k ≡ i = omega (arith, here.1, m) in
+      subst (HasSets new st) (is ∙ ap (λ j. (get_or ps j (0, 0)).1) (sym same)) h
+]
+
+-- what is known of one of a node's parts
+pub part_known : (st : Held) (d f : ℕ) (ps items : List (ℕ × ℕ)) (i : ℕ) (p : ℕ × ℕ) → IsCase st d f ps → items ≡ ps → i < length items → p ≡ get_or items i p → (p.1 < d) × IsId st p.1 × (p.1 ≡ (get_or items i (0, 0)).1)
+part_known st d f ps items i p c e l at =
+    let below : Each (λ k. k < d) items = subst (Each (λ k. k < d)) (sym e) c.below in
+    let children : Each (IsChild st f) items = subst (Each (IsChild st f)) (sym e) c.parts_ok.children in
+    let number : (get_or items i p).1 ≡ p.1 = ap (λ (x : ℕ × ℕ). x.1) (sym at) in
+    let child : IsChild st f (get_or items i p).1 = each_place (IsChild st f) items i p children l in (
+      subst (λ k. k < d) number (each_place (λ k. k < d) items i p below l),
+      subst (IsId st) number child.id,
+      ap (λ (x : ℕ × ℕ). x.1) (at ∙ get_or_default items i p (0, 0) l),
+    )
+
+-- where all parts are done, the node is
+pub case_done : (sets : List (List ℕ)) (st : Held) (d f : ℕ) (ps items : List (ℕ × ℕ)) (i : ℕ) → IsCase st d f ps → items ≡ ps → length items ≤ i → ((k : ℕ) → k < i → HasSets sets st (get_or items k (0, 0)).1) → HasSets sets st d
+case_done sets st d f ps items i c e l done =
+    let same : length items ≡ length ps = ap (λ xs. length xs) e in
+    case_has sets st d f ps c (joined_some ps c.joined) (λ k m. subst (λ (xs : List (ℕ × ℕ)). HasSets sets st (get_or xs k (0, 0)).1) e (done k (omega (arith, m, l, same))))
+
+-- the labels of a leaf's branch at a place ascend
+pub branch_rises : (outs : List Out) (items : List Branch) (i : ℕ) (b : Branch) → Strict outs → items ≡ branches outs → i < length items → b ≡ get_or items i b → IsStrictlyIncreasing (labels b.targets)
+branch_rises outs items i b s e l at = labels_ascend outs s b (subst (λ bs. Has bs b) e (contains_has items b (i, l, sym at)))
+
+-- one branch more
+pub branches_more : (old new : List (List ℕ)) (items : List Branch) (i : ℕ) (b : Branch) → SetsGrow old new → ((k : ℕ) → k < i → IsThere old (labels (get_or items k (begun [])).targets)) →
+    i < length items → b ≡ get_or items i b → IsThere new (labels b.targets) → (k : ℕ) → k < i + 1 → IsThere new (labels (get_or items k (begun [])).targets)
+branches_more old new items i b g done l at h k m = elim (leb_tells i k) [
+  | inr before ↦ there_grow old new (labels (get_or items k (begun [])).targets) g (done k before.1)
+  | inl here ↦
+      let same : i ≡ k = omega (arith, here.1, m) in
+      let is : b ≡ get_or items k (begun []) = at ∙ get_or_default items i b (begun []) l ∙ ap (λ j. get_or items j (begun [])) same in
+      subst (λ (z : Branch). IsThere new (labels z.targets)) is h
+]
+
+-- where all branches are done, the leaf is
+pub branches_done : (sets : List (List ℕ)) (outs : List Out) (items : List Branch) (i : ℕ) → Strict outs → items ≡ branches outs → length items ≤ i →
+    ((k : ℕ) → k < i → IsThere sets (labels (get_or items k (begun [])).targets)) → HasAll sets outs
+branches_done sets outs items i s e l done = leaf_has sets outs s (λ c h.
+    let at = has_contains items c (subst (λ bs. Has bs c) (sym e) h) in
+    let is : get_or items at.0 (begun []) ≡ c = get_or_default items at.0 (begun []) c at.1 ∙ at.2 in
+    subst (λ (z : Branch). IsThere sets (labels z.targets)) is (done at.0 (omega (arith, at.1, l))))

@@ -1,0 +1,17 @@
+use Rattle.std.proofs.Common.{◌∙◌, subst}
+use Rattle.std.proofs.lemmas.Result.{IfOk-weaker}
+use Rattle.nk_determ.specs.States.{IsTogether}
+use Rattle.nk_determ.proofs.states.state_of.Goals as goal
+
+pub returns-clause-made : goal.returns-clause-made
+returns-clause-made c = IfOk-weaker c.regroup.result _ _ (λ r h. (
+  c.together.new.st,
+  c.in_ok-d.d,
+  record {
+    together = subst (λ ls. IsTogether c.args.st.now c.args.rows.now ls c.together.new.st c.in_ok-d.d) c.members.ensures.is c.in_ok-d.ensures.ok;
+    sorted = λ pk. (c.laws.ensures.tidy c.in_ok-d.d).sorted pk;
+    leaves = h.0;
+    held = h.1;
+    maxes = c.regroup.ensures.grows.maxes ∙ c.together.ensures.grows.maxes;
+  },
+)) (c.regroup.ensures.ok)

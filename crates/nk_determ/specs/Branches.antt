@@ -1,0 +1,35 @@
+-- The acts of a leaf, each with all its targets.
+use Rattle.std.specs.Prelude.{ℕ, cond, eqb, not, List, [], ◌∷◌, ◌++◌, filter}
+use Rattle.nk_field.specs.contracts.act.ActPartialEq.TheImpl.{ghosts}
+use Rattle.nk_store.specs.declared.node.Out.{Out}
+use Rattle.nk_determ.specs.declared.branches.Branch.{Branch}
+
+-- the branch with one target more
+abbrev pub with_target : Branch → ℕ → Branch
+with_target b target = record { act = b.act; targets = b.targets ++ target ∷ [] }
+
+-- the branch of an act without a target
+abbrev pub begun : List (ℕ × ℕ) → Branch
+begun g = record { act = g; targets = [] }
+
+-- a branch and the outs behind it: outs that stand next to each other with one act are one branch
+abbrev pub runs : Branch → List Out → List Branch
+runs b [] = b ∷ []
+runs b (o ∷ os) = cond (ghosts.eq o.act b.act) (runs (with_target b o.target) os) (b ∷ runs (with_target (begun o.act) o.target) os)
+
+-- the branches of a leaf's outs, behind one that assigns nothing
+abbrev pub branches : List Out → List Branch
+branches outs = runs (begun []) outs
+
+-- the targets of the outs with that act
+abbrev pub targets_of : List (ℕ × ℕ) → List Out → List ℕ
+targets_of g [] = []
+targets_of g (o ∷ os) = cond (ghosts.eq o.act g) (o.target ∷ targets_of g os) (targets_of g os)
+
+-- the targets that are labels: 0 is the end
+abbrev pub labels : List ℕ → List ℕ
+labels targets = filter (λ t. not (eqb t 0)) targets
+
+-- the labels that record what the act makes
+abbrev pub labels_of : List (ℕ × ℕ) → List Out → List ℕ
+labels_of g outs = labels (targets_of g outs)

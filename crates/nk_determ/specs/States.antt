@@ -1,0 +1,79 @@
+-- The diagram of a set state.
+use Rattle.std.specs.Prelude.{◌≡◌, ◌↔◌, ℕ, ◌+◌, ◌<◌, true, cond, eqb, List, [], ◌∷◌, ◌++◌, length, flat_map, slice_index, slice_index_or}
+use Rattle.std.specs.List.{Contains, list_any}
+use Rattle.nk_store.specs.declared.node.Out.{Out}
+use Rattle.nk_store.specs.Leaves.{Strict}
+use Rattle.nk_store.specs.Held.{Held, IsId, IsWhole, look, HasLeaves}
+use Rattle.nk_algebra.specs.Leaves.{gathered}
+use Rattle.nk_determ.specs.declared.branches.Branch.{Branch}
+use Rattle.nk_determ.specs.Exact.{split_leaf, Sends}
+use Rattle.nk_determ.specs.Sets.{holds, place_in}
+use Rattle.nk_determ.specs.Branches.{branches, labels, labels_of}
+
+-- one of these rows, split, sends the packet by that act to that target
+abbrev pub RowSends : Held → List ℕ → List ℕ → List ℕ → List (ℕ × ℕ) → ℕ → Type 0
+RowSends st rows labels pk g target = (l : ℕ) × Contains labels l × Contains (split_leaf st.maxes pk (look st (slice_index rows l) pk)) (record { act = g; target = target })
+
+-- one of these rows sends the packet, made y, to that target
+abbrev pub RowLeads : Held → List ℕ → List ℕ → List ℕ → List ℕ → ℕ → Type 0
+RowLeads st rows labels pk y target = (l : ℕ) × Contains labels l × Sends st (slice_index rows l) pk y target
+
+-- the set of that number has exactly the labels that record what the act makes of the packet, and there are some
+pub record IsFollowed (sets : List (List ℕ)) (st : Held) (rows labels pk : List ℕ) (g : List (ℕ × ℕ)) (i : ℕ) : Type 0 where
+  pub within : i < length sets
+  pub some : slice_index_or sets i [] ≡ [] → ⊥
+  pub every : (l : ℕ) → Contains (slice_index_or sets i []) l ↔ ((0 < l) × RowSends st rows labels pk g l)
+
+-- the set of that number has exactly the labels that record the packet, made y, and there are some
+pub record IsLedTo (sets : List (List ℕ)) (st : Held) (rows labels pk y : List ℕ) (i : ℕ) : Type 0 where
+  pub within : i < length sets
+  pub some : slice_index_or sets i [] ≡ [] → ⊥
+  pub every : (l : ℕ) → Contains (slice_index_or sets i []) l ↔ ((0 < l) × RowLeads st rows labels pk y l)
+
+-- the diagram has all that these rows, split, have
+pub record IsTogether (old : Held) (rows labels : List ℕ) (new : Held) (d : ℕ) : Type 0 where
+  pub id : IsId new d
+  pub sends : (pk : List ℕ) (g : List (ℕ × ℕ)) (t : ℕ) → IsWhole pk →
+      Contains (look new d pk) (record { act = g; target = t }) ↔ RowSends old rows labels pk g t
+
+-- the labels are one of the sets, if there are any
+abbrev pub IsThere : List (List ℕ) → List ℕ → Type 0
+IsThere sets [] = Unit {0}
+IsThere sets (l ∷ ls) = holds sets (l ∷ ls) ≡ true
+
+-- the labels of each act of the leaf are one of the sets
+abbrev pub HasAll : List (List ℕ) → List Out → Type 0
+HasAll sets outs = (g : List (ℕ × ℕ)) → IsThere sets (labels_of g outs)
+
+-- the same of each leaf of a diagram
+abbrev pub HasSets : List (List ℕ) → Held → ℕ → Type 0
+HasSets sets st d = (pk : List ℕ) → HasAll sets (look st d pk)
+
+-- each of these diagrams has its sets
+abbrev pub AllHaveSets : List (List ℕ) → Held → List ℕ → Type 0
+AllHaveSets sets st ds = (d : ℕ) → list_any (eqb d) ds ≡ true → HasSets sets st d
+
+-- the final act, where a target is 0
+abbrev pub final_of : List (ℕ × ℕ) → List ℕ → List Out
+final_of g targets = cond (list_any (λ t. eqb t 0) targets) (record { act = g; target = 0 } ∷ []) []
+
+-- the act to 1 + the number of the set of these labels, if there are any
+abbrev pub out_to_set : List (List ℕ) → List (ℕ × ℕ) → List ℕ → List Out
+out_to_set sets g [] = []
+out_to_set sets g (l ∷ ls) = record { act = g; target = place_in sets (l ∷ ls) + 1 } ∷ []
+
+-- what is made of a branch
+abbrev pub branch_outs : List (List ℕ) → Branch → List Out
+branch_outs sets b = final_of b.act b.targets ++ out_to_set sets b.act (labels b.targets)
+
+-- what is made of each branch of a leaf, as one ascending list
+abbrev pub regrouped : List (List ℕ) → List Out → List Out
+regrouped sets outs = gathered (λ o. o ∷ []) (flat_map (branch_outs sets) (branches outs))
+
+-- what a set state's diagram was made of
+pub record IsStateOf (old mid new : Held) (sets : List (List ℕ)) (rows labels : List ℕ) (d r : ℕ) : Type 0 where
+  pub together : IsTogether old rows labels mid d
+  pub sorted : (pk : List ℕ) → Strict (look mid d pk)
+  pub leaves : HasLeaves new r (λ pk. regrouped sets (look mid d pk))
+  pub held : HasSets sets mid d
+  pub maxes : new.maxes ≡ old.maxes

@@ -1,0 +1,116 @@
+//! Sets of labels, each once.
+ghost use Rattle.std.specs.Prelude.{◌≡◌, ℕ, ◌<◌, ◌^◌, [], List as Items, IfOk, OnOk, OnErr, length, slice_index_or};
+ghost use Rattle.std.specs.List.Sorted.{IsStrictlyIncreasing};
+ghost use Rattle.nk_determ.specs.Sets.{SetsGrow, IsSetOf, Differ, Ascend, with_set, place_in};
+
+use indexmap::IndexSet;
+use nk_field::List;
+use std::alloc::{AllocError, Global};
+use std::marker::Model;
+
+/// The number of a set of labels.
+#[derive(Clone, Copy, PartialEq, Eq, PartialOrd, Ord, Hash)]
+pub struct SetId {
+    place: usize,
+}
+
+impl Model for SetId {
+    ghost Value = { ℕ };
+
+    ghost view = { λ s. s.place };
+
+    ghost inverse = { λ n. record { place = n } };
+}
+
+impl SetId {
+    /// The number of a place among the sets, 0 being the first.
+    pub fn new(place: usize) -> SetId
+        ensures { result ≡ place }
+    {
+        SetId { place }
+    }
+
+    /// The place of a set.
+    pub fn place(self) -> usize
+        ensures { result ≡ self }
+    {
+        self.place
+    }
+}
+
+/// Sets of labels, as ascending lists, each once, in the order in which they came.
+#[derive(Drop)]
+pub struct Sets {
+    sets: IndexSet<List<u64>>,
+}
+
+impl Model for Sets {
+    ghost use Rattle.std.specs.Prelude.{ℕ, List as Items};
+    ghost use Rattle.nk_determ.specs.Sets.{Ascend};
+
+    ghost Value = { Items (Items ℕ) };
+
+    ghost view = { λ s. s.sets.keys };
+
+    ghost invariant = { λ s. Ascend s.sets.keys };
+}
+
+impl Sets {
+    /// No set; it takes no memory.
+    pub fn new(alloc: Global) -> Sets
+        ensures { result ≡ [] }
+    {
+        Sets {
+            sets: IndexSet::new(alloc),
+        }
+    }
+
+    /// The number of the set with these labels, which is put in where it isn't there. The only error is that memory ran
+    /// out; then the sets stay as they were.
+    pub fn intern(&mut self, labels: List<u64>) -> Result<SetId, AllocError>
+        requires { IsStrictlyIncreasing labels }
+        ensures grows { SetsGrow self.old self.new }
+        ensures ok { IfOk result (λ i. IsSetOf self.new i labels) }
+        ensures sets { OnOk result (self.new ≡ with_set self.old labels) }
+        ensures err { OnErr result (self.new ≡ self.old) }
+    {
+        let (place, _) = self.sets.insert_full(labels)?;
+        Ok(SetId { place })
+    }
+
+    /// The labels of a set, ascending.
+    pub fn members(&self, s: SetId) -> &[u64]
+        requires { s < length self.now }
+        ensures is { result.now ≡ slice_index_or self.now s [] }
+        ensures ascend { IsStrictlyIncreasing result.now }
+    {
+        self.sets[s.place].as_slice()
+    }
+
+    /// How many sets there are.
+    pub fn len(&self) -> usize
+        ensures { result ≡ length self.now }
+    {
+        self.sets.len()
+    }
+
+    /// What holds of all sets; it does nothing: two numbers with equal members are one, and labels ascend.
+    pub fn differ(&self)
+        ensures differ { Differ self.now }
+        ensures ascend { Ascend self.now }
+    {
+        let _count = self.sets.len();
+    }
+
+    /// Where these labels are, or how many sets there are.
+    pub(crate) fn place(&self, labels: &List<u64>) -> usize
+        ensures is { result ≡ place_in self.now labels.now }
+        ensures small { result < 2 ^ 63 }
+    {
+        let count = self.sets.len();
+        match self.sets.get_index_of(labels) {
+            Some(place) => place,
+            None => count,
+        }
+    }
+}

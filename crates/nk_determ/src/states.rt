@@ -1,0 +1,238 @@
+//! The diagram of a set state.
+ghost use Rattle.std.specs.Prelude.{◌≡◌, ◌↔◌, ℕ, ◌+◌, ◌<◌, [], ◌++◌, All, List as Items, IfOk, OnOk, length, flat_map, slice_index, slice_index_or};
+ghost use Rattle.std.specs.List.{Contains};
+ghost use Rattle.std.specs.List.Sorted.{IsStrictlyIncreasing};
+ghost use Rattle.nk_store.specs.Leaves.{Strict};
+ghost use Rattle.nk_store.specs.Held.{Held, IsId, IsWhole, IsPacket, look, Grows, HasLeaves};
+ghost use Rattle.nk_algebra.specs.Unions.{AreIds};
+ghost use Rattle.nk_determ.specs.Exact.{split_leaf, AreExact, Sends};
+ghost use Rattle.nk_determ.specs.Sets.{SetsGrow};
+ghost use Rattle.nk_determ.specs.Branches.{branches, labels};
+ghost use Rattle.nk_determ.specs.States.{RowSends, RowLeads, IsFollowed, IsLedTo, IsTogether, IsStateOf, IsThere, HasAll, HasSets, AllHaveSets, final_of, out_to_set, branch_outs, regrouped};
+
+use crate::branches::{Branch, branches_of, labels_in};
+use crate::sets::{SetId, Sets};
+use crate::splits::split;
+use nk_algebra::{LeafMap, map_leaves, union_all};
+use nk_field::List;
+use nk_store::{Id, Node, Out, Store};
+use std::alloc::{AllocError, Global};
+use std::collections::HashSet;
+
+/// The diagram of a set of labels, each of which is a place among the rows: a final act with target 0 for each packet that
+/// some member ends at, and for each packet that some member records next one act with target 1 + the number of the set of
+/// all labels that record it. Sets that aren't there yet are put in. The only error is that memory ran out.
+pub fn state(st: &mut Store, ss: &mut Sets, rows: &[Id], s: SetId) -> Result<Id, AllocError>
+    requires rows { AreIds st.old rows.now }
+    requires set { s < length ss.old }
+    requires places { All (λ l. l < length rows.now) (slice_index_or ss.old s []) }
+    ensures grows { Grows st.old st.new }
+    ensures sets { SetsGrow ss.old ss.new }
+    ensures id { IfOk result (λ r. IsId st.new r) }
+    ensures exact { IfOk result (λ r. AreExact st.new r) }
+    ensures finals { IfOk result (λ r. (pk : Items ℕ) (g : Items (ℕ × ℕ)) → IsWhole pk →
+        Contains (look st.new r pk) (record { act = g; target = 0 })
+        ↔ RowSends st.old rows.now (slice_index_or ss.old s []) pk g 0) }
+    ensures next { IfOk result (λ r. (pk : Items ℕ) (g : Items (ℕ × ℕ)) (i : ℕ) → IsWhole pk →
+        Contains (look st.new r pk) (record { act = g; target = i + 1 }) →
+        IsFollowed ss.new st.old rows.now (slice_index_or ss.old s []) pk g i) }
+    ensures recorded { IfOk result (λ r. (pk : Items ℕ) (g : Items (ℕ × ℕ)) (l : ℕ) → IsWhole pk → 0 < l →
+        RowSends st.old rows.now (slice_index_or ss.old s []) pk g l →
+        (i : ℕ) × Contains (look st.new r pk) (record { act = g; target = i + 1 })) }
+    ensures once { IfOk result (λ r. (pk : Items ℕ) (g : Items (ℕ × ℕ)) (i j : ℕ) → IsWhole pk →
+        Contains (look st.new r pk) (record { act = g; target = i + 1 }) →
+        Contains (look st.new r pk) (record { act = g; target = j + 1 }) → i ≡ j) }
+    ensures ends { IfOk result (λ r. (pk y : Items ℕ) → IsPacket st.old pk →
+        Sends st.new r pk y 0 ↔ RowLeads st.old rows.now (slice_index_or ss.old s []) pk y 0) }
+    ensures leads { IfOk result (λ r. (pk y : Items ℕ) (i : ℕ) → IsPacket st.old pk → Sends st.new r pk y (i + 1) →
+        IsLedTo ss.new st.old rows.now (slice_index_or ss.old s []) pk y i) }
+    ensures led { IfOk result (λ r. (pk y : Items ℕ) (l : ℕ) → IsPacket st.old pk → 0 < l →
+        RowLeads st.old rows.now (slice_index_or ss.old s []) pk y l → (i : ℕ) × Sends st.new r pk y (i + 1)) }
+{
+    st.laws();
+    let r = state_of(st, ss, rows, s)?;
+    Ok(r)
+}
+
+/// The diagram of a set of labels, and what it was made of.
+fn state_of(st: &mut Store, ss: &mut Sets, rows: &[Id], s: SetId) -> Result<Id, AllocError>
+    requires rows { AreIds st.old rows.now }
+    requires set { s < length ss.old }
+    requires places { All (λ l. l < length rows.now) (slice_index_or ss.old s []) }
+    ensures grows { Grows st.old st.new }
+    ensures sets { SetsGrow ss.old ss.new }
+    ensures made { IfOk result (λ r. (mid : Held) × (d : ℕ) ×
+        IsStateOf st.old mid st.new ss.new rows.now (slice_index_or ss.old s []) d r) }
+{
+    let d = together(st, rows, ss.members(s))?;
+    st.laws();
+    regroup(st, ss, d)
+}
+
+/// All that the rows of these labels do, split.
+fn together(st: &mut Store, rows: &[Id], labels: &[u64]) -> Result<Id, AllocError>
+    requires rows { AreIds st.old rows.now }
+    requires places { All (λ l. l < length rows.now) labels.now }
+    ensures grows { Grows st.old st.new }
+    ensures ok { IfOk result (λ d. IsTogether st.old rows.now labels.now st.new d) }
+{
+    let ds = split_rows(st, rows, labels)?;
+    union_all(st, ds.as_slice())
+}
+
+/// The rows of these labels, each split.
+fn split_rows(st: &mut Store, rows: &[Id], labels: &[u64]) -> Result<List<Id>, AllocError>
+    requires rows { AreIds st.old rows.now }
+    requires places { All (λ l. l < length rows.now) labels.now }
+    ensures grows { Grows st.old st.new }
+    ensures len { IfOk result (λ ds. length ds ≡ length labels.now) }
+    ensures ok { IfOk result (λ ds. (k : ℕ) → k < length ds → HasLeaves st.new (slice_index ds k)
+        (λ pk. split_leaf st.old.maxes pk (look st.old (slice_index rows.now (slice_index labels.now k)) pk))) }
+{
+    let mut ds = List::new(st.alloc());
+    for l in labels {
+        let d = split(st, row_at(rows, *l))?;
+        ds.push(d)?;
+    }
+    Ok(ds)
+}
+
+/// The row at a place.
+fn row_at(rows: &[Id], place: u64) -> Id
+    requires { place < length rows.now }
+    ensures { result ≡ slice_index rows.now place }
+{
+    rows[place as usize]
+}
+
+/// The diagram with the outs of each act to the set of all labels of the act. Each node is visited once to put in the
+/// sets, and once more to make the diagram.
+fn regroup(st: &mut Store, ss: &mut Sets, d: Id) -> Result<Id, AllocError>
+    requires { IsId st.old d }
+    ensures grows { Grows st.old st.new }
+    ensures sets { SetsGrow ss.old ss.new }
+    ensures ok { IfOk result (λ r. HasLeaves st.new r (λ pk. regrouped ss.new (look st.old d pk)) × HasSets ss.new st.old d) }
+{
+    let mut seen = HashSet::new(st.alloc());
+    intern_all(st, ss, &mut seen, d)?;
+    map_leaves(st, &Regrouping { sets: ss }, d)
+}
+
+/// Puts in the set of labels of each act of each leaf of a diagram, unless that was done before.
+#[cycle(intern)]
+fn intern_all(st: &Store, ss: &mut Sets, seen: &mut HashSet<Id>, d: Id) -> Result<(), AllocError>
+    requires id { IsId st.now d }
+    requires seen { AllHaveSets ss.old st.now seen.old.keys }
+    ensures grows { SetsGrow ss.old ss.new }
+    ensures ok { OnOk result (HasSets ss.new st.now d) }
+    ensures seen { OnOk result (AllHaveSets ss.new st.now seen.new.keys) }
+{
+    if seen.contains(&d) {
+        return Ok(());
+    }
+    intern_new(st, ss, seen, d)?;
+    seen.insert(d)?;
+    Ok(())
+}
+
+/// Puts in the set of labels of each act of each leaf of a diagram.
+#[cycle(intern)]
+fn intern_new(st: &Store, ss: &mut Sets, seen: &mut HashSet<Id>, d: Id) -> Result<(), AllocError>
+    requires id { IsId st.now d }
+    requires seen { AllHaveSets ss.old st.now seen.old.keys }
+    ensures grows { SetsGrow ss.old ss.new }
+    ensures ok { OnOk result (HasSets ss.new st.now d) }
+    ensures seen { OnOk result (AllHaveSets ss.new st.now seen.new.keys) }
+{
+    match st.view(d) {
+        Node::Leaf(outs) => intern_leaf(st.alloc(), ss, outs.as_slice()),
+        Node::Case(_, parts) => {
+            for part in parts.as_slice() {
+                intern_all(st, ss, seen, part.1)?;
+            }
+            Ok(())
+        }
+    }
+}
+
+/// Puts in the set of labels of each act of a leaf.
+fn intern_leaf(alloc: Global, ss: &mut Sets, outs: &[Out]) -> Result<(), AllocError>
+    requires { Strict outs.now }
+    ensures grows { SetsGrow ss.old ss.new }
+    ensures ok { OnOk result (HasAll ss.new outs.now) }
+{
+    let all = branches_of(alloc, outs)?;
+    for b in all.as_slice() {
+        intern_branch(alloc, ss, b)?;
+    }
+    Ok(())
+}
+
+/// Puts in the set of labels of a branch.
+fn intern_branch(alloc: Global, ss: &mut Sets, b: &Branch) -> Result<(), AllocError>
+    requires { IsStrictlyIncreasing (labels b.now.targets) }
+    ensures grows { SetsGrow ss.old ss.new }
+    ensures ok { OnOk result (IsThere ss.new (labels b.now.targets)) }
+{
+    let labels = labels_in(alloc, b.targets.as_slice())?;
+    if !labels.is_empty() {
+        ss.intern(labels)?;
+    }
+    Ok(())
+}
+
+/// Each act of a leaf to the set of all its labels.
+#[derive(Drop)]
+struct Regrouping<'a> {
+    sets: &'a Sets,
+}
+
+impl<'a> LeafMap for Regrouping<'a> {
+    ghost mapped = { λ s os. regrouped s.sets.now os };
+
+    ghost allowed = { λ _ _. Unit {0} };
+
+    fn map(&self, alloc: Global, outs: &[Out]) -> Result<List<Out>, AllocError> {
+        outs_to_sets(alloc, self.sets, outs)
+    }
+}
+
+/// The outs of each branch of a leaf.
+fn outs_to_sets(alloc: Global, sets: &Sets, outs: &[Out]) -> Result<List<Out>, AllocError>
+    ensures { IfOk result (λ r. r ≡ flat_map (branch_outs sets.now) (branches outs.now)) }
+{
+    let parts = branches_of(alloc, outs)?;
+    let mut all = List::new(alloc);
+    for b in parts.as_slice() {
+        push_final(&mut all, b)?;
+        push_to_set(&mut all, sets, b)?;
+    }
+    Ok(all)
+}
+
+/// Appends the final act of a branch, if it has one.
+fn push_final(all: &mut List<Out>, b: &Branch) -> Result<(), AllocError>
+    ensures { OnOk result (all.new ≡ all.old ++ final_of b.now.act b.now.targets) }
+{
+    if b.targets.as_slice().contains(&0) {
+        all.push(Out {
+            act: b.act.copy()?,
+            target: 0,
+        })?;
+    }
+    Ok(())
+}
+
+/// Appends the act of a branch to the set of its labels, if there are any.
+fn push_to_set(all: &mut List<Out>, sets: &Sets, b: &Branch) -> Result<(), AllocError>
+    ensures { OnOk result (all.new ≡ all.old ++ out_to_set sets.now b.now.act (labels b.now.targets)) }
+{
+    let labels = labels_in(all.alloc(), b.targets.as_slice())?;
+    if !labels.is_empty() {
+        all.push(Out {
+            act: b.act.copy()?,
+            target: sets.place(&labels) as u64 + 1,
+        })?;
+    }
+    Ok(())
+}
