@@ -1,17 +1,11 @@
-//! Tests of the public calls of the crates below the command, each once on the way that it is meant for. They stand in a
-//! crate of their own, since what a test calls in its own crate is proved again with it.
+//! Tests of the public calls for texts, packets, policies and tables, each once on the way that it is meant for. They stand
+//! in a crate of their own, since what a test calls in its own crate is proved again with it.
 #![tactic(auto)]
 
-#[cfg(test)]
-mod algebra;
-#[cfg(test)]
-mod auto;
 #[cfg(test)]
 mod field;
 #[cfg(test)]
 mod grammar;
-#[cfg(test)]
-mod group;
 #[cfg(test)]
 mod io;
 #[cfg(test)]
@@ -21,15 +15,7 @@ mod names;
 #[cfg(test)]
 mod policy;
 #[cfg(test)]
-mod run;
-#[cfg(test)]
-mod sets;
-#[cfg(test)]
 mod sim;
-#[cfg(test)]
-mod star;
-#[cfg(test)]
-mod store;
 #[cfg(test)]
 mod table;
 #[cfg(test)]

@@ -1,6 +1,8 @@
-//! The printed tables of random policies, against the ends of the policies by their meaning, the plain way.
-ghost use Rattle.std.specs.Prelude.{◌≤◌, All, IsUtf8};
+//! The printed tables of random policies, against the ends of the policies by the plain program of all their histories.
+ghost use Rattle.std.specs.Prelude.{◌≡◌, ◌≤◌, All, IsUtf8, true};
 ghost use Rattle.nk_lex.specs.Lex.{largest};
+ghost use Rattle.nk_policy.specs.Histories.{AllFlat, IsFlat};
+ghost use Rattle.nk_policy.specs.Tree.{tree_of, trees_of};
 
 use super::joined;
 use nk_compile::compile;
@@ -9,8 +11,9 @@ use nk_grammar::file;
 use nk_lex::{Token, tokens};
 use nk_names::reading::program;
 use nk_names::{NamesError, Program};
-use nk_policy::Pol;
-use nk_table::{Bucket, Exit, Group, Tables, Target, lookup};
+use nk_policy::{Pol, histories, is_predicate};
+use nk_sim::emit;
+use nk_table::Tables;
 use std::alloc::{AllocError, Global};
 use std::test::Fail;
 
@@ -126,154 +129,66 @@ fn policies(alloc: Global, count: u32, draws: &mut Draws) -> Result<Vec<Vec<u8>>
     Ok(texts)
 }
 
-/// Puts a packet behind others, where it isn't among them.
-fn put(packets: &mut Vec<Packet>, pk: Packet) -> Result<(), AllocError> {
-    if packets.as_slice().contains(&pk) {
-        return Ok(());
-    }
-    packets.push(pk)?;
-    Ok(())
-}
-
-/// Puts the packets at which the policy can end from one behind others, each once: the plain way.
-#[cycle(put_ends)]
-fn put_ends(alloc: Global, p: &Pol, pk: &Packet, ends: &mut Vec<Packet>) -> Result<(), AllocError> {
+/// Whether the policy has no star, and each complement is that of a predicate: then all its histories are a list.
+#[cycle(is_flat)]
+#[tactic(auto, using(nk_policy::proofs::Trees::tree_of_sum, nk_policy::proofs::Trees::tree_of_seq))]
+fn is_flat(p: &Pol) -> bool
+    ensures { result ≡ true → IsFlat (tree_of p.now) }
+{
     match p {
-        Pol::Test(f, n) => put_where(ends, *pk, pk.get(*f) == *n),
-        Pol::Set(f, n) => put(ends, with_value(*pk, *f, *n)),
-        Pol::Sum(ps) => put_ends_of_some(alloc, ps.as_slice(), pk, ends),
-        Pol::Seq(ps) => put_ends_of_all(alloc, ps.as_slice(), pk, ends),
-        Pol::Not(q) => {
-            let mut kept = Vec::new(alloc);
-            put_ends(alloc, q, pk, &mut kept)?;
-            put_where(ends, *pk, kept.is_empty())
-        }
-        Pol::Star(_) | Pol::Dup(_) | Pol::Link(_, _, _, _, _) => Ok(()),
+        Pol::Test(_, _) | Pol::Set(_, _) | Pol::Dup(_) | Pol::Link(_, _, _, _, _) => true,
+        Pol::Sum(ps) => are_flat(ps.as_slice()),
+        Pol::Seq(ps) => are_flat(ps.as_slice()),
+        Pol::Not(q) => is_predicate(q) && is_flat(q),
+        Pol::Star(_) => false,
     }
 }
 
-/// Puts the ends of each part.
-#[cycle(put_ends)]
-fn put_ends_of_some(
-    alloc: Global,
-    ps: &[Pol],
-    pk: &Packet,
-    ends: &mut Vec<Packet>,
-) -> Result<(), AllocError> {
+/// Whether all parts are so.
+#[cycle(is_flat)]
+fn are_flat(ps: &[Pol]) -> bool
+    ensures { result ≡ true → AllFlat (trees_of ps.now) }
+{
     for q in ps {
-        put_ends(alloc, q, pk, ends)?;
-    }
-    Ok(())
-}
-
-/// Puts the ends of the parts in turn.
-#[cycle(put_ends)]
-fn put_ends_of_all(
-    alloc: Global,
-    ps: &[Pol],
-    pk: &Packet,
-    ends: &mut Vec<Packet>,
-) -> Result<(), AllocError> {
-    let mut reached = Vec::new(alloc);
-    reached.push(*pk)?;
-    for q in ps {
-        let mut next = Vec::new(alloc);
-        for from in reached.iter() {
-            put_ends(alloc, q, from, &mut next)?;
-        }
-        reached = next;
-    }
-    put_all(ends, &reached)
-}
-
-/// Puts packets behind others.
-fn put_all(ends: &mut Vec<Packet>, packets: &[Packet]) -> Result<(), AllocError> {
-    for pk in packets {
-        put(ends, *pk)?;
-    }
-    Ok(())
-}
-
-/// Puts the packet where it passes.
-fn put_where(ends: &mut Vec<Packet>, pk: Packet, passes: bool) -> Result<(), AllocError> {
-    if passes {
-        return put(ends, pk);
-    }
-    Ok(())
-}
-
-/// The packet with a value at a field.
-fn with_value(pk: Packet, f: Fid, n: u64) -> Packet {
-    let mut to = pk;
-    to.put(f, n);
-    to
-}
-
-/// Where a bucket sends the packet, if anywhere.
-fn sent(bucket: &Bucket, pk: &Packet) -> Option<Packet> {
-    let mut to = bucket.sets.apply(pk);
-    match bucket.exit {
-        Exit::Back => Some(to),
-        Exit::Port(port) if port as u64 == pk.get(Fid::PORT) => None,
-        Exit::Port(port) => {
-            to.put(Fid::PORT, port as u64);
-            Some(to)
+        if !is_flat(q) {
+            return false;
         }
     }
+    true
 }
 
-/// All that buckets send for the packet.
-fn put_sent(to: &mut Vec<Packet>, buckets: &[Bucket], pk: &Packet) -> Result<(), AllocError> {
-    for bucket in buckets {
-        if let Some(packet) = sent(bucket, pk) {
-            to.push(packet)?;
+/// The packets at which the policy can end from one, each once, by all its histories.
+fn ends(alloc: Global, p: &Pol, pk: &Packet) -> Result<Vec<Packet>, AllocError>
+    requires { IsFlat (tree_of p.now) }
+{
+    let mut ends = Vec::new(alloc);
+    for history in histories(alloc, p, pk)?.iter() {
+        if !ends.as_slice().contains(&history.last) {
+            ends.push(history.last)?;
         }
     }
-    Ok(())
+    Ok(ends)
 }
 
-/// The buckets of the group with this number.
-fn buckets_of<'a>(groups: &'a [Group], number: u64) -> &'a [Bucket] {
-    for group in groups {
-        if group.number == number {
-            return group.buckets.as_slice();
-        }
-    }
-    &[]
-}
-
-/// All that switch 1 sends for the packet.
-fn sent_by(alloc: Global, tables: &Tables, pk: &Packet) -> Result<Vec<Packet>, AllocError> {
-    let mut to = Vec::new(alloc);
-    if let Some(row) = lookup(tables, 1, pk) {
-        match &row.target {
-            Target::Bucket(bucket) => {
-                if let Some(packet) = sent(bucket, pk) {
-                    to.push(packet)?;
-                }
-            }
-            Target::Group(number) => {
-                for table in tables.tables.as_slice() {
-                    put_sent(&mut to, buckets_of(table.groups.as_slice(), *number), pk)?;
-                }
-            }
-            Target::Discard => {}
-        }
-    }
-    Ok(to)
+/// A packet of switch 1, by a number below 18.
+fn packet_of(number: u64) -> Packet {
+    let mut pk = Packet::zero();
+    pk.put(Fid::SWITCH, 1);
+    pk.put(Fid::PORT, 1 + number % 2);
+    pk.put(Fid::new(2), number / 2 % 3);
+    pk.put(Fid::new(3), number / 6);
+    pk
 }
 
 /// Whether the tables send each packet exactly to where the policy ends, each once.
-fn agree(alloc: Global, p: &Pol, tables: &Tables) -> Result<bool, Fail> {
-    for number in 0..18u64 {
-        let mut pk = Packet::zero();
-        pk.put(Fid::SWITCH, 1);
-        pk.put(Fid::PORT, 1 + number % 2);
-        pk.put(Fid::new(2), number / 2 % 3);
-        pk.put(Fid::new(3), number / 6);
-        let mut wanted = Vec::new(alloc);
-        put_ends(alloc, p, &pk, &mut wanted)?;
-        let sent = sent_by(alloc, tables, &pk)?;
+fn agree(alloc: Global, p: &Pol, tables: &Tables) -> Result<bool, AllocError> {
+    if !is_flat(p) {
+        return Ok(false);
+    }
+    for number in 0..18 {
+        let pk = packet_of(number);
+        let wanted = ends(alloc, p, &pk)?;
+        let sent = emit(alloc, tables, &pk)?;
         if sent.len() != wanted.len() || wanted.iter().any(|x| !sent.as_slice().contains(x)) {
             return Ok(false);
         }
@@ -304,7 +219,7 @@ fn is_carried(alloc: Global, policy: &[u8]) -> Result<bool, Fail> {
     };
     let tables = compile(alloc, &declared, "p")?;
     match declared.find("p") {
-        Some(p) => agree(alloc, p, &tables),
+        Some(p) => Ok(agree(alloc, p, &tables)?),
         None => Ok(false),
     }
 }

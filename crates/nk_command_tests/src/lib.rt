@@ -1,0 +1,5 @@
+//! Tests of the command: words and bytes, and what it answers.
+#![tactic(auto)]
+
+#[cfg(test)]
+mod run;
