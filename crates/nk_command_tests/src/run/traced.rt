@@ -279,15 +279,26 @@ fn status_by_calls(alloc: Global, text: &[u8], packet: &str) -> Status {
     }
 }
 
+/// Whether the text, cut after each byte, comes to what the calls give.
+fn is_cut(alloc: Global, text: &[u8], packet: &str) -> Result<bool, Fail> {
+    for len in 0..=text.len() {
+        let cut = &text[..len];
+        let status = done(alloc, &["trace", "1", packet], cut)?.0;
+        if status != status_by_calls(alloc, cut, packet) {
+            return Ok(false);
+        }
+    }
+    Ok(true)
+}
+
 #[test]
 fn table_texts_cut_after_each_byte(rt: HostRuntime) -> Result<(), Fail> {
     let alloc = rt.alloc();
-    for (text, packet) in [(LINE, "sw=1,pt=1,dst=3"), (BOTH, "sw=1,pt=1")] {
-        for len in 0..=text.len() {
-            let cut = &text[..len];
-            let status = done(alloc, &["trace", "1", packet], cut)?.0;
-            assert_eq!(rt; status, status_by_calls(alloc, cut, packet), "{len}");
-        }
+    assert!(rt; is_cut(alloc, LINE, "sw=1,pt=1,dst=3")?);
+    assert!(rt; is_cut(alloc, BOTH, "sw=1,pt=1")?);
+    assert!(rt; is_cut(alloc, TWICE, "sw=1,pt=1,dst=1")?);
+    for (section, _, _) in SECTIONS {
+        assert!(rt; is_cut(alloc, &joined(alloc, &[OPEN, section])?, "sw=1,pt=1")?);
     }
     Ok(())
 }
