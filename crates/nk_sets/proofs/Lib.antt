@@ -1,4 +1,5 @@
 pub mod Cases
+pub mod Cutting
 pub mod Forgetting
 pub mod Imaging
 pub mod Keeping

@@ -5,3 +5,4 @@ pub mod PacketSets
 pub mod PolicyOf
 pub mod Predicate
 pub mod Trees
+pub mod Cuts

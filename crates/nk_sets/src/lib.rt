@@ -1,6 +1,7 @@
 //! Sets of packets as predicate diagrams: each packet passes as it is, or is dropped.
 #![tactic(auto)]
 
+mod cuts;
 mod differences;
 mod filled;
 mod forgets;
@@ -10,6 +11,7 @@ mod predicate;
 
 ghost use Rattle.nk_sets.specs.Example.{WorkedPredicates};
 
+pub use cuts::at_packets;
 pub use differences::minus;
 pub use filled::is_empty;
 pub use images::{image, preimage};
