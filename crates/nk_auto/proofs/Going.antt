@@ -4,9 +4,11 @@ use Rattle.nk_field.specs.Act.{applied}
 use Rattle.nk_policy.specs.Policy.{Policy, Policies, test, assign, seq_of, not_of, star_of, dup, link, no_part, part}
 use Rattle.nk_policy.specs.Progress.{RecordsAt}
 use Rattle.nk_store.specs.Held.{Held, IsId, IsWhole, IsPacket, look, Grows, HasLeaves, AreTidy}
-use Rattle.nk_algebra.specs.Leaves.{merged}
-use Rattle.nk_algebra.specs.Seqs.{seq_leaf}
-use Rattle.nk_algebra.proofs.Members.{Has, contains_has}
+use Rattle.nk_store.specs.declared.node.Out.{Out}
+use Rattle.nk_algebra.specs.Leaves.{merged, guarded}
+use Rattle.nk_algebra.specs.Predicates.{IsPass, IsPredicate}
+use Rattle.nk_algebra.specs.Seqs.{seq_leaf, no_out}
+use Rattle.nk_algebra.proofs.Members.{Has, contains_has, has_contains}
 use Rattle.nk_auto.specs.Plain.{Sends}
 use Rattle.nk_auto.specs.Continued.{IsFit, IsSilent, GoesOn, IsContinued}
 use Rattle.nk_auto.proofs.Sending.{out_of, sends_on, sends_back, seq_sends, sends_seq, union_sends, sends_left, sends_right}
@@ -60,10 +62,57 @@ through st new d k r p tidy g a ik none h = record {
       );
 }
 
+-- a member behind a guard is one behind a predicate that passes
+guard_has : (os ks : List Out) (o : Out) → IsPass os → Has (guarded os ks) o → Has os no_out × Has ks o
+guard_has [] ks o p h = absurd h
+guard_has (x ∷ xs) ks o p h = (inl p.0, h)
+
+-- and a member behind a predicate that passes is one behind the guard
+has_guard : (os ks : List Out) (x o : Out) → Has os x → Has ks o → Has (guarded os ks) o
+has_guard [] ks x o h k = absurd h
+has_guard (z ∷ zs) ks x o h k = k
+
+-- it is the out that keeps the packet
+guard_is : (os : List Out) (x : Out) → IsPass os → Has os x → x ≡ no_out
+guard_is [] x p h = absurd h
+guard_is (z ∷ zs) x p h = ⊎_elim (λ e. sym e ∙ p.0) (λ r. absurd (subst (λ l. Has l x) p.1 r)) h
+
+-- a predicate diagram of a policy that never records, and then the diagram
+guarded_through : (st new : Held) (d k r : ℕ) (p : Policy) → Grows st new → IsSilent st d p → IsPredicate st d → IsId st k →
+    ((pk y : List ℕ) (t : ℕ) → RecordsAt p pk [] y t → ⊥) →
+    HasLeaves new r (λ pk. guarded (look st d pk) (look st k pk)) → IsContinued new r p k
+guarded_through st new d k r p g a pred ik none h = record {
+  id = h.id;
+  next = g.ids k ik;
+  sends = λ fit pk y t range.
+      let before = packet_before st new pk g range in
+      let fits = fit_before st new p g fit in (
+        λ s.
+            let m : Has (guarded (look st d pk) (look st k pk)) (out_of s.0 t) = subst (λ os. Has os (out_of s.0 t)) (h.leaf pk range.0) (contains_has _ _ s.1) in
+            let both = guard_has (look st d pk) (look st k pk) (out_of s.0 t) (pred pk range.0) m in
+            let passed : Sends st d pk pk 0 = ([], has_contains _ _ both.0, refl) in
+            let sent : Sends st k pk y t = (s.0, has_contains _ _ both.1, s.2) in
+            inl (pk, ((a.sends fits pk pk 0 before).0 passed).1, sends_on st new k pk y t g ik sent),
+        λ s.
+            ⊎_elim
+            (λ e.
+            let passed = (a.sends fits pk e.0 0 before).1 (refl, e.1) in
+            let sent = sends_back st new k e.0 y t g ik e.2 in
+            let kept = guard_is (look st d pk) (out_of passed.0 0) (pred pk range.0) (contains_has _ _ passed.1) in
+            let act_is : passed.0 ≡ [] = ap (λ o. o.act) kept in
+            let here : e.0 ≡ pk = passed.2 ∙ ap (λ f. applied f pk) act_is in
+            let sent_here : Sends st k pk y t = subst (λ x. Sends st k x y t) here sent in
+            let m = has_guard (look st d pk) (look st k pk) (out_of passed.0 0) (out_of sent_here.0 t) (contains_has _ _ passed.1) (contains_has _ _ sent_here.1) in
+            (sent_here.0, has_contains _ _ (subst (λ os. Has os (out_of sent_here.0 t)) (sym (h.leaf pk range.0)) m), sent_here.2))
+            (λ e. absurd (none pk y t e))
+            s,
+      );
+}
+
 -- the test, continued
-pub test_through : (st new : Held) (d k r f n : ℕ) → AreTidy new → Grows st new → IsSilent st d (test f n) → IsId st k →
-    HasLeaves new r (λ pk. seq_leaf (look st d pk) (look st k) pk) → IsContinued new r (test f n) k
-test_through st new d k r f n tidy g a ik h = through st new d k r (test f n) tidy g a ik (λ pk y t e. e) h
+pub test_through : (st new : Held) (d k r f n : ℕ) → Grows st new → IsSilent st d (test f n) → IsPredicate st d → IsId st k →
+    HasLeaves new r (λ pk. guarded (look st d pk) (look st k pk)) → IsContinued new r (test f n) k
+test_through st new d k r f n g a pred ik h = guarded_through st new d k r (test f n) g a pred ik (λ pk y t e. e) h
 
 -- the assignment, continued
 pub set_through : (st new : Held) (d k r f n : ℕ) → AreTidy new → Grows st new → IsSilent st d (assign f n) → IsId st k →
@@ -71,9 +120,9 @@ pub set_through : (st new : Held) (d k r f n : ℕ) → AreTidy new → Grows st
 set_through st new d k r f n tidy g a ik h = through st new d k r (assign f n) tidy g a ik (λ pk y t e. e) h
 
 -- the complement, continued
-pub not_through : (st new : Held) (d k r : ℕ) (p : Policy) → AreTidy new → Grows st new → IsSilent st d (not_of p) → IsId st k →
-    HasLeaves new r (λ pk. seq_leaf (look st d pk) (look st k) pk) → IsContinued new r (not_of p) k
-not_through st new d k r p tidy g a ik h = through st new d k r (not_of p) tidy g a ik (λ pk y t e. e) h
+pub not_through : (st new : Held) (d k r : ℕ) (p : Policy) → Grows st new → IsSilent st d (not_of p) → IsPredicate st d → IsId st k →
+    HasLeaves new r (λ pk. guarded (look st d pk) (look st k pk)) → IsContinued new r (not_of p) k
+not_through st new d k r p g a pred ik h = guarded_through st new d k r (not_of p) g a pred ik (λ pk y t e. e) h
 
 -- the packet itself, to the target of a dup
 pub dup_continued : (st : Held) (d l k : ℕ) → HasLeaves st d (λ pk. record { act = []; target = l } ∷ []) → IsId st k →

@@ -10,3 +10,4 @@ pub mod Sums
 pub mod Writing
 pub mod Stating
 pub mod Parts
+pub mod OfParts

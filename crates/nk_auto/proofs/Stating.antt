@@ -124,32 +124,48 @@ label_held p first i e lt =
     (numbers_are p (first + i)).0 (subst (λ ns. Contains ns (first + i)) (sym listed) here)
 
 -- a policy and what is left of it have no dup 0 where numbers begin later
-no_zero : (p q : Policy) (first : ℕ) → 1 ≤ first → marked_from p first ≡ p → (has_dup q 0 ≡ true → has_dup p 0 ≡ true) →
+pub no_zero : (p q : Policy) (first : ℕ) → 1 ≤ first → marked_from p first ≡ p → (has_dup q 0 ≡ true → has_dup p 0 ≡ true) →
     has_dup q 0 ≡ false
 no_zero p q first from e rest = false_where (has_dup q 0) (λ h. let w = label_within p first 0 e (rest h) in omega (arith, w.0, from))
 
 -- where a state's outs lead
-leads_to : (st : Held) (d e : ℕ) (p q : Policy) (first : ℕ) → HasLeaves st e (λ pk. no_out ∷ []) → IsFit st.maxes q →
-    marked_from p first ≡ p → ((l : ℕ) → has_dup q l ≡ true → has_dup p l ≡ true) → IsContinued st d q e →
-    (pk y : List ℕ) (t : ℕ) → IsPacket st pk → Sends st d pk y t → (t ≡ 0) ⊎ ((first ≤ t) × (t < first + dups_of p))
-leads_to st d e p q first h fit numbered rest c pk y t range s =
-    ⊎_elim
-    (λ g. inl g.0)
-    (λ r. inr (label_within p first t numbered (rest t (holds_dup q pk [] y t r))))
-    (goes_to st e q pk y t h fit range ((c.sends fit pk y t range).0 s))
+state_leads : (st : Held) (d : ℕ) (p q : Policy) (first : ℕ) → marked_from p first ≡ p →
+    ((l : ℕ) → has_dup q l ≡ true → has_dup p l ≡ true) → IsState st d q → (pk y : List ℕ) (t : ℕ) → IsPacket st pk →
+    Sends st d pk y t → (t ≡ 0) ⊎ ((first ≤ t) × (t < first + dups_of p))
+state_leads st d p q first numbered rest h pk y zero range s = inl refl
+state_leads st d p q first numbered rest h pk y (suc t) range s =
+    inr (label_within p first (suc t) numbered (rest (suc t) (holds_dup q pk [] y (suc t) ((h.records pk y (suc t) range (omega arith)).0 s))))
+
+-- the states of the start and of what is left after each dup are the automaton
+pub states_are : (st : Held) (all : List ℕ) (first : ℕ) (p : Policy) → marked_from p first ≡ p → length all ≡ 1 + dups_of p →
+    IsState st (slice_index all 0) p →
+    ((i : ℕ) → i < dups_of p → IsState st (slice_index all (1 + i)) (after p (first + i))) → IsAutomaton st all first p
+states_are st all first p numbered many begun rest = record {
+  count = many;
+  labels = λ i lt. label_held p first i numbered lt;
+  start = begun;
+  rest = rest;
+  targets = λ i pk y t lt range s. place i lt pk y t range s;
+}
+  where
+    place : (i : ℕ) → i < length all → (pk y : List ℕ) (t : ℕ) → IsPacket st pk → Sends st (slice_index all i) pk y t →
+        (t ≡ 0) ⊎ ((first ≤ t) × (t < first + dups_of p))
+    place zero lt pk y t range s = state_leads st (slice_index all 0) p p first numbered (λ l k. k) begun pk y t range s
+    place (suc i) lt pk y t range s =
+        let within : i < dups_of p = omega (arith, lt, many) in
+        let same : suc i ≡ 1 + i = omega arith in
+        state_leads st (slice_index all (1 + i)) p (after p (first + i)) first numbered (λ l k. rest_dups p (first + i) l k) (rest i within) pk y t range
+        (subst (λ n. Sends st (slice_index all n) pk y t) same s)
 
 -- the rows and the start are the automaton
 pub automaton_is : (st : Held) (blank rows all : List ℕ) (first start e : ℕ) (p : Policy) → 1 ≤ first →
     marked_from p first ≡ p → length blank ≡ dups_of p + 1 → AreWritten st blank rows (first - 1) p e →
     IsContinued st start p e → HasLeaves st e (λ pk. no_out ∷ []) → all ≡ slice_set rows 0 start → IsFit st.maxes p →
     IsAutomaton st all first p
-automaton_is st blank rows all first start e p from numbered many written begun h put fit = record {
-  count = length_is;
-  labels = λ i lt. label_held p first i numbered lt;
-  start = subst (λ d. IsState st d p) (sym first_is) (state_is st start e p h fit (no_zero p p first from numbered (λ k. k)) begun);
-  rest = λ i lt. state_is st (slice_index all (1 + i)) e (after p (first + i)) h (after_fit st.maxes p (first + i) fit) (no_zero p (after p (first + i)) first from numbered (λ k. rest_dups p (first + i) 0 k)) (row i lt);
-  targets = λ i pk y t lt range s. place i lt pk y t range s;
-}
+automaton_is st blank rows all first start e p from numbered many written begun h put fit =
+    states_are st all first p numbered length_is
+    (subst (λ d. IsState st d p) (sym first_is) (state_is st start e p h fit (no_zero p p first from numbered (λ k. k)) begun))
+    (λ i lt. state_is st (slice_index all (1 + i)) e (after p (first + i)) h (after_fit st.maxes p (first + i) fit) (no_zero p (after p (first + i)) first from numbered (λ k. rest_dups p (first + i) 0 k)) (row i lt))
   where
     length_is : length all ≡ 1 + dups_of p
     length_is = ap length put ∙ length-set rows 0 start ∙ written.count ∙ many ∙ omega arith
@@ -165,13 +181,3 @@ automaton_is st blank rows all first start e p from numbered many written begun 
         let kept : slice_index all (1 + i) ≡ slice_index rows (1 + i) = ap (λ r. slice_index r (1 + i)) put ∙ get_or-set_other rows 0 (1 + i) start 0 apart in
         subst (λ d. IsContinued st d (after p (first + i)) e) (ap (λ n. slice_index rows n) at ∙ sym kept)
         (written.rows fit.0 (first + i) (omega (arith, from)) (omega (arith, from, lt, many, written.count)) has)
-
-    place : (i : ℕ) → i < length all → (pk y : List ℕ) (t : ℕ) → IsPacket st pk → Sends st (slice_index all i) pk y t →
-        (t ≡ 0) ⊎ ((first ≤ t) × (t < first + dups_of p))
-    place zero lt pk y t range s =
-        leads_to st start e p p first h fit numbered (λ l k. k) begun pk y t range (subst (λ d. Sends st d pk y t) first_is s)
-    place (suc i) lt pk y t range s =
-        let within : i < dups_of p = omega (arith, lt, length_is) in
-        let same : suc i ≡ 1 + i = omega arith in
-        leads_to st (slice_index all (1 + i)) e p (after p (first + i)) first h (after_fit st.maxes p (first + i) fit) numbered (λ l k. rest_dups p (first + i) l k) (row i within) pk y t range
-        (subst (λ n. Sends st (slice_index all n) pk y t) same s)

@@ -3,3 +3,4 @@ pub mod Plain
 pub mod Complements
 pub mod Continued
 pub mod Automaton
+pub mod OfParts

@@ -6,7 +6,7 @@ ghost use Rattle.nk_store.specs.Held.{IsId, Grows, HasLeaves};
 ghost use Rattle.nk_auto.specs.Continued.{IsContinued};
 
 use crate::silence::{silent_not, silent_set, silent_star, silent_test};
-use nk_algebra::{aim, empty, identity, seq, union, union_all};
+use nk_algebra::{aim, both, empty, identity, seq, union, union_all};
 use nk_field::{Fid, List};
 use nk_policy::Pol;
 use nk_store::{Id, Store};
@@ -41,8 +41,7 @@ pub fn after_test(st: &mut Store, f: Fid, n: u64, next: Id) -> Result<Id, AllocE
     ensures ok { IfOk result (λ d. IsContinued st.new d (test f n) next) }
 {
     let d = silent_test(st, f, n)?;
-    let r = seq(st, d, next)?;
-    st.laws();
+    let r = both(st, d, next)?;
     Ok(r)
 }
 
@@ -65,8 +64,7 @@ pub fn after_not(st: &mut Store, q: &Pol, next: Id) -> Result<Id, AllocError>
     ensures ok { IfOk result (λ d. IsContinued st.new d (not_of (tree_of q.now)) next) }
 {
     let d = silent_not(st, q)?;
-    let r = seq(st, d, next)?;
-    st.laws();
+    let r = both(st, d, next)?;
     Ok(r)
 }
 

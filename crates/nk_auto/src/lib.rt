@@ -2,12 +2,14 @@
 //! next record.
 #![tactic(auto)]
 
+mod by_parts;
 mod going_on;
 mod making;
 mod rows;
 mod silence;
 mod states;
 
+pub use by_parts::automaton_of_parts;
 pub use going_on::continued;
 pub use making::diagram;
 pub use rows::continued_with_rows;

@@ -1,10 +1,11 @@
 //! The diagram of a policy without star, dup and link.
 ghost use Rattle.std.specs.Prelude.{◌∷◌, [], cond, leb, eqb, min, slice_index, IfOk};
 ghost use Rattle.nk_store.specs.Held.{Grows, HasLeaves};
+ghost use Rattle.nk_algebra.specs.Predicates.{IsPredicate};
 ghost use Rattle.nk_policy.specs.Tree.{tree_of, trees_of};
 ghost use Rattle.nk_auto.specs.Leaves.{leaf_of, sum_leaf, seq_leaves, one_out};
 
-use nk_algebra::{assign, negate, seq, test, union_all};
+use nk_algebra::{assign, empty, negate, seq, test, union_all};
 use nk_field::{Act, Fid, List};
 use nk_policy::Pol;
 use nk_store::{Id, Out, Store};
@@ -70,6 +71,7 @@ pub fn test_where(st: &mut Store, f: Fid, n: u64) -> Result<Id, AllocError>
     ensures ok { IfOk result (λ d. HasLeaves st.new d
         (λ pk. cond (eqb (min (slice_index pk f) (slice_index st.old.maxes f)) n)
         (record { act = []; target = 0 } ∷ []) [])) }
+    ensures predicate { IfOk result (λ d. IsPredicate st.new d) }
 {
     let _place = f.place();
     if n <= st.max(f) {
@@ -97,8 +99,9 @@ pub fn set_where(st: &mut Store, f: Fid, n: u64) -> Result<Id, AllocError>
 fn nothing(st: &mut Store) -> Result<Id, AllocError>
     ensures grows { Grows st.old st.new }
     ensures ok { IfOk result (λ d. HasLeaves st.new d (λ pk. [])) }
+    ensures predicate { IfOk result (λ d. IsPredicate st.new d) }
 {
-    st.leaf_in_order(List::new(st.alloc()))
+    empty(st)
 }
 
 /// The packet itself.

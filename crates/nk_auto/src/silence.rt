@@ -3,6 +3,7 @@ ghost use Rattle.std.specs.Prelude.{◌≡◌, ℕ, ◌∷◌, [], IfOk};
 ghost use Rattle.nk_policy.specs.Policy.{test, assign, sum_of, seq_of, not_of, star_of, dup, link};
 ghost use Rattle.nk_policy.specs.Tree.{tree_of, trees_of};
 ghost use Rattle.nk_store.specs.Held.{Grows};
+ghost use Rattle.nk_algebra.specs.Predicates.{IsPredicate};
 ghost use Rattle.nk_auto.specs.Continued.{IsSilent};
 
 use crate::making::{set_where, test_where};
@@ -32,11 +33,12 @@ pub fn silent(st: &mut Store, p: &Pol) -> Result<Id, AllocError>
     }
 }
 
-/// The diagram of a complement.
+/// The diagram of a complement: a predicate.
 #[cycle(silent)]
 pub fn silent_not(st: &mut Store, q: &Pol) -> Result<Id, AllocError>
     ensures grows { Grows st.old st.new }
     ensures ok { IfOk result (λ d. IsSilent st.new d (not_of (tree_of q.now))) }
+    ensures predicate { IfOk result (λ d. IsPredicate st.new d) }
 {
     let d = silent(st, q)?;
     negate(st, d)
@@ -63,10 +65,11 @@ fn never_silent(st: &mut Store) -> Result<Id, AllocError>
     Ok(d)
 }
 
-/// The diagram of a test.
+/// The diagram of a test: a predicate.
 pub fn silent_test(st: &mut Store, f: Fid, n: u64) -> Result<Id, AllocError>
     ensures grows { Grows st.old st.new }
     ensures ok { IfOk result (λ d. IsSilent st.new d (test f n)) }
+    ensures predicate { IfOk result (λ d. IsPredicate st.new d) }
 {
     test_where(st, f, n)
 }

@@ -10,10 +10,18 @@ mod deriv;
 #[cfg(test)]
 mod determ;
 #[cfg(test)]
+mod draws;
+#[cfg(test)]
+mod generated;
+#[cfg(test)]
 mod group;
+#[cfg(test)]
+mod numbered;
 #[cfg(test)]
 mod sets;
 #[cfg(test)]
 mod star;
 #[cfg(test)]
 mod store;
+#[cfg(test)]
+mod walks;

@@ -1,0 +1,11 @@
+use Rattle.std.proofs.Common.{◌≡◌, ℕ, List, ◌++◌, take}
+use Rattle.nk_store.specs.Held.{Grows}
+use Rattle.nk_auto.specs.OfParts.{AreOfParts}
+use Rattle.nk_auto.proofs.by_parts.push_states.Given as goal
+
+-- the parts so far have their diagrams
+abbrev pub invariant-loop-entry : goal.invariant-loop-entry
+invariant-loop-entry l = record {
+  grows : Grows l.fn.st l.st;
+  states : (made : List ℕ) × (l.rows ≡ l.fn.rows ++ made) × AreOfParts l.st made (take l.entry-index l.entries);
+}

@@ -1,0 +1,56 @@
+-- The diagrams of a policy's parts (Foster et al., POPL 2015: the observation and the derivatives of a policy, as one state).
+use Rattle.std.specs.Prelude.{◌≡◌, ℕ, ◌≤◌, ◌↔◌, ◌⊎◌, List, [], ◌∷◌, All, map}
+use Rattle.nk_field.specs.Packet.{FieldTable}
+use Rattle.nk_policy.specs.declared.policy.Pol.{Pol}
+use Rattle.nk_policy.specs.Policy.{Policy, numbers_of, marked_from}
+use Rattle.nk_policy.specs.Tree.{tree_of}
+use Rattle.nk_policy.specs.Meaning.{Gives}
+use Rattle.nk_policy.specs.After.{after}
+use Rattle.nk_policy.specs.Ranges.{IsOver}
+use Rattle.nk_store.specs.Held.{Held, IsId, IsPacket}
+use Rattle.nk_store.specs.Held.{IsOver as IsStoreOver}
+use Rattle.nk_deriv.specs.declared.values.Part.{Part}
+use Rattle.nk_deriv.specs.declared.values.Parts.{Parts}
+use Rattle.nk_deriv.specs.Part.{RowsGive, IsPart, IsWithin}
+use Rattle.nk_auto.specs.Plain.{Sends}
+use Rattle.nk_auto.specs.Continued.{IsFit}
+
+-- the diagram of a policy's runs without a record, all to one target
+pub record IsAimed (st : Held) (d : ℕ) (p : Policy) (target : ℕ) : Type 0 where
+  pub id : IsId st d
+  pub sends : IsFit st.maxes p → (pk y : List ℕ) (t : ℕ) → IsPacket st pk →
+      Sends st d pk y t ↔ ((t ≡ target) × Gives p pk [] y)
+
+-- a row's policy is fit
+abbrev pub IsFitRow : List ℕ → Pol × ℕ → Type 0
+IsFitRow maxes row = IsFit maxes (tree_of row.0)
+
+-- the diagram of a free policy and rows: to target 0 it sends to where the free policy ends without a record, and to
+-- target l to where some row of label l does
+pub record IsOfPart (st : Held) (d : ℕ) (free : Policy) (rows : List (Pol × ℕ)) : Type 0 where
+  pub id : IsId st d
+  pub sends : IsFit st.maxes free → All (IsFitRow st.maxes) rows → (pk y : List ℕ) (t : ℕ) → IsPacket st pk →
+      Sends st d pk y t ↔ (((t ≡ 0) × Gives free pk [] y) ⊎ RowsGive rows pk y t)
+
+-- the diagrams of the parts behind labels, in order
+abbrev pub AreOfParts : Held → List ℕ → List (ℕ × Part) → Type 0
+AreOfParts st [] [] = Unit {0}
+AreOfParts st [] (e ∷ es) = ⊥
+AreOfParts st (d ∷ ds) [] = ⊥
+AreOfParts st (d ∷ ds) (e ∷ es) = IsOfPart st d (tree_of e.1.free) e.1.rows × AreOfParts st ds es
+
+-- the parts are those of the policy: what is answered for it by `nk_deriv::derivatives::parts`
+pub record AreParts (parts : Parts) (p : Policy) : Type 0 where
+  pub first : IsPart parts.first p
+  pub labels : map (λ e. e.0) parts.after ≡ numbers_of p
+  pub after : All (λ e. IsPart e.1 (after p e.0)) parts.after
+  pub within : All (λ e. IsWithin p e.1) parts.after
+
+-- the dups of the policy are numbered from first on, and its tests and assignments are of the store's fields, to values
+-- in range
+pub record IsDrawable (st : Held) (p : Policy) (first : ℕ) : Type 0 where
+  pub from : 1 ≤ first
+  pub numbered : marked_from p first ≡ p
+  pub fields : FieldTable
+  pub store_over : IsStoreOver fields st
+  pub over : IsOver fields p

@@ -1,0 +1,84 @@
+//! The automaton of a policy, by the parts of what is left of it after each of its dups.
+ghost use Rattle.std.specs.Prelude.{◌≡◌, ℕ, ◌++◌, List as Items, IfOk, OnOk};
+ghost use Rattle.nk_policy.specs.Policy.{Policy};
+ghost use Rattle.nk_policy.specs.Tree.{tree_of};
+ghost use Rattle.nk_store.specs.Held.{Grows};
+ghost use Rattle.nk_algebra.specs.Unions.{AreIds};
+ghost use Rattle.nk_auto.specs.Automaton.{IsAutomaton};
+ghost use Rattle.nk_auto.specs.OfParts.{IsAimed, IsOfPart, AreOfParts, AreParts, IsDrawable};
+
+use crate::silence::silent;
+use nk_algebra::{aim, union};
+use nk_deriv::{Part, Parts};
+use nk_field::List;
+use nk_policy::Pol;
+use nk_store::{Id, Store};
+use std::alloc::AllocError;
+
+/// The automaton of a policy from its parts: the diagram of the first part, then that of each part behind a dup, in text
+/// order. It is the automaton of each policy of which these are the parts and whose dups are numbered in text order. The
+/// plain way: each part is drawn alone, so what several dups have behind them is drawn once for each of them. The only
+/// error is that memory ran out.
+pub fn automaton_of_parts(st: &mut Store, parts: &Parts) -> Result<List<Id>, AllocError>
+    ensures grows { Grows st.old st.new }
+    ensures ok { IfOk result (λ rows. (p : Policy) (first : ℕ) → AreParts parts.now p → IsDrawable st.old p first →
+        IsAutomaton st.new rows first p) }
+    ensures ids { IfOk result (λ rows. AreIds st.new rows) }
+{
+    let mut rows = List::new(st.alloc());
+    let start = state_of_part(st, &parts.first)?;
+    rows.push(start)?;
+    push_states(st, parts.after.as_slice(), &mut rows)?;
+    Ok(rows)
+}
+
+/// Puts the diagrams of the parts at the end.
+fn push_states(
+    st: &mut Store,
+    entries: &[(u32, Part)],
+    rows: &mut List<Id>,
+) -> Result<(), AllocError>
+    ensures grows { Grows st.old st.new }
+    ensures states { OnOk result ((made : Items ℕ) × (rows.new ≡ rows.old ++ made) × AreOfParts st.new made entries.now) }
+{
+    for entry in entries {
+        let d = state_of_part(st, &entry.1)?;
+        rows.push(d)?;
+    }
+    Ok(())
+}
+
+/// The diagram of a part: its free policy, and each row to the row's label.
+fn state_of_part(st: &mut Store, part: &Part) -> Result<Id, AllocError>
+    ensures grows { Grows st.old st.new }
+    ensures ok { IfOk result (λ d. IsOfPart st.new d (tree_of part.now.free) part.now.rows) }
+{
+    let free = silent(st, &part.free)?;
+    with_rows(st, free, &part.free, part.rows.as_slice())
+}
+
+/// The diagram of a free policy, with those of the rows.
+fn with_rows(st: &mut Store, drawn: Id, free: &Pol, rows: &[(Pol, u32)]) -> Result<Id, AllocError>
+    requires { IsAimed st.old drawn (tree_of free.now) 0 }
+    ensures grows { Grows st.old st.new }
+    ensures ok { IfOk result (λ d. IsOfPart st.new d (tree_of free.now) rows.now) }
+{
+    let mut d = drawn;
+    let mut i = rows.len();
+    while i > 0 {
+        i -= 1;
+        let row = &rows[i];
+        let records = aimed_at(st, &row.0, u64::from(row.1))?;
+        d = union(st, records, d)?;
+    }
+    Ok(d)
+}
+
+/// The diagram of a policy's runs without a record, all to one target.
+fn aimed_at(st: &mut Store, p: &Pol, target: u64) -> Result<Id, AllocError>
+    ensures grows { Grows st.old st.new }
+    ensures ok { IfOk result (λ d. IsAimed st.new d (tree_of p.now) target) }
+{
+    let d = silent(st, p)?;
+    aim(st, d, target)
+}

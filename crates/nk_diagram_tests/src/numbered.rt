@@ -1,0 +1,21 @@
+//! Policies with their dups numbered from 1 on.
+ghost use Rattle.std.specs.Prelude.{◌≡◌, ◌≤◌, ◌+◌, ◌^◌, IfOk};
+ghost use Rattle.nk_policy.specs.Policy.{marked_from, dups_of};
+ghost use Rattle.nk_policy.specs.Tree.{tree_of};
+
+use nk_policy::{Pol, marked};
+use std::alloc::{AllocError, Global};
+
+/// The most dups of a policy whose automaton is made.
+pub const MOST_DUPS: u64 = 1_000_000;
+
+/// The same policy with its dups numbered in text order.
+#[tactic(auto, using(nk_policy::proofs::Remade::marked_again, nk_policy::proofs::Remade::marked_dups))]
+pub fn numbered(alloc: Global, raw: &Pol) -> Result<Pol, AllocError>
+    requires { dups_of (tree_of raw.now) ≤ 1000000 }
+    ensures numbered { IfOk result (λ p. marked_from (tree_of p) 1 ≡ tree_of p) }
+    ensures few { IfOk result (λ p. 1 + dups_of (tree_of p) ≤ 2 ^ 32) }
+{
+    let p = marked(alloc, raw, 1)?;
+    Ok(p)
+}
