@@ -1,0 +1,138 @@
+-- What one side alone ends at, and that it stays so as the store grows.
+use Rattle.std.proofs.Common.{◌≡◌, ℕ, suc, ◌<◌, ◌+◌, Bool, true, false, cond, inl, inr, refl, sym, ◌∙◌, ap, subst, arith, List, [], ◌∷◌, ◌++◌, length, length-append, get_or, map, Option, Some}
+use Rattle.std.specs.List.{flat_map}
+use Rattle.std.proofs.lemmas.List.{append_assoc, get_or-map, get_or_append_left}
+use Rattle.std.proofs.lemmas.Bool.Decides.{eqb_tells}
+use Rattle.nk_determ.specs.Exact.{split_leaf}
+use Rattle.nk_determ.specs.Targets.{retargeted}
+use Rattle.nk_store.specs.declared.node.Out.{Out}
+use Rattle.nk_store.specs.Leaves.{Every, Strict, Suits, AreOrdered}
+use Rattle.nk_store.specs.Held.{Held, IsId, look, Grows, HasLeaves}
+use Rattle.nk_algebra.specs.Leaves.{merged}
+use Rattle.nk_algebra.specs.Unions.{AreIds, unions}
+use Rattle.nk_algebra.proofs.Members.{gathered_every}
+use Rattle.nk_algebra.proofs.Gathers.{flat_ordered}
+use Rattle.nk_reach.specs.Pairs.{HavePlaces}
+use Rattle.nk_reach.specs.Sides.{alone_out, alone, ends_of, marked, mark_of, AreMarked}
+
+-- as many diagrams as labels
+count_map : (ends set : List ℕ) → length (map (λ l. get_or ends l 0) set) ≡ length set
+count_map ends [] = refl
+count_map ends (l ∷ ls) = ap suc (count_map ends ls)
+
+-- the diagrams of labels that have places
+pub labels_ids : (a : Held) (ends set : List ℕ) → AreIds a ends → HavePlaces (length ends) set → AreIds a (map (λ l. get_or ends l 0) set)
+labels_ids a ends set k p i l =
+    let m : i < length set = omega (arith, l, count_map ends set) in
+    subst (IsId a) (sym (get_or-map (λ (j : ℕ). get_or ends j 0) set i 0 0 m)) (k (get_or set i 0) (p i 0 m))
+
+-- what stands behind a list
+behind : (xs ys : List ℕ) (y : ℕ) → get_or (xs ++ y ∷ ys) (length xs) 0 ≡ y
+behind [] ys y = refl
+behind (x ∷ xs) ys y = behind xs ys y
+
+-- the diagrams of labels together are their ends
+unions_behind : (st : Held) (ends before set pk : List ℕ) → unions st (map (λ l. get_or ends l 0) (before ++ set)) (length before) (length set) pk ≡ ends_of st ends set pk
+unions_behind st ends before [] pk = refl
+unions_behind st ends before (l ∷ ls) pk =
+    let f = λ (j : ℕ). get_or ends j 0 in
+    let m : length before < length (before ++ l ∷ ls) = omega (arith, length-append before (l ∷ ls)) in
+    let here : get_or (map f (before ++ l ∷ ls)) (length before) 0 ≡ get_or ends l 0 = get_or-map f (before ++ l ∷ ls) (length before) 0 0 m ∙ ap f (behind before ls l) in
+    let count : length before + 1 ≡ length (before ++ l ∷ []) = omega (arith, length-append before (l ∷ [])) in
+    let rest : unions st (map f (before ++ l ∷ ls)) (length before + 1) (length ls) pk ≡ ends_of st ends ls pk =
+    ap (λ k. unions st (map f (before ++ l ∷ ls)) k (length ls) pk) count
+    ∙ ap (λ (xs : List ℕ). unions st (map f xs) (length (before ++ l ∷ [])) (length ls) pk) (sym (append_assoc before (l ∷ []) ls))
+    ∙ unions_behind st ends (before ++ l ∷ []) ls pk in
+    ap (λ d. merged (look st d pk) (unions st (map f (before ++ l ∷ ls)) (length before + 1) (length ls) pk)) here
+    ∙ ap (λ xs. merged (look st (get_or ends l 0) pk) xs) rest
+
+-- at most one out ascends strictly
+cond_strict : (b : Bool) (o : Out) → Strict (cond b [] (o ∷ []))
+cond_strict true o = tt
+cond_strict false o = (tt, tt)
+
+-- at most one out suits
+cond_suits : (maxes : List ℕ) (b : Bool) (o : Out) → Suits maxes o → Every (Suits maxes) (cond b [] (o ∷ []))
+cond_suits maxes true o s = tt
+cond_suits maxes false o s = (s, tt)
+
+-- the ends of one side alone, one after the other, come in order to them
+pub alone_ordered : (os all : List Out) → all ≡ flat_map (alone_out os) os → AreOrdered all (alone os)
+alone_ordered os all e = subst (λ xs. AreOrdered xs (alone os)) (sym e) (flat_ordered (alone_out os) os (λ o. cond_strict _ _))
+
+-- they suit the highest values
+pub alone_suits : (maxes : List ℕ) (os : List Out) → Every (Suits maxes) os → Every (Suits maxes) (alone os)
+alone_suits maxes os e = gathered_every (Suits maxes) (Suits maxes) (alone_out os) os (λ o k. cond_suits maxes _ _ k) e
+
+-- the diagram of the ends of one side alone
+pub alone_leaves : (st s1 s2 : Held) (ends set ds : List ℕ) (e d : ℕ) → ds ≡ map (λ l. get_or ends l 0) set → HasLeaves s1 e (λ pk. unions st ds 0 (length ds) pk) → HasLeaves s2 d (λ pk. alone (look s1 e pk)) → HasLeaves s2 d (λ pk. alone (ends_of st ends set pk))
+alone_leaves st s1 s2 ends set ds e d is h k = record {
+  id = k.id;
+  leaf = λ pk w.
+      let n : length ds ≡ length set = ap (λ (xs : List ℕ). length xs) is ∙ count_map ends set in
+      k.leaf pk w ∙ ap alone (h.leaf pk w ∙ ap (λ xs. unions st xs 0 (length ds) pk) is ∙ ap (λ m. unions st (map (λ l. get_or ends l 0) set) 0 m pk) n ∙ unions_behind st ends [] set pk);
+}
+
+-- what is marked stays so as the store grows
+pub marked_same : (a b : Held) (d mark : ℕ) (pk : List ℕ) → Grows a b → IsId a d → marked b d mark pk ≡ marked a d mark pk
+marked_same a b d mark pk g i =
+    ap (λ (ms : List ℕ). retargeted (Some mark ∷ []) (split_leaf ms pk (look b d pk))) g.maxes ∙ ap (λ os. retargeted (Some mark ∷ []) (split_leaf a.maxes pk os)) (g.leaves d pk i)
+
+-- the ends of a diagram, split and marked
+pub marked_of : (st s1 s2 : Held) (d e r mark : ℕ) (table : List (Option ℕ)) → table ≡ Some mark ∷ [] → HasLeaves s1 e (λ pk. split_leaf st.maxes pk (look st d pk)) → HasLeaves s2 r (λ pk. retargeted table (look s1 e pk)) → HasLeaves s2 r (λ pk. marked st d mark pk)
+marked_of st s1 s2 d e r mark table is h k = record {
+  id = k.id;
+  leaf = λ pk w. k.leaf pk w ∙ ap (retargeted table) (h.leaf pk w) ∙ ap (λ t. retargeted t (split_leaf st.maxes pk (look st d pk))) is;
+}
+
+-- both starts marked
+pub starts_of : (st s1 s2 s3 : Held) (left right a b r : ℕ) → IsId st right → Grows st s1 → Grows s1 s2 → HasLeaves s1 a (λ pk. marked st left 1 pk) → HasLeaves s2 b (λ pk. marked s1 right 2 pk) → HasLeaves s3 r (λ pk. merged (look s2 a pk) (look s2 b pk)) → HasLeaves s3 r (λ pk. merged (marked st left 1 pk) (marked st right 2 pk))
+starts_of st s1 s2 s3 left right a b r i g h ka kb k = record {
+  id = k.id;
+  leaf = λ pk w. k.leaf pk w ∙ ap (λ xs. merged xs (look s2 b pk)) (h.leaves a pk ka.id ∙ ka.leaf pk w) ∙ ap (merged (marked st left 1 pk)) (kb.leaf pk w ∙ marked_same st s1 right 2 pk g i);
+}
+
+-- leaves stay as the store grows
+leaves_on : (a b : Held) (d : ℕ) (F : List ℕ → List Out) → Grows a b → HasLeaves a d F → HasLeaves b d F
+leaves_on a b d F g k = record { id = g.ids d k.id; leaf = λ pk w. g.leaves d pk k.id ∙ k.leaf pk w }
+
+-- one label more
+pub marks_push : (a st new : Held) (rows : List ℕ) (left right bound n d : ℕ) (ends : List ℕ) → AreIds a rows → IsId a left → IsId a right → n < length rows → Grows a st → Grows st new → AreMarked a rows left right bound n st ends →
+    (n ≡ 0 → HasLeaves new d (λ pk. merged (marked st left 1 pk) (marked st right 2 pk))) → (0 < n → HasLeaves new d (λ pk. marked st (get_or rows n 0) (mark_of bound n) pk)) → AreMarked a rows left right bound (n + 1) new (ends ++ d ∷ [])
+marks_push a st new rows left right bound n d ends ids il ir l g h m first next = record {
+  count = omega (arith, m.count, length-append ends (d ∷ []));
+  start = λ z. elim (eqb_tells n 0) [
+    | inl none ↦ subst (λ (k : ℕ). HasLeaves new k (λ pk. merged (marked a left 1 pk) (marked a right 2 pk))) (sym (at_new 0 (sym none.1)))
+        (let k = first none.1 in record { id = k.id; leaf = λ pk w. k.leaf pk w ∙ ap (λ xs. merged xs (marked st right 2 pk)) (marked_same a st left 1 pk g il) ∙ ap (merged (marked a left 1 pk)) (marked_same a st right 2 pk g ir) })
+    | inr some ↦
+        let p : 0 < n = omega (arith, some.1) in
+        subst (λ (k : ℕ). HasLeaves new k (λ pk. merged (marked a left 1 pk) (marked a right 2 pk))) (sym (at_old 0 p)) (leaves_on st new (get_or ends 0 0) (λ pk. merged (marked a left 1 pk) (marked a right 2 pk)) h (m.start p))
+  ];
+  rest = λ i p q. elim (eqb_tells i n) [
+    | inl same ↦
+        let k = next (omega (arith, p, same.1)) in
+        subst (λ j. HasLeaves new (get_or (ends ++ d ∷ []) j 0) (λ pk. marked a (get_or rows j 0) (mark_of bound j) pk)) (sym same.1)
+        (subst (λ (c : ℕ). HasLeaves new c (λ pk. marked a (get_or rows n 0) (mark_of bound n) pk)) (sym (at_new n refl))
+        (record { id = k.id; leaf = λ pk w. k.leaf pk w ∙ marked_same a st (get_or rows n 0) (mark_of bound n) pk g (ids n l) }))
+    | inr other ↦
+        let q' : i < n = omega (arith, q, other.1) in
+        subst (λ (c : ℕ). HasLeaves new c (λ pk. marked a (get_or rows i 0) (mark_of bound i) pk)) (sym (at_old i q')) (leaves_on st new (get_or ends i 0) (λ pk. marked a (get_or rows i 0) (mark_of bound i) pk) h (m.rest i p q'))
+  ];
+}
+  where
+    at_old : (i : ℕ) → i < n → get_or (ends ++ d ∷ []) i 0 ≡ get_or ends i 0
+    at_old i p = get_or_append_left ends (d ∷ []) 0 i (omega (arith, p, m.count))
+
+    at_new : (i : ℕ) → i ≡ n → get_or (ends ++ d ∷ []) i 0 ≡ d
+    at_new i e = ap (λ j. get_or (ends ++ d ∷ []) j 0) (e ∙ sym m.count) ∙ behind ends [] d
+
+-- marked ends are diagrams of the store
+pub marks_ids : (a st : Held) (rows : List ℕ) (left right bound n : ℕ) (ends : List ℕ) → AreMarked a rows left right bound n st ends → AreIds st ends
+marks_ids a st rows left right bound n ends m i l = elim (eqb_tells i 0) [
+  | inl none ↦ subst (λ j. IsId st (get_or ends j 0)) (sym none.1) (m.start (omega (arith, l, m.count))).id
+  | inr some ↦ (m.rest i (omega (arith, some.1)) (omega (arith, l, m.count))).id
+]
+
+-- no label is marked
+pub marks_none : (a : Held) (rows : List ℕ) (left right bound : ℕ) → AreMarked a rows left right bound 0 a []
+marks_none a rows left right bound = record { count = refl; start = λ p. absurd (omega (arith, p)); rest = λ i p q. absurd (omega (arith, q)) }

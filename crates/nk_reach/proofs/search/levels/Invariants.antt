@@ -1,0 +1,18 @@
+use Rattle.std.proofs.Common.{◌≡◌, ℕ, List, length, ◌+◌, ◌-◌}
+use Rattle.nk_store.specs.Held.{Held}
+use Rattle.nk_reach.proofs.Everything.{all_nodes}
+use Rattle.nk_reach.specs.Rounds.{AreSpare}
+use Rattle.nk_reach.proofs.Going.{Going}
+use Rattle.nk_reach.proofs.search.levels.Given as goal
+
+abbrev pub invariant-loop-all : goal.invariant-loop-all
+invariant-loop-all g l = record {
+  fits : g.G.Goal.fits l.g l.st;
+  labels : g.G.Goal.labels l.g ≡ g.G.Goal.labels l.fn.g;
+  same : (st : Held) (set pk : List ℕ) → g.G.Goal.bad_of l.g st set pk ≡ g.G.Goal.bad_of l.fn.g st set pk;
+  going : (h : ℕ) × Going l.fn.st l.fn.ss l.st l.ss l.rows l.fn.s l.fn.start (g.G.Goal.bad_of l.fn.g l.fn.st) l.met.entries l.all h;
+  cut : AreSpare l.st l.rows l.cut;
+}
+
+abbrev pub decreases-loop-all : goal.decreases-loop-all
+decreases-loop-all g l = length (all_nodes l.fn.st.maxes (length l.rows)) + 1 - length l.all

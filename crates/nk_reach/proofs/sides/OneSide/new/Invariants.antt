@@ -1,0 +1,9 @@
+use Rattle.nk_store.specs.Held.{Grows}
+use Rattle.nk_reach.specs.Sides.{AreMarked}
+use Rattle.nk_reach.proofs.sides.OneSide.new.Given as goal
+
+abbrev pub invariant-loop-l : goal.invariant-loop-l
+invariant-loop-l l = record {
+  grows : Grows l.fn.st l.st;
+  marked : AreMarked l.fn.st l.rows l.left l.right l.bound l.l l.st l.ends;
+}

@@ -1,0 +1,68 @@
+-- What one of two sides alone ends at. Each label has a diagram of marked ends: an out has target 1 where the left side
+-- ends and 2 where the right side does, and its act assigns exactly the fields that it changes, so that equal packets come
+-- of equal acts.
+use Rattle.std.specs.Prelude.{◌≡◌, ℕ, ◌<◌, ◌⊎◌, ◌↔◌, nat_lt, eqb, cond, List, [], ◌∷◌, Some, length, slice_index, Contains}
+use Rattle.std.specs.List.{list_any}
+use Rattle.std.proofs.Common.{refl, ap, ◌∙◌}
+use Rattle.std.proofs.lemmas.List.Elements.{All-head, All-tail}
+use Rattle.nk_field.specs.Act.{applied}
+use Rattle.nk_store.specs.declared.node.Out.{Out}
+use Rattle.nk_store.specs.contracts.node.OutPartialEq.TheImpl.{ghosts}
+use Rattle.nk_store.specs.Held.{Held, look, Grows, HasLeaves}
+use Rattle.nk_algebra.specs.Leaves.{merged, gathered}
+use Rattle.nk_algebra.specs.Unions.{AreIds}
+use Rattle.nk_determ.specs.Exact.{split_leaf, Sends}
+use Rattle.nk_determ.specs.Targets.{retargeted}
+use Rattle.nk_reach.specs.Pairs.{HavePlaces}
+
+-- the same end of the other side
+abbrev pub twin : Out → Out
+twin o = record { act = o.act; target = cond (eqb o.target 1) 2 1 }
+
+-- an end that the other side has not: 0 on the left, 1 on the right
+abbrev pub alone_out : List Out → Out → List Out
+alone_out outs o = cond (list_any (λ p. ghosts.eq p (twin o)) outs) [] (record { act = o.act; target = cond (eqb o.target 1) 0 1 } ∷ [])
+
+-- the ends that one side alone has
+abbrev pub alone : List Out → List Out
+alone outs = gathered (alone_out outs) outs
+
+-- the marked ends of a set of labels
+abbrev pub ends_of : Held → List ℕ → List ℕ → List ℕ → List Out
+ends_of st ends [] pk = []
+ends_of st ends (l ∷ ls) pk = merged (look st (slice_index ends l) pk) (ends_of st ends ls pk)
+
+-- they stay as they are while the store grows
+pub ends_same : (a b : Held) (ends set pk : List ℕ) → Grows a b → AreIds a ends → HavePlaces (length ends) set → ends_of b ends set pk ≡ ends_of a ends set pk
+ends_same a b ends [] pk g k p = refl
+ends_same a b ends (l ∷ ls) pk g k p =
+    ap (λ xs. merged xs (ends_of b ends ls pk)) (g.leaves (slice_index ends l) pk (k l (All-head (λ j. j < length ends) l ls p)))
+    ∙ ap (λ xs. merged (look a (slice_index ends l) pk) xs) (ends_same a b ends ls pk g k (All-tail (λ j. j < length ends) l ls p))
+
+-- the finals of a diagram at a packet, their acts assigning what they change, with a mark in place of their target
+abbrev pub marked : Held → ℕ → ℕ → List ℕ → List Out
+marked st d mark pk = retargeted (Some mark ∷ []) (split_leaf st.maxes pk (look st d pk))
+
+-- the mark of a label's side: labels below the bound are of the left side
+abbrev pub mark_of : ℕ → ℕ → ℕ
+mark_of bound l = cond (nat_lt l bound) 1 2
+
+-- the marked ends of each of the first n labels: of both starts at label 0, of the rows from 1 on
+pub record AreMarked (old : Held) (rows : List ℕ) (left right bound n : ℕ) (new : Held) (ends : List ℕ) : Type 0 where
+  pub count : length ends ≡ n
+  pub start : 0 < n → HasLeaves new (slice_index ends 0) (λ pk. merged (marked old left 1 pk) (marked old right 2 pk))
+  pub rest : (l : ℕ) → 0 < l → l < n → HasLeaves new (slice_index ends l) (λ pk. marked old (slice_index rows l) (mark_of bound l) pk)
+
+-- the outs make the packet y, with that target
+abbrev pub Makes : List Out → List ℕ → List ℕ → ℕ → Type 0
+Makes outs pk y t = (g : List (ℕ × ℕ)) × Contains outs (record { act = g; target = t }) × (y ≡ applied g pk)
+
+-- the side with that mark and start ends with y at some label of the set
+abbrev pub EndsAt : Held → List ℕ → ℕ → ℕ → ℕ → List ℕ → List ℕ → List ℕ → Type 0
+EndsAt st rows start bound mark set pk y =
+    (Contains set 0 × Sends st start pk y 0) ⊎ ((l : ℕ) × Contains set l × (0 < l) × (mark_of bound l ≡ mark) × Sends st (slice_index rows l) pk y 0)
+
+-- the finals with target 0 are what the left side alone ends with, those with target 1 what the right side alone does
+pub record AreOneSided (st : Held) (rows : List ℕ) (left right bound : ℕ) (set pk : List ℕ) (outs : List Out) : Type 0 where
+  pub left_alone : (y : List ℕ) → Makes outs pk y 0 ↔ (EndsAt st rows left bound 1 set pk y × (EndsAt st rows right bound 2 set pk y → ⊥))
+  pub right_alone : (y : List ℕ) → Makes outs pk y 1 ↔ (EndsAt st rows right bound 2 set pk y × (EndsAt st rows left bound 1 set pk y → ⊥))

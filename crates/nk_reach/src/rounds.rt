@@ -1,0 +1,63 @@
+//! One round of the levels.
+ghost use Rattle.std.specs.Prelude.{◌≡◌, IfOk, OnOk, length};
+ghost use Rattle.nk_store.specs.Held.{Grows};
+ghost use Rattle.nk_determ.specs.Sets.{SetsGrow};
+ghost use Rattle.nk_reach.specs.Pairs.{AreRows, ArePairs, Once};
+ghost use Rattle.nk_reach.specs.Rounds.{HaveSets, AreSpare, IsNextLevel, IsFresh};
+
+use crate::entries::{listed, unmet};
+use crate::follow::follow_level;
+use indexmap::IndexMap;
+use nk_determ::{SetId, Sets};
+use nk_field::List;
+use nk_sets::is_empty;
+use nk_store::{Id, Store};
+use std::alloc::AllocError;
+
+/// What the last level leads to and was not met.
+pub(crate) fn next_level(
+    st: &mut Store,
+    ss: &mut Sets,
+    rows: &[Id],
+    cut: &mut List<Id>,
+    met: &IndexMap<SetId, Id>,
+    last: &List<(SetId, Id)>,
+) -> Result<List<(SetId, Id)>, AllocError>
+    requires rows { AreRows st.old rows.now }
+    requires cut { AreSpare st.old rows.now cut.old }
+    requires met { ArePairs st.old ss.old (length rows.now) met.now.entries }
+    requires last { ArePairs st.old ss.old (length rows.now) last.now }
+    ensures grows { Grows st.old st.new }
+    ensures sets { SetsGrow ss.old ss.new }
+    ensures cut { OnOk result (AreSpare st.new rows.now cut.new) }
+    ensures ok { IfOk result (λ level. IsNextLevel st.old ss.old rows.now met.now.entries last.now st.new ss.new level) }
+{
+    let found = follow_level(st, ss, rows, cut, last)?;
+    let raw = listed(st.alloc(), found)?;
+    let level = fresh(st, met, &raw)?;
+    Ok(level)
+}
+
+/// The packets of a level that were not met, where there are any.
+fn fresh(
+    st: &mut Store,
+    met: &IndexMap<SetId, Id>,
+    raw: &List<(SetId, Id)>,
+) -> Result<List<(SetId, Id)>, AllocError>
+    requires met { HaveSets st.old met.now.entries }
+    requires once { Once met.now.entries }
+    requires raw { HaveSets st.old raw.now }
+    requires apart { Once raw.now }
+    ensures grows { Grows st.old st.new }
+    ensures ok { IfOk result (λ level. IsFresh st.old met.now.entries raw.now st.new level) }
+{
+    let mut level = List::new(st.alloc());
+    for k in 0..raw.len() {
+        let (t, y) = *raw.at(k);
+        let rest = unmet(st, met, t, y)?;
+        if !is_empty(st, rest) {
+            level.push((t, rest))?;
+        }
+    }
+    Ok(level)
+}

@@ -1,0 +1,90 @@
+//! Levels.
+ghost use Rattle.std.specs.Prelude.{◌≡◌, ℕ, ◌<◌, ◌≤◌, [], ◌∷◌, IfOk, OnOk, length, slice_index_or, List as Items};
+ghost use Rattle.nk_store.specs.Held.{Held, Grows};
+ghost use Rattle.nk_sets.specs.PacketSets.{IsSet};
+ghost use Rattle.nk_determ.specs.Sets.{SetsGrow};
+ghost use Rattle.nk_reach.specs.Pairs.{AreRows, HavePlaces};
+ghost use Rattle.nk_reach.specs.Levels.{AreLevels};
+
+use crate::entries::merge;
+use crate::goal::{Goal, any_bad};
+use crate::rounds::next_level;
+use crate::shape::Levels;
+use indexmap::IndexMap;
+use nk_determ::{SetId, Sets};
+use nk_field::List;
+use nk_store::{Id, Store};
+use std::alloc::{AllocError, Global};
+
+/// The levels of rows, from a set state at the packets given.
+pub fn levels<G: Goal>(
+    st: &mut Store,
+    ss: &mut Sets,
+    rows: &[Id],
+    s: SetId,
+    start: Id,
+    g: &mut G,
+) -> Result<Levels, AllocError>
+    requires fits { G.fits g.old st.old }
+    requires labels { length rows.now ≤ G.labels g.old }
+    requires rows { AreRows st.old rows.now }
+    requires set { s < length ss.old }
+    requires places { HavePlaces (length rows.now) (slice_index_or ss.old s []) }
+    requires packets { IsSet st.old start }
+    ensures grows { Grows st.old st.new }
+    ensures sets { SetsGrow ss.old ss.new }
+    ensures ok { IfOk result (λ l. AreLevels st.old st.new ss.new rows.now s start (G.bad_of g.old st.old) l.levels l.broken) }
+    ensures fits { OnOk result (G.fits g.new st.new) }
+    ensures labels { OnOk result (G.labels g.new ≡ G.labels g.old) }
+    ensures same { OnOk result ((st : Held) (set pk : Items ℕ) → G.bad_of g.new st set pk ≡ G.bad_of g.old st set pk) }
+{
+    let alloc = st.alloc();
+    let mut met = first_met(alloc, s, start)?;
+    let mut cut = spare(alloc, rows)?;
+    let mut all = List::new(alloc);
+    all.push(first_level(alloc, s, start)?)?;
+    loop {
+        let last = all.len() - 1;
+        if any_bad(st, ss, all.at(last), g)? {
+            return Ok(Levels {
+                levels: all,
+                broken: true,
+            });
+        }
+        let level = next_level(st, ss, rows, &mut cut, &met, all.at(last))?;
+        if level.len() == 0 {
+            return Ok(Levels {
+                levels: all,
+                broken: false,
+            });
+        }
+        merge(st, &mut met, &level)?;
+        all.push(level)?;
+    }
+}
+
+/// The set state and the packets that the levels start from.
+fn first_level(alloc: Global, s: SetId, start: Id) -> Result<List<(SetId, Id)>, AllocError>
+    ensures { IfOk result (λ l. l ≡ (s, start) ∷ []) }
+{
+    let mut level = List::new(alloc);
+    level.push((s, start))?;
+    Ok(level)
+}
+
+/// What is met before the first round.
+fn first_met(alloc: Global, s: SetId, start: Id) -> Result<IndexMap<SetId, Id>, AllocError>
+    ensures { IfOk result (λ m. m.entries ≡ (s, start) ∷ []) }
+{
+    let mut met = IndexMap::new(alloc);
+    met.insert(s, start)?;
+    Ok(met)
+}
+
+/// As many diagrams as rows, to be written over.
+fn spare(alloc: Global, rows: &[Id]) -> Result<List<Id>, AllocError>
+    ensures { IfOk result (λ cut. cut ≡ rows.now) }
+{
+    let cut = Vec::from_slice(alloc, rows)?;
+    Ok(List::from_vec(cut))
+}

@@ -1,0 +1,190 @@
+//! The goal of one side alone.
+ghost use Rattle.std.specs.Prelude.{◌≡◌, ℕ, ◌<◌, ◌++◌, cond, eqb, IfOk, OnOk, flat_map, map, length, slice_index, List as Items};
+ghost use Rattle.std.proofs.Common.{ap};
+ghost use Rattle.nk_store.specs.Held.{IsId, IsPacket, Grows, HasLeaves};
+ghost use Rattle.nk_algebra.specs.Unions.{AreIds};
+ghost use Rattle.nk_algebra.specs.Leaves.{merged};
+ghost use Rattle.nk_reach.specs.Pairs.{HavePlaces};
+ghost use Rattle.nk_reach.specs.Sides.{alone_out, alone, ends_of, ends_same, twin, marked, mark_of, AreMarked, AreOneSided};
+
+use crate::goal::Goal;
+use nk_algebra::{LeafMap, map_leaves, union, union_all};
+use nk_determ::{SetId, Sets, retarget, split};
+use nk_field::List;
+use nk_store::{Id, Out, Store};
+use std::alloc::{AllocError, Global};
+
+/// What one of two sides alone ends at is bad: a final with target 0 is the left side's, one with target 1 the right's.
+#[derive(Drop)]
+pub struct OneSide {
+    /// By label the diagram of its marked ends: acts that assign exactly what they change, with target 1 where the left side
+    /// ends and 2 where the right side does. A label of both sides has both.
+    pub ends: List<Id>,
+}
+
+impl Goal for OneSide {
+    ghost fits = { λ g st. AreIds st g.ends };
+
+    ghost labels = { λ g. length g.ends };
+
+    ghost bad_of = { λ g st set pk. alone (ends_of st g.ends set pk) };
+
+    ghost fits_on = { λ g old new fits grows i l. grows.ids (slice_index g.ends i) (fits i l) };
+
+    ghost bad_on = { λ g old new set pk fits grows places. ap alone (ends_same old new g.ends set pk grows fits places) };
+
+    fn bad(&mut self, st: &mut Store, ss: &Sets, s: SetId) -> Result<Id, AllocError> {
+        let ds = ends_at(st.alloc(), self.ends.as_slice(), ss.members(s))?;
+        let ends = union_all(st, ds.as_slice())?;
+        map_leaves(st, &Alone {}, ends)
+    }
+}
+
+impl OneSide {
+    /// The goal for rows of which the first one stands for the starts of both sides, those below the bound for labels of the
+    /// left side, and the others for labels of the right. The only error is that memory ran out.
+    pub fn new(
+        st: &mut Store,
+        rows: &[Id],
+        left: Id,
+        right: Id,
+        bound: usize,
+    ) -> Result<OneSide, AllocError>
+        requires rows { AreIds st.old rows.now }
+        requires left { IsId st.old left }
+        requires right { IsId st.old right }
+        ensures grows { Grows st.old st.new }
+        ensures ids { IfOk result (λ g. AreIds st.new g.ends) }
+        ensures marked { IfOk result (λ g. AreMarked st.old rows.now left right bound (length rows.now) st.new g.ends) }
+        ensures alone { IfOk result (λ g. (set pk : Items ℕ) → HavePlaces (length rows.now) set → IsPacket st.old pk →
+            AreOneSided st.old rows.now left right bound set pk (alone (ends_of st.new g.ends set pk))) }
+    {
+        st.laws();
+        let mut ends = List::new(st.alloc());
+        for l in 0..rows.len() {
+            let d = marked_row(st, rows, left, right, bound, l)?;
+            ends.push(d)?;
+        }
+        Ok(OneSide { ends })
+    }
+}
+
+/// The marked ends of a label.
+fn marked_row(
+    st: &mut Store,
+    rows: &[Id],
+    left: Id,
+    right: Id,
+    bound: usize,
+    l: usize,
+) -> Result<Id, AllocError>
+    requires rows { AreIds st.old rows.now }
+    requires left { IsId st.old left }
+    requires right { IsId st.old right }
+    requires label { l < length rows.now }
+    ensures grows { Grows st.old st.new }
+    ensures start { IfOk result (λ d. l ≡ 0 → HasLeaves st.new d (λ pk. merged (marked st.old left 1 pk) (marked st.old right 2 pk))) }
+    ensures rest { IfOk result (λ d. 0 < l → HasLeaves st.new d (λ pk. marked st.old (slice_index rows.now l) (mark_of bound l) pk)) }
+{
+    if l == 0 {
+        return marked_starts(st, left, right);
+    }
+    marked_ends(st, rows[l], side_mark(bound, l))
+}
+
+/// The marked ends of both starts.
+fn marked_starts(st: &mut Store, left: Id, right: Id) -> Result<Id, AllocError>
+    requires left { IsId st.old left }
+    requires right { IsId st.old right }
+    ensures grows { Grows st.old st.new }
+    ensures ok { IfOk result (λ d. HasLeaves st.new d (λ pk. merged (marked st.old left 1 pk) (marked st.old right 2 pk))) }
+{
+    let first = marked_ends(st, left, 1)?;
+    let second = marked_ends(st, right, 2)?;
+    union(st, first, second)
+}
+
+/// The finals of a diagram, made exact and marked.
+fn marked_ends(st: &mut Store, d: Id, mark: u64) -> Result<Id, AllocError>
+    requires { IsId st.old d }
+    ensures grows { Grows st.old st.new }
+    ensures ok { IfOk result (λ r. HasLeaves st.new r (λ pk. marked st.old d mark pk)) }
+{
+    let exact = split(st, d)?;
+    retarget(st, exact, &[Some(mark)])
+}
+
+/// The mark of a label's side.
+fn side_mark(bound: usize, l: usize) -> u64
+    ensures { result ≡ mark_of bound l }
+{
+    if l < bound { 1 } else { 2 }
+}
+
+/// The diagrams of some labels.
+fn ends_at(alloc: Global, ends: &[Id], labels: &[u64]) -> Result<List<Id>, AllocError>
+    requires { HavePlaces (length ends.now) labels.now }
+    ensures { IfOk result (λ ds. ds ≡ map (slice_index ends.now) labels.now) }
+{
+    let mut ds = List::new(alloc);
+    for l in labels {
+        ds.push(ends[*l as usize])?;
+    }
+    Ok(ds)
+}
+
+/// The ends of one side alone.
+#[derive(Drop)]
+struct Alone {}
+
+impl LeafMap for Alone {
+    ghost mapped = { λ _ os. alone os };
+
+    ghost allowed = { λ _ _. Unit {0} };
+
+    fn map(&self, alloc: Global, outs: &[Out]) -> Result<List<Out>, AllocError> {
+        alone_outs(alloc, outs)
+    }
+}
+
+/// The ends of one side alone, in their order.
+fn alone_outs(alloc: Global, outs: &[Out]) -> Result<List<Out>, AllocError>
+    ensures { IfOk result (λ r. r ≡ flat_map (alone_out outs.now) outs.now) }
+{
+    let mut all = List::new(alloc);
+    for o in outs {
+        push_alone(&mut all, outs, o)?;
+    }
+    Ok(all)
+}
+
+/// Appends an end that the other side has not.
+fn push_alone(all: &mut List<Out>, outs: &[Out], o: &Out) -> Result<(), AllocError>
+    ensures { OnOk result (all.new ≡ all.old ++ alone_out outs.now o.now) }
+{
+    let other = twin_of(o)?;
+    if !outs.contains(&other) {
+        all.push(Out {
+            act: o.act.copy()?,
+            target: side(o.target),
+        })?;
+    }
+    Ok(())
+}
+
+/// The same end of the other side.
+fn twin_of(o: &Out) -> Result<Out, AllocError>
+    ensures { IfOk result (λ p. p ≡ twin o.now) }
+{
+    Ok(Out {
+        act: o.act.copy()?,
+        target: if o.target == 1 { 2 } else { 1 },
+    })
+}
+
+/// The number of the side that a mark tells: 0 for the left, 1 for the right.
+fn side(mark: u64) -> u64
+    ensures { result ≡ cond (eqb mark 1) 0 1 }
+{
+    if mark == 1 { 0 } else { 1 }
+}
