@@ -1,0 +1,4 @@
+pub mod Naming
+pub mod Listed
+mod Adding
+pub mod Below

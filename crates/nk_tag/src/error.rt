@@ -1,0 +1,28 @@
+//! Why sets have no numbers.
+ghost use Rattle.std.specs.Prelude.{◌≡◌};
+ghost use Rattle.nk_tag.specs.declared.error.NumberError.TheVariants.{NoMemory};
+
+use std::alloc::AllocError;
+use thiserror::Error;
+
+/// Why no numbers were given.
+#[derive(Clone, Copy, PartialEq, Eq, Debug, Error)]
+pub enum NumberError {
+    /// Memory ran out.
+    #[error("no memory")]
+    NoMemory,
+    /// There are more sets at odd levels than may be.
+    #[error("too many tags, found {found}")]
+    TooManyTags {
+        /// How many sets were found: one more than may be, whatever their true number.
+        found: u64,
+    },
+}
+
+impl From<AllocError> for NumberError {
+    ghost from_gives = { λ _ e. e ≡ NoMemory };
+
+    fn from(_: AllocError) -> Self {
+        NumberError::NoMemory
+    }
+}

@@ -1,0 +1,129 @@
+//! Numbers of the sets at odd levels.
+ghost use Rattle.std.specs.Prelude.{◌≡◌, ◌≤◌, ◌<◌, ◌+◌, ◌*◌, ◌^◌, false, IfOk, IfErr, OnOk, [], length, map, All, nat_eq, slice_index_or};
+ghost use Rattle.std.specs.List.Sorted.{IsPermutation, IsSorted};
+ghost use Rattle.nk_reach.specs.Pairs.{Once};
+ghost use Rattle.indexmap.specs.IndexSet.{insert_all};
+ghost use Rattle.nk_tag.specs.Numbers.{AreEntries, AreNumbers, IsFault};
+ghost use Rattle.nk_tag.specs.Steps.{unseen, set_cmp, IsAdded};
+
+use crate::error::NumberError;
+use indexmap::IndexSet;
+use nk_determ::{SetId, Sets};
+use nk_field::List;
+use nk_reach::Levels;
+use nk_store::Id;
+use std::alloc::{AllocError, Global};
+
+/// The sets at odd levels, each once: by the first odd level that names them, inside a level by their members in
+/// dictionary order; there are at most `max`. Where there are more, the error tells one more than that.
+pub fn number(ss: &Sets, lv: &Levels, max: u64) -> Result<List<SetId>, NumberError>
+    requires not_broken { lv.now.broken ≡ false }
+    requires entries { AreEntries ss.now lv.now.levels }
+    requires below_last { max + 1 < 2 ^ 64 }
+    ensures ok { IfOk result (λ r. AreNumbers ss.now lv.now.levels r) }
+    ensures few { IfOk result (λ r. length r ≤ max) }
+    ensures err { IfErr result (λ e. IsFault lv.now.levels max e) }
+{
+    let alloc = lv.levels.alloc();
+    let mut all = IndexSet::new(alloc);
+    for j in 0..lv.levels.len() / 2 {
+        add_level(alloc, ss, lv, 2 * j + 1, &mut all)?;
+        if all.len() as u64 > max {
+            return Err(NumberError::TooManyTags { found: max + 1 });
+        }
+    }
+    let ids = set_ids(alloc, all.as_slice())?;
+    Ok(ids)
+}
+
+/// The numbers with those of the level at a place.
+fn add_level(
+    alloc: Global,
+    ss: &Sets,
+    lv: &Levels,
+    i: usize,
+    all: &mut IndexSet<usize>,
+) -> Result<(), AllocError>
+    requires place { i < length lv.now.levels }
+    requires entries { AreEntries ss.now lv.now.levels }
+    ensures { OnOk result (IsAdded ss.now (slice_index_or lv.now.levels i []) all.old.keys all.new.keys) }
+{
+    let level = lv.levels.at(i);
+    add_sets(alloc, ss, level.as_slice(), all)
+}
+
+/// The numbers with those of a level.
+fn add_sets(
+    alloc: Global,
+    ss: &Sets,
+    level: &[(SetId, Id)],
+    all: &mut IndexSet<usize>,
+) -> Result<(), AllocError>
+    requires known { All (λ p. p.0 < length ss.now) level.now }
+    requires once { Once level.now }
+    ensures { OnOk result (IsAdded ss.now level.now all.old.keys all.new.keys) }
+{
+    ss.differ();
+    let mut sets = unseen_sets(alloc, ss, level, all)?;
+    sort_sets(&mut sets);
+    append(sets.as_slice(), all)?;
+    Ok(())
+}
+
+/// The sets of a level that have no number yet, with their members.
+fn unseen_sets(
+    alloc: Global,
+    ss: &Sets,
+    level: &[(SetId, Id)],
+    all: &IndexSet<usize>,
+) -> Result<Vec<(List<u64>, usize)>, AllocError>
+    requires { All (λ p. p.0 < length ss.now) level.now }
+    ensures { IfOk result (λ v. v.items ≡ unseen ss.now all.now.keys level.now) }
+{
+    let mut sets = Vec::new(alloc);
+    for entry in level {
+        let id = entry.0;
+        if !all.contains(&id.place()) {
+            sets.push((members_of(alloc, ss, id)?, id.place()))?;
+        }
+    }
+    Ok(sets)
+}
+
+/// The members of a set.
+fn members_of(alloc: Global, ss: &Sets, id: SetId) -> Result<List<u64>, AllocError>
+    requires { id < length ss.now }
+    ensures { IfOk result (λ v. v ≡ slice_index_or ss.now id []) }
+{
+    let members = Vec::from_slice(alloc, ss.members(id))?;
+    Ok(List::from_vec(members))
+}
+
+/// Puts sets in order, by their members.
+fn sort_sets(sets: &mut Vec<(List<u64>, usize)>)
+    ensures same { IsPermutation sets.old.items sets.new.items }
+    ensures sorted { IsSorted set_cmp sets.new.items }
+{
+    sets.sort_unstable();
+}
+
+/// Gives the sets numbers behind all others.
+fn append(sets: &[(List<u64>, usize)], all: &mut IndexSet<usize>) -> Result<(), AllocError>
+    ensures { OnOk result (all.new.keys ≡ insert_all nat_eq all.old.keys (map (λ x. x.1) sets.now)) }
+{
+    for set in sets {
+        all.insert(set.1)?;
+    }
+    Ok(())
+}
+
+/// The numbers as sets.
+fn set_ids(alloc: Global, places: &[usize]) -> Result<List<SetId>, AllocError>
+    ensures { IfOk result (λ r. r ≡ places.now) }
+{
+    let mut ids = List::new(alloc);
+    for place in places {
+        ids.push(SetId::new(*place))?;
+    }
+    Ok(ids)
+}
