@@ -20,7 +20,7 @@ use Rattle.nk_tabtext.specs.Values.{tables_of}
 use Rattle.nk_compile.specs.declared.refusal.Refusal.{Refusal}
 use Rattle.nk_compile.specs.Headline.{IsCompiled}
 use Rattle.nk_compile.specs.Refusals.{IsRefused}
-use Rattle.nk_compile.specs.TextTables.{HasFewGroups}
+use Rattle.nk_readback.specs.TextTables.{HasFewGroups}
 use Rattle.nk.specs.Messages.{fault_line, fault_words, refusal_line}
 
 -- the kinds of answer that a command has, each with its text: it is done; what was compared differs;

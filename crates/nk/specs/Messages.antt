@@ -30,7 +30,6 @@ fault_words kind.TooLarge = codes "too large"
 
 -- the line of a policy's refusal
 abbrev pub refusal_line : Refusal → List ℕ
-refusal_line refusal.NotYet = codes "refused C0: not yet\n"
 refusal_line refusal.NoPolicy = codes "refused C1: no policy\n"
 refusal_line refusal.NoTag = codes "refused C2: no tag\n"
 refusal_line refusal.TagUsed = codes "refused C3: tag used\n"
@@ -38,3 +37,4 @@ refusal_line refusal.LooseDup = codes "refused C4: loose dup\n"
 refusal_line refusal.SwitchSet = codes "refused C5: switch set\n"
 refusal_line refusal.NoSuchLink = codes "refused C6: no such link\n"
 refusal_line refusal.OffEdge = codes "refused C7: off edge\n"
+refusal_line (refusal.TooManyTags found) = codes "refused C8: too many tags, found " ++ decimal found ++ codes "\n"

@@ -12,13 +12,13 @@ ghost use Rattle.nk.specs.Reply.{said};
 
 use crate::Said;
 use crate::messages::{refusal_message, text_fault, words_of};
-use nk_compile::laws::compiled_tables_are_printable;
 use nk_compile::{CompileError, compile};
 use nk_grammar::{File, GrammarError, file};
 use nk_lex::{LexError, Token, tokens};
 use nk_names::laws::{declared_fields_are_writable, declared_topologies_are_declarable};
 use nk_names::reading::program;
 use nk_names::{NamesError, Program};
+use nk_readback::laws::compiled_tables_are_printable;
 use nk_tabtext::{printed_tables_are_read, table_text};
 use std::alloc::{AllocError, Global};
 

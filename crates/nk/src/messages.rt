@@ -48,12 +48,23 @@ pub(crate) fn words_of(kind: FaultKind) -> &'static str
     }
 }
 
+/// The message for a policy that needs too many tags.
+fn tags_message(alloc: Global, found: u64) -> Result<Vec<u8>, AllocError>
+    ensures { IfOk result (λ v. v.items ≡ codes "refused C8: too many tags, found " ++ decimal found ++ codes "\n") }
+{
+    let mut buffer = Buffer::new();
+    let mut message = Vec::new(alloc);
+    message.extend_from_slice(b"refused C8: too many tags, found ")?;
+    message.extend_from_slice(buffer.format(found).as_bytes())?;
+    message.extend_from_slice(b"\n")?;
+    Ok(message)
+}
+
 /// The message for a policy that is refused, with its line feed.
 pub(crate) fn refusal_message(alloc: Global, reason: Refusal) -> Result<Vec<u8>, AllocError>
     ensures { IfOk result (λ v. v.items ≡ refusal_line reason) }
 {
     let message: &[u8] = match reason {
-        Refusal::NotYet => b"refused C0: not yet\n",
         Refusal::NoPolicy => b"refused C1: no policy\n",
         Refusal::NoTag => b"refused C2: no tag\n",
         Refusal::TagUsed => b"refused C3: tag used\n",
@@ -61,6 +72,7 @@ pub(crate) fn refusal_message(alloc: Global, reason: Refusal) -> Result<Vec<u8>,
         Refusal::SwitchSet => b"refused C5: switch set\n",
         Refusal::NoSuchLink => b"refused C6: no such link\n",
         Refusal::OffEdge => b"refused C7: off edge\n",
+        Refusal::TooManyTags { found } => return tags_message(alloc, found),
     };
     Vec::from_slice(alloc, message)
 }

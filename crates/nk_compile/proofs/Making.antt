@@ -1,29 +1,25 @@
--- From the diagram that was drawn to the tables of a policy, and from the fault there to the reason of a refusal.
-use Rattle.std.proofs.Common.{◌≡◌, ℕ, Bool, true, false, List, refl, sym, ap, subst, ◌∙◌, Some, None}
-use Rattle.std.specs.Prelude.{◌||◌, Option, Result, Ok, Err, IfErr, IsErrAnd, MatchOption, is_some, if◌then◌else◌}
+-- From what is seen of a policy, its levels and its tag sets to its tables or the reason of a refusal.
+use Rattle.std.proofs.Common.{◌≡◌, ℕ, ◌+◌, ◌≤◌, Bool, true, false, List, [], length, refl, sym, ap, subst, ◌∙◌, Some, None}
+use Rattle.std.specs.Prelude.{Option, Result, Ok, Err, IfErr, IsErrAnd, if◌then◌else◌, slice_index, All, map}
 use Rattle.nk_field.specs.Packet.{FieldTable, IsFieldTable}
-use Rattle.nk_topo.specs.Topology.{Topology, numbers_of}
-use Rattle.nk_policy.specs.Policy.{Policy}
+use Rattle.nk_topo.specs.Topology.{Topology, IsTopology}
+use Rattle.nk_policy.specs.Policy.{Policy, marked_from}
 use Rattle.nk_policy.specs.Leaves.{has_leaf, is_on_field, is_dup, is_switch_assignment}
-use Rattle.nk_policy.specs.Ranges.{IsInRange}
-use Rattle.nk_policy.proofs.Tests.{both_false}
-use Rattle.nk_names.specs.Accepted.{IsStart, is_link_outside, most_tags}
-use Rattle.nk_names.specs.Complements.{NegatesPredicates}
-use Rattle.nk_store.specs.Held.{Held, IsOver, HasFields}
-use Rattle.nk_auto.specs.Plain.{IsPlain}
-use Rattle.nk_extract.specs.RowsOf.{IsFrame, IsPrintable}
+use Rattle.nk_policy.specs.Labels.{IsTagSet, AtLeast}
+use Rattle.nk_names.specs.Accepted.{IsStart, IsCompilable, is_link_outside, most_tags}
 use Rattle.nk_table.specs.declared.Table.{Table}
-use Rattle.nk_compile.specs.Refusals.{is_link, has_star, seen_with, seen_for, seen, IsReason}
-use Rattle.nk_compile.specs.SwitchTables.{AreTablesAt}
-use Rattle.nk_compile.specs.Drawn.{IsDrawn, IsUndrawn}
+use Rattle.nk_table.specs.declared.Tables.{Tables}
+use Rattle.nk_tag.specs.Numbers.{IsAtOdd}
+use Rattle.nk_compile.specs.Refusals.{seen_with, seen_for, seen, IsReason}
 use Rattle.nk_compile.specs.Answers.{AreMade, IsError}
+use Rattle.nk_compile.specs.Levelled.{IsTagFault}
+use Rattle.nk_compile.specs.OffEdge.{EndsOffEdge, EndsOnEdges}
+use Rattle.nk_compile.specs.Ready.{IsClear}
+use Rattle.nk_compile.specs.WholeTable.{IsTableOf}
 use Rattle.nk_compile.specs.declared.refusal.Refusal.{Refusal}
-use Rattle.nk_compile.specs.declared.refusal.Refusal.TheVariants.{NoPolicy, NoTag, TagUsed, LooseDup, SwitchSet, NoSuchLink, NotYet, OffEdge}
+use Rattle.nk_compile.specs.declared.refusal.Refusal.TheVariants.{NoPolicy, NoTag, TagUsed, LooseDup, SwitchSet, NoSuchLink, OffEdge, TooManyTags}
 use Rattle.nk_compile.specs.declared.refusal.CompileError.{CompileError}
 use Rattle.nk_compile.specs.declared.refusal.CompileError.TheVariants.{NoMemory, Refused}
-use Rattle.nk_compile.proofs.Printable.{is_printable}
-use Rattle.nk_compile.proofs.Whole.{IsSetUp, elsewhere_ends, all_end, tables_are, is_compilable, few_tags}
-use Rattle.nk_compile.proofs.Fitting.{plain_of, set_up, frame, within}
 
 -- an error that is passed on
 pub refused_with : {X : Type 0} (r : Result X CompileError) (e : CompileError) (Q : CompileError → Type 0) →
@@ -31,133 +27,114 @@ pub refused_with : {X : Type 0} (r : Result X CompileError) (e : CompileError) (
 refused_with (Ok x) e Q h q = absurd h
 refused_with (Err d) e Q h q = subst Q (sym h) q
 
--- where nothing was found, what holds then holds
-pub none_found : {X A : Type 0} (o : Option X) (P : X → Type 0) → is_some o ≡ false → MatchOption o A P → A
-none_found None P h m = m
-none_found (Some x) P h m = cc
+-- the first reason of four tests
+abbrev first_reason : Bool → Bool → Bool → Bool → Option Refusal
+first_reason a b c d = if a then Some TagUsed else if b then Some LooseDup else if c then Some SwitchSet else if d then Some NoSuchLink else None
 
--- what is not seen
-pub record IsClear (tag : ℕ) (topo : Topology) (p : Policy) : Type 0 where
-  pub no_tag : has_leaf (is_on_field tag) p ≡ false
-  pub no_dup : has_leaf is_dup p ≡ false
-  pub no_switch : has_leaf is_switch_assignment p ≡ false
-  pub links : has_leaf (is_link_outside topo.links) p ≡ false
-  pub no_link : has_leaf is_link p ≡ false
-  pub no_star : has_star p ≡ false
+-- equal options have equal values
+value_is : (a b : Refusal) → Some a ≡ Some b → a ≡ b
+value_is a b h = cc
 
--- the first reason of five tests
-abbrev first_reason : Bool → Bool → Bool → Bool → Bool → Option Refusal
-first_reason a b c d e =
-    if a then Some TagUsed else if b then Some LooseDup else if c then Some SwitchSet else if d then Some NoSuchLink else if e then Some NotYet else None
+-- no value is none
+none_some : (r : Refusal) → ◌≡◌ {A = Option Refusal} None (Some r) → ⊥
+none_some r h = cc
 
--- a reason is some reason
-some_none : (r : Refusal) → Some r ≡ None → ⊥
-some_none r h = cc
-
--- two reasons that differ
-other_reason : ◌≡◌ {A = Option Refusal} (Some NotYet) (Some OffEdge) → ⊥
-other_reason h = cc
+-- what follows of a reason that is seen, by the four of them
+by_reason : (P : Refusal → Type 0) → P TagUsed → P LooseDup → P SwitchSet → P NoSuchLink → (a b c d : Bool) (r : Refusal) → first_reason a b c d ≡ Some r → P r
+by_reason P t l s n true b c d r h = subst P (value_is TagUsed r h) t
+by_reason P t l s n false true c d r h = subst P (value_is LooseDup r h) l
+by_reason P t l s n false false true d r h = subst P (value_is SwitchSet r h) s
+by_reason P t l s n false false false true r h = subst P (value_is NoSuchLink r h) n
+by_reason P t l s n false false false false r h = absurd (none_some r h)
 
 -- where there is none, no test passes
-all_fail : (a b c d e : Bool) → first_reason a b c d e ≡ None →
-    (a ≡ false) × (b ≡ false) × (c ≡ false) × (d ≡ false) × (e ≡ false)
-all_fail true b c d e h = cc
-all_fail false true c d e h = cc
-all_fail false false true d e h = cc
-all_fail false false false true e h = cc
-all_fail false false false false true h = absurd (some_none NotYet h)
-all_fail false false false false false h = (refl, refl, refl, refl, refl)
+all_fail : (a b c d : Bool) → first_reason a b c d ≡ None → (a ≡ false) × (b ≡ false) × (c ≡ false) × (d ≡ false)
+all_fail true b c d h = cc
+all_fail false true c d h = cc
+all_fail false false true d h = cc
+all_fail false false false true h = cc
+all_fail false false false false h = (refl, refl, refl, refl)
 
--- and a packet that is sent off each edge port is none of the reasons
-not_off : (a b c d e : Bool) → first_reason a b c d e ≡ Some OffEdge → ⊥
-not_off true b c d e h = cc
-not_off false true c d e h = cc
-not_off false false true d e h = cc
-not_off false false false true e h = cc
-not_off false false false false true h = other_reason h
-not_off false false false false false h = cc
+-- whether a reason is seen of the tree
+abbrev IsSeen : Refusal → Type 0
+IsSeen NoPolicy = ⊥
+IsSeen NoTag = ⊥
+IsSeen OffEdge = ⊥
+IsSeen (TooManyTags found) = ⊥
+IsSeen r = Unit {0}
 
--- nor is it a name without a policy
-not_nameless : (a b c d e : Bool) → first_reason a b c d e ≡ Some NoPolicy → ⊥
-not_nameless true b c d e h = cc
-not_nameless false true c d e h = cc
-not_nameless false false true d e h = cc
-not_nameless false false false true e h = cc
-not_nameless false false false false true h = cc
-not_nameless false false false false false h = cc
+-- a reason that is seen is one of the four
+pub seen_is : (tag : ℕ) (topo : Topology) (p : Policy) (r : Refusal) → seen_with tag topo p ≡ Some r → IsSeen r
+seen_is tag topo p r h =
+    by_reason IsSeen tt tt tt tt (has_leaf (is_on_field tag) p) (has_leaf is_dup p) (has_leaf is_switch_assignment p) (has_leaf (is_link_outside topo.links) p) r h
 
 -- what is seen of a policy isn't that its name has none
 pub seen_named : (tag : Option ℕ) (topo : Topology) (p : Policy) → seen_for tag topo p ≡ Some NoPolicy → ⊥
 seen_named None topo p h = cc
-seen_named (Some tag) topo p h =
-    not_nameless (has_leaf (is_on_field tag) p) (has_leaf is_dup p) (has_leaf is_switch_assignment p)
-    (has_leaf (is_link_outside topo.links) p) (has_leaf is_link p || has_star p) h
+seen_named (Some tag) topo p h = seen_is tag topo p NoPolicy h
 
 -- a policy of which nothing is seen
-pub is_clear : (tag : ℕ) (topo : Topology) (p : Policy) → seen_with tag topo p ≡ None → IsClear tag topo p
-is_clear tag topo p h =
-    let all = all_fail (has_leaf (is_on_field tag) p) (has_leaf is_dup p) (has_leaf is_switch_assignment p)
-    (has_leaf (is_link_outside topo.links) p) (has_leaf is_link p || has_star p) h in
-    let last = both_false (has_leaf is_link p) (has_star p) all.4 in
-    record { no_tag = all.0; no_dup = all.1; no_switch = all.2; links = all.3; no_link = last.0; no_star = last.1 }
+pub is_clear : (fields : FieldTable) (topo : Topology) (tag : ℕ) (p : Policy) → IsFieldTable fields → fields.tag ≡ Some tag → IsTopology topo → marked_from p 1 ≡ p →
+    seen_with tag topo p ≡ None → IsClear fields topo tag p
+is_clear fields topo tag p table is topology numbered h =
+    let all = all_fail (has_leaf (is_on_field tag) p) (has_leaf is_dup p) (has_leaf is_switch_assignment p) (has_leaf (is_link_outside topo.links) p) h in
+    record {
+      table = table;
+      tag_is = is;
+      topology = topology;
+      numbered = numbered;
+      tag_free = all.0;
+      dups_in_links = all.1;
+      switch_in_links = all.2;
+      links_declared = all.3;
+    }
 
-module _ (fields : FieldTable) (topo : Topology) (p : Policy) (tag : ℕ) (first : Held) (table : IsFieldTable fields) (over : IsOver fields first)
-    (is : fields.tag ≡ Some tag) (complements : NegatesPredicates p) (range : IsInRange p fields) (none : seen_with tag topo p ≡ None) where
-  clear : IsClear tag topo p
-  clear = is_clear tag topo p none
+-- a clear policy that ends at edge ports is compilable
+pub is_compilable : (fields : FieldTable) (topo : Topology) (tag : ℕ) (p : Policy) → IsClear fields topo tag p → EndsOnEdges fields topo p → IsCompilable fields topo p
+is_compilable fields topo tag p k ends = record {
+  tag = tag;
+  tag_declared = k.tag_is;
+  tag_free = k.tag_free;
+  dups_in_links = k.dups_in_links;
+  switch_in_links = k.switch_in_links;
+  links_declared = k.links_declared;
+  ends_on_edges = ends;
+}
 
-  plain : IsPlain p
-  plain = plain_of p complements clear.no_dup clear.no_link clear.no_star
+module _ (fields : FieldTable) (topo : Topology) (tag : ℕ) (p : Policy) (is : fields.tag ≡ Some tag) (none : seen_with tag topo p ≡ None) where
+  -- nothing is seen
+  none_seen : seen fields topo p ≡ None
+  none_seen = ap (λ o. seen_for o topo p) is ∙ none
 
-  -- the fault there is the reason
-  pub undrawn_error : (e : CompileError) → IsUndrawn first.maxes topo tag p e → IsError fields topo p e
-  undrawn_error NoMemory u = tt
-  undrawn_error (Refused r) u =
-      let off = u.1 in
-      subst (λ q. IsReason fields topo p q) (sym u.0) (
-        ap (λ o. seen_for o topo p) is ∙ none,
-        elsewhere_ends fields topo p tag first.maxes (set_up fields first tag table over is) plain (within fields first tag table over is p plain range)
-            off.first off.diagram off.packet off.of.maxes_are off.of.leaves.leaf off.elsewhere,
-      )
+  -- a history off each edge port is a reason
+  pub off_error : EndsOffEdge fields topo p → IsError fields topo p (Refused OffEdge)
+  off_error off = (none_seen, off)
 
-  -- the store of the diagram that was drawn can be printed
-  pub drawn_frame : (st : Held) (r : ℕ) → IsDrawn first.maxes topo tag p st r → IsOver fields st → HasFields st →
-      (t : ℕ) × (st.tag ≡ Some t) × IsFrame st st.width t × ((sw : ℕ) → IsPrintable st t sw r)
-  drawn_frame st r drawn grown has = (
-    tag,
-    grown.tag ∙ is,
-    frame fields st tag table grown is has,
-    λ sw. is_printable first.maxes drawn.before st p drawn.diagram r tag sw (table.tag_past_port tag is).0 plain clear.no_tag clear.no_switch drawn.split,
-  )
-
-  -- its tables are those of the policy
-  pub drawn_made : (st : Held) (r : ℕ) (ts : List Table) → IsDrawn first.maxes topo tag p st r → IsOver fields st →
-      AreTablesAt st tag r (numbers_of topo) ts → AreMade fields topo p ts
-  drawn_made st r ts drawn grown tables =
-      let setup : IsSetUp fields first.maxes tag = set_up fields first tag table over is in
-      let inside = within fields first tag table over is p plain range in
-      record {
-        compilable = is_compilable fields topo p tag first.maxes setup plain inside clear.no_tag clear.no_dup clear.no_switch clear.links
-            (all_end fields topo p tag first.maxes setup plain inside drawn.first drawn.diagram drawn.of.maxes_are drawn.of.leaves.leaf drawn.at_edges);
-        few = few_tags p plain (IsStart fields topo) (most_tags fields fields.tag);
-        printed = λ t same_fields same_topo are.
-            tables_are fields topo p tag first.maxes setup plain inside drawn.before st drawn.diagram r drawn.split grown.width t same_fields same_topo
-            (subst (AreTablesAt st tag r (numbers_of topo)) (sym are) tables);
-      }
+  -- so are too many sets
+  pub many_error : (levels : List (List (ℕ × ℕ))) (max : ℕ) (e : CompileError) → EndsOnEdges fields topo p → max ≡ slice_index fields.maxima tag →
+      ((least : ℕ) → AtLeast least (IsAtOdd levels) → AtLeast least (IsTagSet p (IsStart fields topo))) → IsTagFault levels max e → IsError fields topo p e
+  many_error levels max NoMemory ends most to h = tt
+  many_error levels max (Refused (TooManyTags found)) ends most to h =
+      (none_seen, ends, h.0 ∙ ap (λ n. n + 1) (most ∙ sym (ap (most_tags fields) is)), to found h.1)
+  many_error levels max (Refused NoPolicy) ends most to h = absurd h
+  many_error levels max (Refused NoTag) ends most to h = absurd h
+  many_error levels max (Refused TagUsed) ends most to h = absurd h
+  many_error levels max (Refused LooseDup) ends most to h = absurd h
+  many_error levels max (Refused SwitchSet) ends most to h = absurd h
+  many_error levels max (Refused NoSuchLink) ends most to h = absurd h
+  many_error levels max (Refused OffEdge) ends most to h = absurd h
 
 -- what is seen is the reason
 pub seen_reason : (fields : FieldTable) (topo : Topology) (p : Policy) (tag : ℕ) (r : Refusal) → fields.tag ≡ Some tag →
     seen_with tag topo p ≡ Some r → IsReason fields topo p r
-seen_reason fields topo p tag r is h = reason r (ap (λ o. seen_for o topo p) is ∙ h) h
+seen_reason fields topo p tag r is h = reason r (ap (λ o. seen_for o topo p) is ∙ h) (seen_is tag topo p r h)
   where
-    reason : (q : Refusal) → seen fields topo p ≡ Some q → seen_with tag topo p ≡ Some q → IsReason fields topo p q
+    reason : (q : Refusal) → seen fields topo p ≡ Some q → IsSeen q → IsReason fields topo p q
     reason NoPolicy s w = s
     reason NoTag s w = s
     reason TagUsed s w = s
     reason LooseDup s w = s
     reason SwitchSet s w = s
     reason NoSuchLink s w = s
-    reason NotYet s w = s
-    reason OffEdge s w =
-        absurd (not_off (has_leaf (is_on_field tag) p) (has_leaf is_dup p) (has_leaf is_switch_assignment p)
-        (has_leaf (is_link_outside topo.links) p) (has_leaf is_link p || has_star p) w)
+    reason OffEdge s w = absurd w
+    reason (TooManyTags found) s w = absurd w

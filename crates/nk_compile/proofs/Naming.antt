@@ -1,8 +1,10 @@
 -- From the answer for a policy to that for its name.
-use Rattle.std.proofs.Common.{◌≡◌, ℕ, List, subst, Some}
-use Rattle.std.specs.Prelude.{Result, Ok, Err, IfOk, IfErr}
+use Rattle.std.proofs.Common.{◌≡◌, ℕ, zero, suc, ◌+◌, ◌*◌, ◌<◌, ◌≤◌, List, [], ◌∷◌, get_or, subst, arith, Some}
+use Rattle.std.specs.Prelude.{Result, Ok, Err, IfOk, IfErr, All}
+use Rattle.nk_field.specs.Packet.{FieldTable}
+use Rattle.nk_names.proofs.Good.{few_dups}
 use Rattle.nk_field.proofs.Ascending.{members_from_all}
-use Rattle.nk_policy.specs.Policy.{Policy}
+use Rattle.nk_policy.specs.Policy.{Policy, dups_of}
 use Rattle.nk_policy.specs.Tree.{tree_of}
 use Rattle.nk_policy.specs.declared.policy.Pol.{Pol}
 use Rattle.nk_names.specs.declared.Program.{Program}
@@ -13,7 +15,7 @@ use Rattle.nk_table.specs.declared.Tables.{Tables}
 use Rattle.nk_compile.specs.Refusals.{IsRefused, IsReason}
 use Rattle.nk_compile.specs.Answers.{IsMade, IsError, IsAnswer}
 use Rattle.nk_compile.specs.declared.refusal.Refusal.{Refusal}
-use Rattle.nk_compile.specs.declared.refusal.Refusal.TheVariants.{NoPolicy, NoTag, TagUsed, LooseDup, SwitchSet, NoSuchLink, NotYet, OffEdge}
+use Rattle.nk_compile.specs.declared.refusal.Refusal.TheVariants.{NoPolicy, NoTag, TagUsed, LooseDup, SwitchSet, NoSuchLink, OffEdge, TooManyTags}
 use Rattle.nk_compile.specs.declared.refusal.CompileError.{CompileError}
 use Rattle.nk_compile.specs.declared.refusal.CompileError.TheVariants.{NoMemory, Refused}
 use Rattle.nk_compile.proofs.Making.{seen_named}
@@ -35,8 +37,8 @@ reason_named program name p named TagUsed e = (p, named, e)
 reason_named program name p named LooseDup e = (p, named, e)
 reason_named program name p named SwitchSet e = (p, named, e)
 reason_named program name p named NoSuchLink e = (p, named, e)
-reason_named program name p named NotYet e = (p, named, e)
 reason_named program name p named OffEdge e = (p, named, e)
+reason_named program name p named (TooManyTags found) e = (p, named, e)
 
 -- the answer for the policy is that for its name
 pub answer_named : (program : Program) (name : List ℕ) (p : Policy) (r : Result Tables CompileError) →
@@ -47,3 +49,17 @@ answer_named program name p (Ok t) ok named made error =
     (p, named, accepted, made.printed, accepted_carries program name p t ok named accepted made.printed)
 answer_named program name p (Err NoMemory) ok named made error = tt
 answer_named program name p (Err (Refused r)) ok named made error = reason_named program name p named r error
+
+-- a value of a list of values that are at most so much, 0 past its end
+at_most_all : (xs : List ℕ) (most : ℕ) → All (λ m. m ≤ most) xs → (k : ℕ) → get_or xs k 0 ≤ most
+at_most_all [] most h k = omega arith
+at_most_all (x ∷ xs) most h zero = h 0 0 (omega arith)
+at_most_all (x ∷ xs) most h (suc k) = at_most_all xs most (λ j d lt. h (suc j) d (omega (arith, lt))) k
+
+-- a program's values are such that a number more has room
+pub has_room : (program : Program) → IsProgram program.fields program.topo program.lets → (f : ℕ) → get_or program.fields.maxima f 0 + 1 < 18446744073709551616
+has_room program ok f = let a = at_most_all program.fields.maxima 281474976710655 ok.maxima f in omega (arith, a)
+
+-- a policy of a program has dups enough for numbers
+pub has_few_dups : (fields : FieldTable) (p : Policy) → IsLet fields p → 1 + dups_of p ≤ 4294967296
+has_few_dups fields p k = let a = few_dups p in let b = k.small in omega (arith, a, b)

@@ -122,3 +122,16 @@ sets_united st new test ids given xs i r grows same many done within sets united
           ∙ ap (λ n. unions st ids 0 n pk) (sym (ap length same) ∙ count))
           ∙ sets_any st test ids xs 0 (length xs) pk old (omega arith) (λ k x lt. sets k x (omega (arith, done, lt)));
     }
+
+-- a complement's complement
+twice_not : (b : Bool) → not (not b) ≡ b
+twice_not true = refl
+twice_not false = refl
+
+-- the set itself, by two complements
+pub set_twice : (old mid new : Held) (a others d : ℕ) → Grows old mid → Grows mid new → IsSetOf mid others (λ pk. not (has_out (look old a pk))) →
+    IsSetOf new d (λ pk. not (has_out (look mid others pk))) → IsSetOf new d (λ pk. has_out (look old a pk))
+set_twice old mid new a others d g h one two = record {
+  id = two.id;
+  at = λ pk r. two.at pk r ∙ ap not (one.at pk (subst (λ m. InRange m pk) h.maxes r)) ∙ twice_not (has_out (look old a pk));
+}

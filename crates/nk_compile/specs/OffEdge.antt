@@ -14,3 +14,9 @@ pub record EndsOffEdge (fields : FieldTable) (topo : Topology) (p : Policy) : Ty
   pub starts : IsStart fields topo start
   pub gives : Gives p start records last
   pub off : ¬ IsTrue (is_edge topo (slice_index last 0) (slice_index last 1))
+
+-- each history of a located untagged packet ends at an edge port
+abbrev pub EndsOnEdges : FieldTable → Topology → Policy → Type 0
+EndsOnEdges fields topo p =
+    (start : List ℕ) (records : List (List ℕ)) (last : List ℕ) → IsStart fields topo start → Gives p start records last
+    → IsTrue (is_edge topo (slice_index last 0) (slice_index last 1))

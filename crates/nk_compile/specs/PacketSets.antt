@@ -1,13 +1,8 @@
 -- Diagrams as sets of packets: a packet is in the set where its leaf is not empty.
-use Rattle.std.specs.Prelude.{◌≡◌, ℕ, ◌==◌, ◌&&◌, Bool, true, false, List, [], ◌∷◌, slice_index}
+pub use Rattle.nk_sets.specs.PacketSets.{has_out}
+use Rattle.std.specs.Prelude.{◌≡◌, ℕ, ◌==◌, ◌&&◌, Bool, List, slice_index}
 use Rattle.std.specs.List.{list_any}
-use Rattle.nk_store.specs.declared.node.Out.{Out}
 use Rattle.nk_store.specs.Held.{Held, IsId, IsPacket, look}
-
--- whether there is an out
-abbrev pub has_out : List Out → Bool
-has_out [] = false
-has_out (o ∷ os) = true
 
 -- the diagram's set is that of the packets in range that pass the test
 pub record IsSetOf (st : Held) (d : ℕ) (test : List ℕ → Bool) : Type 0 where

@@ -14,6 +14,7 @@ use Rattle.nk_group.specs.Groups.{groups_of, rows_after}
 use Rattle.nk_table.specs.declared.Plain.{Plain}
 use Rattle.nk_policy.specs.Tags.{AreTags}
 use Rattle.nk_compile.specs.PrintedTable.{IsTreeOf}
+pub use Rattle.nk_switches.specs.Made.{TagTree, rows_of_trees}
 
 abbrev pub or_else : Option ℕ → Option ℕ → Option ℕ
 or_else None o = o
@@ -40,15 +41,6 @@ abbrev pub HasRowsAt : Policy → List (List ℕ) → ℕ → ℕ → Type 0
 HasRowsAt p tags sw zero = Unit {0}
 HasRowsAt p tags sw (suc t) =
     (labels : List ℕ) × (l : ℕ) × (slice_get tags t ≡ Some labels) × Contains labels l × (link_end p l ≡ Some sw)
-
--- a tag beside its tree
-pub record TagTree : Type 0 where
-  pub tag : ℕ
-  pub tree : Diagram (List Bucket)
-
--- the rows of these trees in turn, each with its whole bucket list
-abbrev pub rows_of_trees : ℕ → ℕ → List TagTree → List Plain
-rows_of_trees width tag trees = flat_map (λ e. rows_for width tag e.tag e.tree) trees
 
 -- the table of a switch: the rows of its tags' trees, ascending by tag, and the groups of these rows
 pub record IsSwitchTable (fields : FieldTable) (tag : ℕ) (p : Policy) (tags : List (List ℕ)) (table : Table) : Type 0 where

@@ -10,7 +10,6 @@ use std::alloc::Global;
 /// The printed tables of a named policy: a table for each declared switch, which together carry the policy.
 ///
 /// A policy is refused for the first reason in the order of `Refusal`; the only other error is that memory ran out.
-/// Policies with a star or a link literal aren't compiled yet.
 pub fn compile(alloc: Global, program: &Program, name: &str) -> Result<Tables, CompileError>
     ensures { IsAnswer program.now name.now result }
 {

@@ -3,13 +3,16 @@
 
 mod compilation;
 mod edges;
+mod ends;
 pub mod laws;
 mod places;
 mod refusal;
 mod sets;
 mod sight;
-mod switches;
+mod stops;
 mod tables;
+mod tagging;
+mod wrong_ends;
 
 pub use compilation::compile;
 pub use refusal::{CompileError, Refusal};

@@ -26,12 +26,15 @@ pub enum Refusal {
     /// A link literal is no declared link.
     #[error("no such link")]
     NoSuchLink,
-    /// The policy has a star or a link literal, which aren't compiled yet.
-    #[error("not yet")]
-    NotYet,
     /// A located untagged packet has a history that ends off an edge port.
     #[error("off edge")]
     OffEdge,
+    /// There are more tag sets than the tag has values above 0.
+    #[error("too many tags, found {found}")]
+    TooManyTags {
+        /// One more than the tag's largest value, however many tag sets there are.
+        found: u64,
+    },
 }
 
 /// Why no tables were made.

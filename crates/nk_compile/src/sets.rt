@@ -1,11 +1,12 @@
-//! Sets of packets as diagrams: where packets are, and whether one is in a set.
-ghost use Rattle.std.specs.Prelude.{◌≡◌, ◌≤◌, ◌<◌, ℕ, List as Items, [], ◌==◌, ◌&&◌, not, slice_index, slice_set, slice_index_or, length, IfOk, IfSome, IfNone, MatchOption, false, true};
-ghost use Rattle.nk_store.specs.Held.{IsId, IsPacket, IsStill, Grows, look};
+//! Sets of packets as diagrams: where packets are.
+ghost use Rattle.std.specs.Prelude.{◌≡◌, ◌≤◌, ◌<◌, ℕ, ◌==◌, ◌&&◌, not, slice_index, slice_index_or, length, IfOk};
+ghost use Rattle.nk_store.specs.Held.{IsId, Grows, look};
+ghost use Rattle.nk_algebra.specs.Predicates.{IsPredicate};
 ghost use Rattle.nk_compile.specs.PacketSets.{has_out, IsSetOf, is_at, is_at_place};
 
 use nk_algebra::{both, negate, test, union_all};
-use nk_field::{Fid, List, Packet};
-use nk_store::{Id, Node, Store};
+use nk_field::{Fid, List};
+use nk_store::{Id, Store};
 use std::alloc::AllocError;
 
 /// The packets with a value at a field.
@@ -33,8 +34,20 @@ pub fn outside(st: &mut Store, a: Id) -> Result<Id, AllocError>
     requires { IsId st.old a }
     ensures grows { Grows st.old st.new }
     ensures set { IfOk result (λ d. IsSetOf st.new d (λ pk. not (has_out (look st.old a pk)))) }
+    ensures predicate { IfOk result (λ d. IsPredicate st.new d) }
 {
     negate(st, a)
+}
+
+/// The packets of the set, which passes them as they are.
+pub fn passing(st: &mut Store, a: Id) -> Result<Id, AllocError>
+    requires { IsId st.old a }
+    ensures grows { Grows st.old st.new }
+    ensures set { IfOk result (λ d. IsSetOf st.new d (λ pk. has_out (look st.old a pk))) }
+    ensures predicate { IfOk result (λ d. IsPredicate st.new d) }
+{
+    let others = outside(st, a)?;
+    outside(st, others)
 }
 
 /// The packets at a switch and a port.
@@ -70,39 +83,4 @@ pub fn at_places(st: &mut Store, places: &[(u16, u16)]) -> Result<Id, AllocError
         ids.push(d)?;
     }
     union_all(st, ids.as_slice())
-}
-
-/// Some packet of the set, or none where the set is empty.
-pub fn some_packet(st: &Store, d: Id) -> Option<Packet>
-    requires { IsId st.now d }
-    ensures some { IfSome result (λ pk. IsPacket st.now pk × (has_out (look st.now d pk) ≡ true)) }
-    ensures none { IfNone result ((pk : Items ℕ) → look st.now d pk ≡ []) }
-    ensures still { IsStill st.now d }
-{
-    match st.view(d) {
-        Node::Leaf(outs) => {
-            if outs.len() == 0 {
-                None
-            } else {
-                Some(Packet::zero())
-            }
-        }
-        Node::Case(f, parts) => {
-            for part in parts.as_slice() {
-                if let Some(pk) = some_packet(st, part.1) {
-                    return Some(with_field(pk, *f, part.0));
-                }
-            }
-            None
-        }
-    }
-}
-
-/// The packet with a value at a field.
-fn with_field(pk: Packet, f: Fid, value: u64) -> Packet
-    ensures { result ≡ slice_set pk f value }
-{
-    let mut to = pk;
-    to.put(f, value);
-    to
 }

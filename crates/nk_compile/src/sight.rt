@@ -5,7 +5,7 @@ ghost use Rattle.std.specs.List.{list_any};
 ghost use Rattle.nk_policy.specs.Policy.{test, assign, dup, link};
 ghost use Rattle.nk_policy.specs.Leaves.{has_leaf, some_has_leaf};
 ghost use Rattle.nk_names.specs.Accepted.{is_link_outside};
-ghost use Rattle.nk_compile.specs.Refusals.{has_star, some_has_star, seen_with};
+ghost use Rattle.nk_compile.specs.Refusals.{seen_with};
 ghost use Rattle.nk_compile.specs.Sought.{test_for};
 ghost use Rattle.nk_compile.specs.DeclaredLinks.{is_link_of, is_place};
 
@@ -25,8 +25,6 @@ pub enum Sought {
     SwitchAssignment,
     /// A link literal that is no declared link.
     LinkOutside,
-    /// A link literal.
-    AnyLink,
 }
 
 /// The first reason not to compile a policy that is seen of it, where the tag is declared.
@@ -41,8 +39,6 @@ pub fn seen(p: &Pol, topo: &Topo, tag: Fid) -> Option<Refusal>
         Some(Refusal::SwitchSet)
     } else if holds_leaf(p, topo, &Sought::LinkOutside) {
         Some(Refusal::NoSuchLink)
-    } else if holds_leaf(p, topo, &Sought::AnyLink) || holds_star(p) {
-        Some(Refusal::NotYet)
     } else {
         None
     }
@@ -116,7 +112,6 @@ fn is_sought_link(topo: &Topo, sought: &Sought, from: (u16, u16), to: (u16, u16)
 {
     match sought {
         Sought::LinkOutside => !is_declared(topo, from, to),
-        Sought::AnyLink => true,
         _ => false,
     }
 }
@@ -137,32 +132,4 @@ fn is_at(found: Option<(u16, u16)>, sw: u16, pt: u16) -> bool
         Some(place) => place.0 == sw && place.1 == pt,
         None => false,
     }
-}
-
-/// Whether the policy has a star.
-#[cycle(holds_star)]
-#[tactic(auto, using(nk_policy::proofs::Trees::tree_of_sum, nk_policy::proofs::Trees::tree_of_seq))]
-fn holds_star(p: &Pol) -> bool
-    ensures { result ≡ has_star (tree_of p.now) }
-{
-    match p {
-        Pol::Sum(ps) => some_holds_star(ps.as_slice()),
-        Pol::Seq(ps) => some_holds_star(ps.as_slice()),
-        Pol::Not(q) => holds_star(q),
-        Pol::Star(_) => true,
-        Pol::Test(_, _) | Pol::Set(_, _) | Pol::Dup(_) | Pol::Link(_, _, _, _, _) => false,
-    }
-}
-
-/// Whether one of the policies has one.
-#[cycle(holds_star)]
-fn some_holds_star(ps: &[Pol]) -> bool
-    ensures { result ≡ some_has_star (trees_of ps.now) }
-{
-    for q in ps {
-        if holds_star(q) {
-            return true;
-        }
-    }
-    false
 }

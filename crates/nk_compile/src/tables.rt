@@ -1,47 +1,121 @@
-//! The tables of a policy, by its diagram.
-ghost use Rattle.std.specs.Prelude.{◌≡◌, ◌≤◌, ℕ, Some, None, slice_index, IfOk, IfErr};
-ghost use Rattle.nk_field.specs.Packet.{IsFieldTable};
+//! The tables of a policy, by its automaton.
+ghost use Rattle.std.specs.Prelude.{◌≡◌, ◌≤◌, ◌<◌, ◌+◌, ◌^◌, ◌∷◌, [], ℕ, false, Some, None, slice_index, IfOk, IfErr, length};
+ghost use Rattle.nk_policy.specs.Policy.{marked_from, dups_of};
 ghost use Rattle.nk_policy.specs.Tree.{tree_of};
 ghost use Rattle.nk_policy.specs.Ranges.{IsInRange};
 ghost use Rattle.nk_names.specs.Complements.{NegatesPredicates};
-ghost use Rattle.nk_store.specs.Held.{Grows, HasFields};
+ghost use Rattle.nk_store.specs.Held.{Grows};
+ghost use Rattle.nk_determ.specs.Sets.{SetsGrow};
+ghost use Rattle.nk_reach.specs.Pairs.{AreRows};
+ghost use Rattle.nk_tag.specs.Numbers.{AreEntries, AreNumbers};
+ghost use Rattle.nk_field.specs.Packet.{FieldTable};
+ghost use Rattle.nk_compile.specs.Ready.{IsBegun};
 ghost use Rattle.nk_compile.specs.Refusals.{seen_with};
-ghost use Rattle.nk_compile.specs.Drawn.{IsDrawn, IsUndrawn};
+ghost use Rattle.nk_compile.specs.Levelled.{IsLevelled, IsTagFault, fault_of};
 ghost use Rattle.nk_compile.specs.Answers.{AreMade, IsMade, IsError};
 
-use crate::edges::sent_elsewhere;
+use crate::edges::{off_edges, starts};
 use crate::refusal::{CompileError, Refusal};
 use crate::sight::seen;
-use crate::switches::switch_tables;
-use nk_auto::diagram;
-use nk_determ::split;
+use crate::tagging::tag_tables;
+use crate::wrong_ends::wrong_ends;
+use nk_auto::automaton;
+use nk_determ::{SetId, Sets};
 use nk_field::{Fid, Fields, List};
 use nk_policy::Pol;
+use nk_reach::{Levels, levels};
 use nk_store::{Id, Store};
 use nk_table::{Table, Tables};
+use nk_tag::{NumberError, number};
 use nk_topo::Topo;
-use std::alloc::Global;
+use std::alloc::{AllocError, Global};
 
-/// The diagram of a policy that sends all packets to edge ports, with acts that assign what they change.
-fn drawn(st: &mut Store, topo: &Topo, tag: Fid, p: &Pol) -> Result<Id, CompileError>
+/// The levels of an automaton's rows from the located untagged packets, up to an end at no edge port.
+fn levels_from(
+    st: &mut Store,
+    ss: &mut Sets,
+    topo: &Topo,
+    tag: Fid,
+    rows: &[Id],
+) -> Result<Levels, AllocError>
     requires switch { 65535 ≤ slice_index st.old.maxes 0 }
     requires port { 65535 ≤ slice_index st.old.maxes 1 }
+    requires rows { AreRows st.old rows.now }
+    requires start { 0 < length rows.now }
     ensures grows { Grows st.old st.new }
-    ensures fields { IfOk result (λ r. HasFields st.new) }
-    ensures drawn { IfOk result (λ r. IsDrawn st.old.maxes topo.now tag (tree_of p.now) st.new r) }
-    ensures off { IfErr result (IsUndrawn st.old.maxes topo.now tag (tree_of p.now)) }
+    ensures sets { SetsGrow ss.old ss.new }
+    ensures ok { IfOk result (λ l. IsLevelled topo.now tag st.old rows.now st.new ss.new l.levels l.broken) }
 {
-    let d = diagram(st, p)?;
-    if sent_elsewhere(st, topo, tag, d)?.is_some() {
+    let off = off_edges(st, topo)?;
+    let from = starts(st, topo, tag)?;
+    let mut goal = wrong_ends(st, rows, off)?;
+    let s = ss.intern(start_alone(st.alloc())?)?;
+    st.laws();
+    let lv = levels(st, ss, rows, s, from, &mut goal)?;
+    Ok(lv)
+}
+
+/// The set of the start alone.
+fn start_alone(alloc: Global) -> Result<List<u64>, AllocError>
+    ensures { IfOk result (λ ls. ls ≡ 0 ∷ []) }
+{
+    let mut ls = List::new(alloc);
+    ls.push(0)?;
+    Ok(ls)
+}
+
+/// The numbers of the sets at odd levels in order, of which there are at most so many.
+fn numbers(ss: &Sets, lv: &Levels, max: u64) -> Result<List<SetId>, CompileError>
+    requires whole { lv.now.broken ≡ false }
+    requires entries { AreEntries ss.now lv.now.levels }
+    requires room { max + 1 < 2 ^ 64 }
+    ensures ok { IfOk result (λ r. AreNumbers ss.now lv.now.levels r) }
+    ensures few { IfOk result (λ r. length r ≤ max) }
+    ensures err { IfErr result (IsTagFault lv.now.levels max) }
+{
+    match number(ss, lv, max) {
+        Ok(tags) => Ok(tags),
+        Err(e) => Err(fault(e)),
+    }
+}
+
+/// The fault of numbers as one of compilation.
+fn fault(e: NumberError) -> CompileError
+    ensures { result ≡ fault_of e }
+{
+    match e {
+        NumberError::NoMemory => CompileError::NoMemory,
+        NumberError::TooManyTags { found } => CompileError::Refused(Refusal::TooManyTags { found }),
+    }
+}
+
+/// The tables of all switches for a policy of which nothing is seen that stands against it, by its automaton's rows.
+fn tables_from(
+    st: &mut Store,
+    topo: &Topo,
+    tag: Fid,
+    p: &Pol,
+    rows: &[Id],
+) -> Result<List<Table>, CompileError>
+    requires begun { (fields : FieldTable) × IsBegun fields topo.now tag (tree_of p.now) st.old rows.now }
+    ensures made { IfOk result (λ ts. (fields : FieldTable) → IsBegun fields topo.now tag (tree_of p.now) st.old rows.now
+        → AreMade fields topo.now (tree_of p.now) ts) }
+    ensures error { IfErr result (λ e. (fields : FieldTable) → IsBegun fields topo.now tag (tree_of p.now) st.old rows.now
+        → IsError fields topo.now (tree_of p.now) e) }
+{
+    let mut ss = Sets::new(st.alloc());
+    let lv = levels_from(st, &mut ss, topo, tag, rows)?;
+    if lv.broken {
         return Err(CompileError::Refused(Refusal::OffEdge));
     }
-    let r = split(st, d)?;
+    ss.differ();
     st.laws();
-    Ok(r)
+    let tags = numbers(&ss, &lv, st.max(tag))?;
+    Ok(tag_tables(st, &mut ss, topo, p, rows, tags.as_slice())?)
 }
 
 /// The tables of all switches for a policy of which nothing is seen that stands against it.
-pub fn tables_of(
+fn tables_of(
     alloc: Global,
     fields: &Fields,
     topo: &Topo,
@@ -49,6 +123,9 @@ pub fn tables_of(
     p: &Pol,
 ) -> Result<List<Table>, CompileError>
     requires tag { fields.now.tag ≡ Some tag }
+    requires numbered { marked_from (tree_of p.now) 1 ≡ tree_of p.now }
+    requires few { 1 + dups_of (tree_of p.now) ≤ 2 ^ 32 }
+    requires room { slice_index fields.now.maxima tag + 1 < 2 ^ 64 }
     requires complements { NegatesPredicates (tree_of p.now) }
     requires range { IsInRange (tree_of p.now) fields.now }
     requires seen { seen_with tag topo.now (tree_of p.now) ≡ None }
@@ -56,9 +133,10 @@ pub fn tables_of(
     ensures error { IfErr result (IsError fields.now topo.now (tree_of p.now)) }
 {
     let _few = fields.declared();
+    let _switches = topo.switches();
     let mut st = Store::new(alloc, fields)?;
-    let d = drawn(&mut st, topo, tag, p)?;
-    Ok(switch_tables(alloc, &st, d, topo.switches())?)
+    let rows = automaton(&mut st, p, 1)?;
+    tables_from(&mut st, topo, tag, p, rows.as_slice())
 }
 
 /// The printed tables of a policy, or the first reason to refuse it.
@@ -68,6 +146,9 @@ pub fn policy_tables(
     topo: &Topo,
     p: &Pol,
 ) -> Result<Tables, CompileError>
+    requires numbered { marked_from (tree_of p.now) 1 ≡ tree_of p.now }
+    requires few { 1 + dups_of (tree_of p.now) ≤ 2 ^ 32 }
+    requires room { (f : ℕ) → slice_index fields.now.maxima f + 1 < 2 ^ 64 }
     requires complements { NegatesPredicates (tree_of p.now) }
     requires range { IsInRange (tree_of p.now) fields.now }
     ensures made { IfOk result (IsMade fields.now topo.now (tree_of p.now)) }

@@ -1,11 +1,24 @@
-use Rattle.std.proofs.Common.{sym, subst}
-use Rattle.std.specs.Prelude.{IfOk, IfErr}
+use Rattle.std.proofs.Common.{ℕ, ◌+◌, ◌<◌, sym, subst}
+use Rattle.std.specs.Prelude.{IfOk, IfErr, slice_index}
 use Rattle.nk_policy.specs.Ranges.{IsInRange}
 use Rattle.nk_names.specs.ProgramValue.{ProgramValue}
 use Rattle.nk_compile.specs.Answers.{IsMade, IsError}
 use Rattle.nk_policy.specs.Tree.{tree_of}
-use Rattle.nk_compile.proofs.Naming.{let_named, answer_named}
+use Rattle.nk_compile.proofs.Naming.{let_named, answer_named, has_few_dups, has_room}
 use Rattle.nk_compile.proofs.compilation.compile.Goals as goal
+
+pub policy_tables-requires-clause-numbered : goal.policy_tables-requires-clause-numbered
+policy_tables-requires-clause-numbered c =
+    (let_named c.args.program.now c.args.name.now (tree_of c.in-Some.p.now) c.find.ensures.is (sym c.in-Some.ensures.found)).numbered
+
+pub policy_tables-requires-clause-few : goal.policy_tables-requires-clause-few
+policy_tables-requires-clause-few c =
+    has_few_dups c.args.program.now.fields (tree_of c.in-Some.p.now)
+    (let_named c.args.program.now c.args.name.now (tree_of c.in-Some.p.now) c.find.ensures.is (sym c.in-Some.ensures.found))
+
+pub policy_tables-requires-clause-room : goal.policy_tables-requires-clause-room
+policy_tables-requires-clause-room c =
+    subst (λ (v : ProgramValue). (f : ℕ) → slice_index v.fields.maxima f + 1 < 18446744073709551616) (sym c.program.view_is) (has_room c.args.program.now c.find.ensures.is)
 
 pub policy_tables-requires-clause-complements : goal.policy_tables-requires-clause-complements
 policy_tables-requires-clause-complements c =

@@ -1,0 +1,199 @@
+-- What the levels say of the policy: whether all its histories end at edge ports, and which its tag sets are.
+use Rattle.std.proofs.Common.{◌≡◌, ℕ, zero, suc, ◌+◌, ◌*◌, ◌<◌, ◌≤◌, ◌↔◌, inl, inr, Bool, true, false, List, [], ◌∷◌, length, get_or, refl, sym, ap, subst, ◌∙◌, arith, Some}
+use Rattle.std.specs.Prelude.{All, IsTrue, not, map, slice_index}
+use Rattle.std.proofs.lemmas.List.{length-map}
+use Rattle.std.proofs.lemmas.Bool.Decides.{leb_tells}
+use Rattle.nk_field.proofs.Lists.{In, contains_from_in}
+use Rattle.nk_field.specs.Packet.{FieldTable}
+use Rattle.nk_field.specs.declared.packet.Packet.{Packet}
+use Rattle.nk_field.proofs.Ascending.{all_from_members}
+use Rattle.nk_topo.specs.Topology.{Topology, is_edge}
+use Rattle.nk_policy.specs.Policy.{Policy, marked_from}
+use Rattle.nk_policy.specs.Meaning.{Gives}
+use Rattle.nk_policy.specs.Distinct.{HasDistinct}
+use Rattle.nk_policy.specs.Labels.{IsLabelSet, IsTagSet, AtMost, AtLeast}
+use Rattle.nk_policy.specs.Tags.{AreTags, IsShortest, IsTagBefore}
+use Rattle.nk_policy.proofs.Numbering.{numbered_distinct}
+use Rattle.nk_names.specs.Accepted.{IsStart, most_tags}
+use Rattle.nk_store.specs.declared.node.Out.{Out}
+use Rattle.nk_store.specs.Nodes.{InRange}
+use Rattle.nk_store.specs.Held.{Held, Grows, IsOver, HasFields, IsPacket}
+use Rattle.nk_store.proofs.Stores.{grows_on}
+use Rattle.nk_store.proofs.InRange.{packet_in_range, over_grown}
+use Rattle.nk_determ.specs.Sets.{Differ, Ascend}
+use Rattle.nk_table.specs.declared.Table.{Table}
+use Rattle.nk_table.specs.declared.Tables.{Tables}
+use Rattle.nk_auto.specs.Automaton.{IsAutomaton}
+use Rattle.nk_tag.specs.Numbers.{IsAtOdd, AreEntries, AreNumbers}
+use Rattle.nk_runs.specs.Labels.{IsAmong, members}
+use Rattle.nk_reach.specs.Levels.{AreLevels}
+use Rattle.nk_reach.specs.Pairs.{EachPair, IsPair, Named}
+use Rattle.nk_runs.proofs.Stands.{stands}
+use Rattle.nk_runs.proofs.Ends.{none_ends, some_ends}
+use Rattle.nk_runs.proofs.TagSets.{are_tags, many_tags}
+use Rattle.nk_compile.specs.Edges.{is_start, is_no_edge}
+use Rattle.nk_compile.specs.Levelled.{IsLevelled}
+use Rattle.nk_compile.specs.OffEdge.{EndsOffEdge}
+use Rattle.nk_compile.specs.Ready.{sets_of, IsClear, IsReady}
+use Rattle.nk_compile.specs.Answers.{AreMade}
+use Rattle.nk_compile.specs.WholeTable.{IsTableOf}
+use Rattle.nk_compile.proofs.Making.{is_compilable}
+use Rattle.nk_compile.proofs.Whole.{IsSetUp, start_of, test_of, not_both}
+use Rattle.nk_compile.proofs.Fitting.{set_up}
+
+module _ (p : Policy) (A B : Packet → Type 0) (to : (pk : Packet) → A pk → B pk) (back : (pk : Packet) → B pk → A pk) where
+  -- tag sets from the same packets
+  pub tag_set_too : (s : List ℕ) → IsTagSet p A s → IsTagSet p B s
+  tag_set_too s h = (h.0, h.1, h.2, to h.0 h.3, h.4, h.5)
+
+  shortest_too : (s : List ℕ) (n : ℕ) → IsShortest p A s n → IsShortest p B s n
+  shortest_too s n h = (
+    (h.0.0, h.0.1, h.0.2, to h.0.0 h.0.3, h.0.4, h.0.5, h.0.6),
+    λ pk u j start size set less. h.1 pk u j (back pk start) size set less,
+  )
+
+  before_too : (s t : List ℕ) → IsTagBefore p A s t → IsTagBefore p B s t
+  before_too s t h = (h.0, h.1, shortest_too s h.0 h.2, shortest_too t h.1 h.3, h.4)
+
+-- so are the tags in order
+pub tags_too : (p : Policy) (A B : Packet → Type 0) → ((pk : Packet) → A pk → B pk) → ((pk : Packet) → B pk → A pk) → (tags : List (List ℕ)) → AreTags p A tags → AreTags p B tags
+tags_too p A B to back tags k = record {
+  exactly = λ s. (λ c. tag_set_too p A B to back s ((k.exactly s).0 c), λ h. (k.exactly s).1 (tag_set_too p B A back to s h));
+  in_order = λ i j d lt within. before_too p A B to back (get_or tags i d) (get_or tags j d) (k.in_order i j d lt within);
+}
+
+-- a test that can't fail holds
+holds_unless : (b : Bool) → (not b ≡ true → ⊥) → b ≡ true
+holds_unless true h = refl
+holds_unless false h = absurd (h refl)
+
+module _ (fields : FieldTable) (topo : Topology) (tag : ℕ) (p : Policy) (old : Held) (rows : List ℕ) (new : Held) (ss : List (List ℕ)) (ls : List (List (ℕ × ℕ))) (broken : Bool)
+    (clear : IsClear fields topo tag p) (over : IsOver fields old) (auto : IsAutomaton old rows 1 p) (lv : IsLevelled topo tag old rows new ss ls broken) where
+  setup : IsSetUp fields lv.first.maxes tag
+  setup = set_up fields lv.first tag clear.table (over_grown fields old lv.first over lv.grew) clear.tag_is
+
+  -- the automaton in the store where the levels began
+  pub auto_then : IsAutomaton lv.first rows 1 p
+  auto_then = stands old lv.first rows 1 p auto lv.grew
+
+  -- the packets of the first level are those that start
+  pub among_start : (pk : Packet) → IsAmong lv.first lv.start pk → IsStart fields topo pk
+  among_start pk h = start_of fields topo tag lv.first.maxes setup pk h.0 (sym (lv.start_is.at pk h.0) ∙ h.1)
+
+  pub start_among : (pk : Packet) → IsStart fields topo pk → IsAmong lv.first lv.start pk
+  start_among pk h =
+      let r : IsPacket lv.first pk = packet_in_range fields lv.first pk (over_grown fields old lv.first over lv.grew) h.packet in
+      (r, lv.start_is.at pk r ∙ test_of fields topo tag lv.first.maxes setup pk h)
+
+  -- broken levels have a history that ends off each edge port
+  pub off_edge : broken ≡ true → EndsOffEdge fields topo p
+  off_edge e =
+      let w = some_ends lv.first new ss rows lv.set lv.start lv.bad ls p (λ y. is_no_edge topo y ≡ true) auto_then (numbered_distinct p 1 clear.numbered) lv.tidy lv.set_is lv.right
+      (subst (AreLevels lv.first new ss rows lv.set lv.start lv.bad ls) e lv.are) in
+      record {
+        start = w.0;
+        records = w.1;
+        last = w.2;
+        starts = among_start w.0 w.3;
+        gives = w.4;
+        off = not_both (is_edge topo (slice_index w.2 0) (slice_index w.2 1)) w.5;
+      }
+
+  -- where they are not, all histories end at edge ports
+  pub all_end : broken ≡ false → (pk : Packet) (w : List Packet) (last : Packet) → IsStart fields topo pk → Gives p pk w last →
+      IsTrue (is_edge topo (slice_index last 0) (slice_index last 1))
+  all_end e pk w last start gives =
+      holds_unless (is_edge topo (slice_index last 0) (slice_index last 1)) (λ off.
+      none_ends lv.first new ss rows lv.set lv.start lv.bad ls p (λ y. is_no_edge topo y ≡ true) auto_then (numbered_distinct p 1 clear.numbered) lv.tidy lv.set_is lv.alert
+      (subst (AreLevels lv.first new ss rows lv.set lv.start lv.bad ls) e lv.are)
+      (pk, w, last, start_among pk start, gives, off))
+
+  distinct : HasDistinct p
+  distinct = numbered_distinct p 1 clear.numbered
+
+  -- the sets at odd levels in order are the tag sets
+  pub numbers_are_tags : broken ≡ false → Differ ss → (r : List ℕ) → AreNumbers ss ls r → AreTags p (IsStart fields topo) (sets_of ss r)
+  numbers_are_tags e differ r k =
+      tags_too p (IsAmong lv.first lv.start) (IsStart fields topo) among_start start_among (sets_of ss r)
+      (are_tags lv.first new ss rows lv.set lv.start lv.bad ls p auto_then distinct lv.tidy lv.set_is (subst (AreLevels lv.first new ss rows lv.set lv.start lv.bad ls) e lv.are) clear.dups_in_links differ lv.grows r k)
+
+  -- where there are so many of them, there are as many tag sets
+  pub many_are_tags : broken ≡ false → Differ ss → (least : ℕ) → AtLeast least (IsAtOdd ls) → AtLeast least (IsTagSet p (IsStart fields topo))
+  many_are_tags e differ least k =
+      let h = many_tags lv.first new ss rows lv.set lv.start lv.bad ls p auto_then distinct lv.tidy lv.set_is (subst (AreLevels lv.first new ss rows lv.set lv.start lv.bad ls) e lv.are) differ lv.grows least k in
+      (h.0, h.1, h.2, λ i d lt. tag_set_too p (IsAmong lv.first lv.start) (IsStart fields topo) among_start start_among (get_or h.0 i d) (h.3 i d lt))
+
+-- at most so many tag sets
+pub tags_few : (p : Policy) (Start : Packet → Type 0) (tags : List (List ℕ)) (most : ℕ) → AreTags p Start tags → length tags ≤ most → AtMost most (IsTagSet p Start)
+tags_few p Start tags most k le = (tags, le, λ s h. (k.exactly s).1 h)
+
+-- what holds of each entry holds of each in std's word
+all_each : (P : ℕ × ℕ → Type 0) (Q : ℕ × ℕ → Type 0) → ((e : ℕ × ℕ) → P e → Q e) → (xs : List (ℕ × ℕ)) → EachPair P xs → All Q xs
+all_each P Q h xs k = all_from_members Q xs (λ e i. there xs k e i)
+  where
+    there : (ys : List (ℕ × ℕ)) → EachPair P ys → (e : ℕ × ℕ) → In ys e → Q e
+    there [] k e i = absurd i
+    there (y ∷ ys) k e (inl same) = subst Q (sym same) (h y k.0)
+    there (y ∷ ys) k e (inr i) = there ys k.1 e i
+
+-- there are no entries past the last level
+none_past : (xs : List (List (ℕ × ℕ))) (i : ℕ) → length xs ≤ i → get_or xs i [] ≡ []
+none_past [] i le = refl
+none_past (x ∷ xs) zero le = absurd (omega (arith, le))
+none_past (x ∷ xs) (suc i) le = none_past xs i (omega (arith, le))
+
+-- a set that is named is known
+named_known : (st : Held) (ss : List (List ℕ)) (count : ℕ) (xs : List (ℕ × ℕ)) → EachPair (IsPair st ss count) xs → (s : ℕ) → Named xs s → s < length ss
+named_known st ss count [] k s h = absurd h
+named_known st ss count (x ∷ xs) k s (inl e) = subst (λ n. n < length ss) e k.0.known
+named_known st ss count (x ∷ xs) k s (inr h) = named_known st ss count xs k.1 s h
+
+module _ (old st : Held) (ss : List (List ℕ)) (rows : List ℕ) (set start : ℕ) (bad : List ℕ → List ℕ → List Out) (ls : List (List (ℕ × ℕ))) (broken : Bool)
+    (are : AreLevels old st ss rows set start bad ls broken) where
+  -- the entries of levels are of known sets, a set once
+  pub entries_are : AreEntries ss ls
+  entries_are i lt =
+      let k = are.pairs i lt in
+      (all_each (IsPair st ss (length rows)) (λ e. e.0 < length ss) (λ e p. p.known) (get_or ls i []) k.each, k.once)
+
+  -- so the numbers of the sets at odd levels are of known sets
+  pub numbers_known : (r : List ℕ) → AreNumbers ss ls r → All (λ s. s < length ss) r
+  numbers_known r k =
+      all_from_members (λ s. s < length ss) r
+      (λ s i. let odd = (k.exactly s).0 (contains_from_in r s i) in named (2 * odd.0 + 1) s odd.1)
+    where
+      named : (i s : ℕ) → Named (get_or ls i []) s → s < length ss
+      named i s h = elim (leb_tells (suc i) (length ls)) [
+        | inl inside ↦ named_known st ss (length rows) (get_or ls i []) (are.pairs i (omega (arith, inside.1))).each s h
+        | inr past ↦ absurd (subst (λ (l : List (ℕ × ℕ)). Named l s) (none_past ls i (omega (arith, past.1))) h)
+      ]
+
+module _ (fields : FieldTable) (topo : Topology) (tag : ℕ) (p : Policy) (old : Held) (rows : List ℕ) (new : Held) (ss : List (List ℕ)) (ls : List (List (ℕ × ℕ))) (broken : Bool)
+    (clear : IsClear fields topo tag p) (over : IsOver fields old) (auto : IsAutomaton old rows 1 p) (lv : IsLevelled topo tag old rows new ss ls broken)
+    (whole : broken ≡ false) (differ : Differ ss) (ascend : Ascend ss) (has : HasFields new) (r : List ℕ) (numbers : AreNumbers ss ls r) where
+  grown : Grows old new
+  grown = grows_on old lv.first new lv.grew lv.grows
+
+  in_order : AreTags p (IsStart fields topo) (sets_of ss r)
+  in_order = numbers_are_tags fields topo tag p old rows new ss ls broken clear over auto lv whole differ r numbers
+
+  -- all that the tables are made of is there
+  pub is_ready : IsReady fields topo p new ss rows r
+  is_ready = record {
+    over = over_grown fields old new over grown;
+    has = has;
+    automaton = stands old new rows 1 p auto grown;
+    ascend = ascend;
+    known = numbers_known lv.first new ss rows lv.set lv.start lv.bad ls broken lv.are r numbers;
+    in_order = in_order;
+  }
+
+  -- and they are those of an accepted policy
+  pub are_made : (most : ℕ) → length r ≤ most → most ≡ slice_index fields.maxima tag → (ts : List Table) →
+      ((t : Tables) → t.fields ≡ fields → t.topo ≡ topo → t.tables ≡ ts → IsTableOf fields topo (IsStart fields topo) p t) → AreMade fields topo p ts
+  are_made most few is ts printed = record {
+    compilable = is_compilable fields topo tag p clear (λ pk w last start gives. all_end fields topo tag p old rows new ss ls broken clear over auto lv whole pk w last start gives);
+    few = tags_few p (IsStart fields topo) (sets_of ss r) (most_tags fields fields.tag) in_order
+        (subst (λ n. n ≤ most_tags fields fields.tag) (sym (length-map r (λ s. get_or ss s []))) (subst (λ n. length r ≤ n) (is ∙ sym (ap (most_tags fields) clear.tag_is)) few));
+    printed = printed;
+  }

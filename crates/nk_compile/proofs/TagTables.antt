@@ -1,0 +1,116 @@
+-- The tables that are made of the rows and the tag sets of a policy are the printed ones.
+use Rattle.std.proofs.Common.{◌≡◌, ◌≢◌, ℕ, zero, suc, ◌+◌, ◌<◌, ◌≤◌, ◌↔◌, Option, Some, None, true, List, [], ◌∷◌, length, get_or, inl, refl, sym, ap, subst, ◌∙◌, arith}
+use Rattle.std.specs.Prelude.{All, map, Contains, slice_get}
+use Rattle.nk_field.specs.Packet.{FieldTable}
+use Rattle.nk_field.specs.declared.packet.Packet.{Packet}
+use Rattle.nk_field.proofs.Lists.{In, contains_from_in}
+use Rattle.nk_field.proofs.Ascending.{all_from_members, members_from_all}
+use Rattle.nk_topo.specs.Topology.{Topology, AreLinks, numbers_of}
+use Rattle.nk_policy.specs.Policy.{Policy}
+use Rattle.nk_policy.specs.After.{has_dup}
+use Rattle.nk_policy.specs.Distinct.{HasDistinct}
+use Rattle.nk_policy.specs.Labels.{IsTagSet}
+use Rattle.nk_policy.specs.Tags.{IsTagBefore}
+use Rattle.nk_policy.specs.Literals.{Literal, HoldsLiteral}
+use Rattle.nk_policy.proofs.Numbering.{numbered_distinct}
+use Rattle.nk_policy.proofs.LinkStructure.{holds_first}
+use Rattle.nk_names.specs.Accepted.{IsStart}
+use Rattle.nk_store.specs.Held.{Held}
+use Rattle.nk_extract.specs.RowsOf.{IsFrame}
+use Rattle.nk_table.specs.declared.Table.{Table}
+use Rattle.nk_table.specs.declared.Tables.{Tables}
+use Rattle.nk_switches.specs.declared.stop.Stop.{Stop}
+use Rattle.nk_switches.specs.Matched.{Matched}
+use Rattle.nk_switches.specs.Tagged.{set_of}
+use Rattle.nk_switches.specs.Made.{IsTableAt, IsStop}
+use Rattle.nk_switches.proofs.Matching.{of_second, matched_maps}
+use Rattle.nk_compile.specs.WholeTable.{HasRowsAt, IsSwitchTable, IsTableOf, link_end}
+use Rattle.nk_compile.specs.Ready.{sets_of, IsClear, IsReady}
+use Rattle.nk_compile.specs.Comings.{first_end, ComesTo, HasComing}
+use Rattle.nk_compile.proofs.Fitting.{frame}
+use Rattle.nk_compile.proofs.Standing.{IsTagged}
+use Rattle.nk_compile.proofs.TagPlaces.{never_itself, one_place}
+use Rattle.nk_compile.proofs.TagSets.{literal_of, one_end, not_empty}
+use Rattle.nk_compile.proofs.Results.{set_there, set_within, set_contained, dup_place, tag_at, switch_table_is}
+
+-- the first of some marks is one of them
+first_of : (ends : List (Option ℕ)) (s : List ℕ) → s ≢ [] → (l : ℕ) × Contains s l × (first_end ends s ≡ get_or ends l None)
+first_of ends [] h = absurd (h refl)
+first_of ends (l ∷ ls) h = (l, contains_from_in (l ∷ ls) l (inl refl), refl)
+
+module _ (fields : FieldTable) (topo : Topology) (tag : ℕ) (p : Policy) (st : Held) (ss : List (List ℕ)) (rows tags : List ℕ) (clear : IsClear fields topo tag p) (ready : IsReady fields topo p st ss rows tags) where
+  distinct : HasDistinct p
+  distinct = numbered_distinct p 1 clear.numbered
+
+  -- each tag's set is a tag set
+  tag_set : (i : ℕ) → i < length tags → IsTagSet p (IsStart fields topo) (set_of ss tags i)
+  tag_set i lt = (ready.in_order.exactly (set_of ss tags i)).0 (set_contained ss tags i lt)
+
+  -- so it has first dups of literals
+  tagged : (i : ℕ) → i < length tags → IsTagged p ss tags i
+  tagged i lt = record {
+    literal = λ l c. literal_of topo clear.topology.links p distinct clear.dups_in_links clear.links_declared (IsStart fields topo) (set_of ss tags i) (tag_set i lt) l c;
+  }
+
+  -- no two tags have one set
+  pub tags_once : (i j : ℕ) → i < length tags → j < length tags → get_or tags i 0 ≡ get_or tags j 0 → i ≡ j
+  tags_once i j a b e =
+      one_place (IsTagBefore p (IsStart fields topo)) (never_itself p (IsStart fields topo)) (sets_of ss tags) ready.in_order.in_order i j (set_of ss tags i)
+      (set_there ss tags i a) (set_there ss tags j b ∙ ap (λ n. Some (get_or ss n [])) (sym e))
+
+  -- the frame of the rows
+  pub ready_frame : IsFrame st st.width tag
+  ready_frame = frame fields st tag clear.table ready.over clear.tag_is ready.has
+
+  module _ (ends : List (Option ℕ)) (each : (l : ℕ) → l < length rows → get_or ends l None ≡ link_end p l) where
+    -- a member's place in the list of ends
+    member_end : (i : ℕ) → i < length tags → (l : ℕ) → Contains (set_of ss tags i) l → get_or ends l None ≡ link_end p l
+    member_end i lt l c =
+        let k = (tagged i lt).literal l c in
+        each l (dup_place fields topo tag p st ss rows tags clear ready tagged l (subst (λ n. has_dup p n ≡ true) k.2 (holds_first p k.0 k.1))).1
+
+    -- a tag comes to a switch exactly where it has rows there
+    comes_rows : (sw t : ℕ) → ComesTo ends ss tags (length tags) sw t ↔ HasRowsAt p (sets_of ss tags) sw t
+    comes_rows sw zero = (λ u. tt, λ u. tt)
+    comes_rows sw (suc i) = (
+      λ h.
+          let f = first_of ends (set_of ss tags i) (not_empty topo clear.topology.links p distinct clear.dups_in_links clear.links_declared (IsStart fields topo) (set_of ss tags i) (tag_set i h.0)) in
+          (set_of ss tags i, f.0, set_there ss tags i h.0, f.1, sym (member_end i h.0 f.0 f.1) ∙ sym f.2 ∙ h.1),
+      λ h.
+          let w = set_within ss tags i h.0 h.2 in
+          let f = first_of ends (set_of ss tags i) (not_empty topo clear.topology.links p distinct clear.dups_in_links clear.links_declared (IsStart fields topo) (set_of ss tags i) (tag_set i w.0)) in
+          let c : Contains (set_of ss tags i) h.1 = subst (λ s. Contains s h.1) (sym w.1) h.3 in (
+            w.0,
+            f.2 ∙ member_end i w.0 f.0 f.1
+                ∙ one_end topo clear.topology.links p distinct clear.dups_in_links clear.links_declared (IsStart fields topo) (set_of ss tags i) (tag_set i w.0) f.0 h.1 f.1 c
+                ∙ h.4,
+          ),
+    )
+
+    -- a switch's tags can be put into its table
+    pub stop_is : (s : Stop) → HasComing ends ss tags (length tags) s → IsStop st ss rows tags tag s
+    stop_is s k j d lt = tag_at fields topo tag p st ss rows tags clear ready tagged s.switch (get_or s.tags j d) (k.within j d lt)
+
+    -- the table of a switch
+    table_is : (s : Stop) (t : Table) → HasComing ends ss tags (length tags) s → IsTableAt st ss rows tags tag s t → IsSwitchTable fields tag p (sets_of ss tags) t
+    table_is s t k at =
+        switch_table_is fields topo tag p st ss rows tags clear ready tagged s t k.ascend
+        (λ n. let a = k.exactly n in let b = comes_rows s.switch n in (λ c. b.0 (a.0 c), λ h. a.1 (b.1 h))) k.within at
+
+    -- the tables of all switches
+    pub tables_are : (stops : List Stop) (ts : List Table) → map (λ (s : Stop). s.switch) stops ≡ numbers_of topo → All (HasComing ends ss tags (length tags)) stops →
+        Matched (IsTableAt st ss rows tags tag) stops ts → (t : Tables) → t.fields ≡ fields → t.topo ≡ topo → t.tables ≡ ts → IsTableOf fields topo (IsStart fields topo) p t
+    tables_are stops ts switches coming m t same_fields same_topology are = record {
+      tag = tag;
+      tags = sets_of ss tags;
+      tag_declared = clear.tag_is;
+      in_order = ready.in_order;
+      same_fields = same_fields;
+      same_topology = same_topology;
+      switches =
+          ap (map (λ (u : Table). u.switch)) are
+          ∙ matched_maps (IsTableAt st ss rows tags tag) (λ (s : Stop). s.switch) (λ (u : Table). u.switch) (λ s u k. k.switch) stops ts m ∙ switches;
+      each = subst (All (IsSwitchTable fields tag p (sets_of ss tags))) (sym are) (all_from_members (IsSwitchTable fields tag p (sets_of ss tags)) ts (λ u i.
+          let s = of_second (IsTableAt st ss rows tags tag) stops ts u m i in
+          table_is s.0 u (members_from_all (HasComing ends ss tags (length tags)) stops coming s.0 s.1) s.2));
+    }

@@ -1,0 +1,77 @@
+use Rattle.std.proofs.Common.{ℕ, ◌≤◌, ◌<◌, ◌+◌, ◌∙◌, sym, subst, ap, refl, get_or, length, arith}
+use Rattle.nk_policy.specs.Tree.{tree_of}
+use Rattle.nk_tag.specs.Numbers.{AreNumbers}
+use Rattle.nk_compile.specs.Answers.{IsError}
+use Rattle.nk_compile.specs.Ready.{IsBegun}
+use Rattle.nk_field.specs.Packet.{FieldTable}
+use Rattle.nk_store.proofs.InRange.{same_value, over_grown}
+use Rattle.nk_runs.proofs.Stands.{are_rows}
+use Rattle.nk_compile.proofs.Fitting.{places_high}
+use Rattle.nk_compile.proofs.Levelled.{off_edge, all_end, many_are_tags, entries_are, is_ready, are_made}
+use Rattle.nk_compile.proofs.Making.{refused_with, off_error, many_error}
+use Rattle.nk_compile.proofs.tables.tables_from.Goals as goal
+
+pub levels_from-requires-clause-switch : goal.levels_from-requires-clause-switch
+levels_from-requires-clause-switch c =
+    let b = c.requires.begun.1 in
+    (places_high c.requires.begun.0 c.args.st.now c.args.tag b.clear.table b.over b.clear.tag_is).0
+
+pub levels_from-requires-clause-port : goal.levels_from-requires-clause-port
+levels_from-requires-clause-port c =
+    let b = c.requires.begun.1 in
+    (places_high c.requires.begun.0 c.args.st.now c.args.tag b.clear.table b.over b.clear.tag_is).1
+
+pub levels_from-requires-clause-rows : goal.levels_from-requires-clause-rows
+levels_from-requires-clause-rows c = are_rows c.args.st.now c.args.rows.now (tree_of c.args.p.now) c.requires.begun.1.automaton
+
+pub levels_from-requires-clause-start : goal.levels_from-requires-clause-start
+levels_from-requires-clause-start c = omega (arith, c.requires.begun.1.automaton.count)
+
+pub numbers-requires-clause-entries : goal.numbers-requires-clause-entries
+numbers-requires-clause-entries c =
+    let l = c.in_ok-lv.ensures.ok in
+    entries_are l.first c.levels_from.new.st c.levels_from.new.ss c.args.rows.now l.set l.start l.bad c.in_ok-lv.lv.levels c.in_ok-lv.lv.broken l.are
+
+pub returns-then-lv-clause-error : goal.returns-then-lv-clause-error
+returns-then-lv-clause-error c = λ fields b.
+    off_error fields c.args.topo.now c.args.tag (tree_of c.args.p.now) b.clear.tag_is b.seen
+    (off_edge fields c.args.topo.now c.args.tag (tree_of c.args.p.now) c.args.st.now c.args.rows.now c.levels_from.new.st c.levels_from.new.ss c.in_ok-lv.lv.levels c.in_ok-lv.lv.broken
+    b.clear b.over b.automaton c.in_ok-lv.ensures.ok c.if-lv.true)
+
+pub returns-in_err-tags-clause-error : goal.returns-in_err-tags-clause-error
+returns-in_err-tags-clause-error c =
+    refused_with c.from_residual-in_err-tags.result c.in_err-tags.field-0.0
+    (λ e. (fields : FieldTable) → IsBegun fields c.args.topo.now c.args.tag (tree_of c.args.p.now) c.args.st.now c.args.rows.now → IsError fields c.args.topo.now (tree_of c.args.p.now) e)
+    c.from_residual-in_err-tags.ensures.1
+    (λ fields b. many_error fields c.args.topo.now c.args.tag (tree_of c.args.p.now) b.clear.tag_is b.seen c.in_ok-lv.lv.levels c.max.result c.in_err-tags.field-0.0
+    (all_end fields c.args.topo.now c.args.tag (tree_of c.args.p.now) c.args.st.now c.args.rows.now c.levels_from.new.st c.levels_from.new.ss c.in_ok-lv.lv.levels c.in_ok-lv.lv.broken
+    b.clear b.over b.automaton c.in_ok-lv.ensures.ok c.if-lv.false)
+    (c.max.ensures ∙ same_value fields c.levels_from.new.st c.args.tag (over_grown fields c.args.st.now c.levels_from.new.st b.over c.levels_from.ensures.grows))
+    (many_are_tags fields c.args.topo.now c.args.tag (tree_of c.args.p.now) c.args.st.now c.args.rows.now c.levels_from.new.st c.levels_from.new.ss c.in_ok-lv.lv.levels c.in_ok-lv.lv.broken
+    b.clear b.over b.automaton c.in_ok-lv.ensures.ok c.if-lv.false c.differ.ensures.differ)
+    c.in_err-tags.ensures.err)
+
+pub tag_tables-requires : goal.tag_tables-requires
+tag_tables-requires c =
+    let fields = c.requires.begun.0 in
+    let b = c.requires.begun.1 in
+    record {
+      ready = (
+        fields,
+        c.args.tag,
+        b.clear,
+        is_ready fields c.args.topo.now c.args.tag (tree_of c.args.p.now) c.args.st.now c.args.rows.now c.levels_from.new.st c.levels_from.new.ss c.in_ok-lv.lv.levels c.in_ok-lv.lv.broken
+            b.clear b.over b.automaton c.in_ok-lv.ensures.ok c.if-lv.false c.differ.ensures.differ c.differ.ensures.ascend c.laws.ensures.fields c.as_slice.result.now
+            (subst (AreNumbers c.levels_from.new.ss c.in_ok-lv.lv.levels) (sym c.as_slice.ensures) c.in_ok-tags.ensures.ok),
+      );
+    }
+
+pub returns-clause-made : goal.returns-clause-made
+returns-clause-made c = λ fields b.
+    let numbers = subst (AreNumbers c.levels_from.new.ss c.in_ok-lv.lv.levels) (sym c.as_slice.ensures) c.in_ok-tags.ensures.ok in
+    are_made fields c.args.topo.now c.args.tag (tree_of c.args.p.now) c.args.st.now c.args.rows.now c.levels_from.new.st c.levels_from.new.ss c.in_ok-lv.lv.levels c.in_ok-lv.lv.broken
+    b.clear b.over b.automaton c.in_ok-lv.ensures.ok c.if-lv.false c.differ.ensures.differ c.differ.ensures.ascend c.laws.ensures.fields c.as_slice.result.now numbers
+    c.max.result (subst (λ l. length l ≤ c.max.result) (sym c.as_slice.ensures) c.in_ok-tags.ensures.few) (c.max.ensures ∙ same_value fields c.levels_from.new.st c.args.tag (over_grown fields c.args.st.now c.levels_from.new.st b.over c.levels_from.ensures.grows)) c.in_ok-tag_tables.field-0
+    (c.in_ok-tag_tables.ensures fields c.args.tag b.clear
+    (is_ready fields c.args.topo.now c.args.tag (tree_of c.args.p.now) c.args.st.now c.args.rows.now c.levels_from.new.st c.levels_from.new.ss c.in_ok-lv.lv.levels c.in_ok-lv.lv.broken
+    b.clear b.over b.automaton c.in_ok-lv.ensures.ok c.if-lv.false c.differ.ensures.differ c.differ.ensures.ascend c.laws.ensures.fields c.as_slice.result.now numbers))

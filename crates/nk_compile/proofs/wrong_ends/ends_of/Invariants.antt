@@ -1,0 +1,14 @@
+use Rattle.std.proofs.Common.{◌≡◌, length}
+use Rattle.nk_store.specs.Held.{Grows}
+use Rattle.nk_compile.specs.WrongEnds.{AreEndsOf}
+use Rattle.nk_compile.proofs.Uniting.{HaveSoFar}
+use Rattle.nk_compile.proofs.wrong_ends.ends_of.Given as goal
+
+-- the rows so far have their diagrams, and so have those in the table
+abbrev pub invariant-loop-row : goal.invariant-loop-row
+invariant-loop-row l = record {
+  grows : Grows l.fn.st l.st;
+  seen : AreEndsOf l.st l.set l.seen.entries;
+  len : length l.ends ≡ l.row-index;
+  ends : HaveSoFar l.st l.set l.rows l.ends l.row-index;
+}

@@ -1,0 +1,42 @@
+-- The levels of a policy's automaton from the located untagged packets, up to ends off edge ports.
+use Rattle.std.specs.Prelude.{◌≡◌, ℕ, ◌+◌, Bool, List, [], ◌∷◌, slice_index_or}
+use Rattle.nk_topo.specs.Topology.{Topology}
+use Rattle.nk_store.specs.declared.node.Out.{Out}
+use Rattle.nk_store.specs.Held.{Held, Grows, AreTidy}
+use Rattle.nk_policy.specs.Labels.{AtLeast}
+use Rattle.nk_reach.specs.Levels.{AreLevels}
+use Rattle.nk_tag.specs.Numbers.{IsAtOdd}
+use Rattle.nk_tag.specs.declared.error.NumberError.{NumberError}
+use Rattle.nk_tag.specs.declared.error.NumberError.TheVariants as number
+use Rattle.nk_compile.specs.declared.refusal.CompileError.{CompileError}
+use Rattle.nk_compile.specs.declared.refusal.CompileError.TheVariants as compile
+use Rattle.nk_compile.specs.declared.refusal.Refusal.TheVariants as refusal
+use Rattle.nk_runs.specs.Wrong.{IsAlert, IsRight}
+use Rattle.nk_compile.specs.Edges.{is_start, is_no_edge}
+use Rattle.nk_compile.specs.PacketSets.{IsSetOf}
+
+-- the levels of these rows from the start packets; they are broken where a member ends at no edge port
+pub record IsLevelled (topo : Topology) (tag : ℕ) (old : Held) (rows : List ℕ) (new : Held) (ss : List (List ℕ)) (levels : List (List (ℕ × ℕ))) (broken : Bool) : Type 0 where
+  pub first : Held
+  pub grew : Grows old first
+  pub grows : Grows first new
+  pub tidy : AreTidy first
+  pub set : ℕ
+  pub start : ℕ
+  pub bad : List ℕ → List ℕ → List Out
+  pub set_is : slice_index_or ss set [] ≡ 0 ∷ []
+  pub start_is : IsSetOf first start (is_start topo tag)
+  pub alert : IsAlert first rows (is_no_edge topo) bad
+  pub right : IsRight first rows (is_no_edge topo) bad
+  pub are : AreLevels first new ss rows set start bad levels broken
+
+-- the fault of numbers as one of compilation
+abbrev pub fault_of : NumberError → CompileError
+fault_of number.NoMemory = compile.NoMemory
+fault_of (number.TooManyTags found) = compile.Refused (refusal.TooManyTags found)
+
+-- why there are no tags: memory ran out, or there are at least as many sets as are told, one more than may be
+abbrev pub IsTagFault : List (List (ℕ × ℕ)) → ℕ → CompileError → Type 0
+IsTagFault levels max compile.NoMemory = Unit {0}
+IsTagFault levels max (compile.Refused (refusal.TooManyTags found)) = (found ≡ max + 1) × AtLeast found (IsAtOdd levels)
+IsTagFault levels max (compile.Refused r) = ⊥

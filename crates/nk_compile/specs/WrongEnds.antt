@@ -1,0 +1,74 @@
+-- The ends of an automaton's rows that are not to be: those in a set of packets.
+use Rattle.std.specs.Prelude.{◌≡◌, ℕ, ◌<◌, eqb, Some, List, [], ◌∷◌, length, slice_index, All, refl}
+use Rattle.std.proofs.Common.{inl, inr, sym, ap, ◌∙◌}
+use Rattle.std.specs.Map.{lookup}
+use Rattle.nk_store.specs.declared.node.Out.{Out}
+use Rattle.nk_field.proofs.Lists.{In}
+use Rattle.nk_field.proofs.Ascending.{members_from_all}
+use Rattle.nk_store.specs.Held.{Held, IsId, IsWhole, look, Grows}
+use Rattle.nk_algebra.specs.Leaves.{merged}
+use Rattle.nk_algebra.specs.Seqs.{seq_leaf}
+use Rattle.nk_algebra.specs.Unions.{AreIds}
+use Rattle.nk_determ.specs.Targets.{retargeted}
+
+-- a row's ends, each followed by what is made of it by the set: where it is in the set, it stays
+abbrev pub end_leaf : Held → ℕ → ℕ → List ℕ → List Out
+end_leaf st set row pk = seq_leaf (retargeted (Some 0 ∷ []) (look st row pk)) (look st set) pk
+
+-- the ends in the set of the rows at these places
+abbrev pub wrong_leaf : Held → ℕ → List ℕ → List ℕ → List ℕ → List Out
+wrong_leaf st set rows [] pk = []
+wrong_leaf st set rows (l ∷ ls) pk = merged (end_leaf st set (slice_index rows l) pk) (wrong_leaf st set rows ls pk)
+
+-- r has the ends of the row in the set
+pub record IsEndOf (st : Held) (set row r : ℕ) : Type 0 where
+  pub row_id : IsId st row
+  pub set_id : IsId st set
+  pub id : IsId st r
+  pub leaf : (pk : List ℕ) → IsWhole pk → look st r pk ≡ end_leaf st set row pk
+
+-- each entry leads from a row to the diagram of its ends in the set
+abbrev pub AreEndsOf : Held → ℕ → List (ℕ × ℕ) → Type 0
+AreEndsOf st set entries = (row r : ℕ) → lookup (eqb row) entries ≡ Some r → IsEndOf st set row r
+
+-- each row has its diagram
+pub record HaveEndsOf (st : Held) (set : ℕ) (rows ends : List ℕ) : Type 0 where
+  pub set_id : IsId st set
+  pub count : length ends ≡ length rows
+  pub each : (l : ℕ) → l < length rows → IsEndOf st set (slice_index rows l) (slice_index ends l)
+
+module _ (old new : Held) (set : ℕ) (g : Grows old new) (set_id : IsId old set) where
+  -- the ends of a row stay while the store grows
+  leaf_on : (row : ℕ) (pk : List ℕ) → IsId old row → end_leaf new set row pk ≡ end_leaf old set row pk
+  leaf_on row pk id =
+      ap (λ (B : List ℕ → List Out). seq_leaf (retargeted (Some 0 ∷ []) (look new row pk)) B pk) (λ i x. g.leaves set x set_id i)
+      ∙ ap (λ os. seq_leaf (retargeted (Some 0 ∷ []) os) (look old set) pk) (g.leaves row pk id)
+
+  -- so does their diagram
+  pub end_on : (row r : ℕ) → IsEndOf old set row r → IsEndOf new set row r
+  end_on row r k = record {
+    row_id = g.ids row k.row_id;
+    set_id = g.ids set k.set_id;
+    id = g.ids r k.id;
+    leaf = λ pk w. g.leaves r pk k.id ∙ k.leaf pk w ∙ sym (leaf_on row pk k.row_id);
+  }
+
+-- all rows keep their diagrams
+pub ends_on : (old new : Held) (set : ℕ) (rows ends : List ℕ) → HaveEndsOf old set rows ends → Grows old new → HaveEndsOf new set rows ends
+ends_on old new set rows ends k g = record {
+  set_id = g.ids set k.set_id;
+  count = k.count;
+  each = λ l lt. end_on old new set g k.set_id (slice_index rows l) (slice_index ends l) (k.each l lt);
+}
+
+-- and all rows together have the same ends
+wrong_same : (old new : Held) (set : ℕ) (rows ends places pk : List ℕ) → HaveEndsOf old set rows ends → Grows old new → ((l : ℕ) → In places l → l < length rows) →
+    wrong_leaf new set rows places pk ≡ wrong_leaf old set rows places pk
+wrong_same old new set rows ends [] pk k g inside = refl
+wrong_same old new set rows ends (l ∷ ls) pk k g inside =
+    ap (λ x. merged x (wrong_leaf new set rows ls pk)) (leaf_on old new set g k.set_id (slice_index rows l) pk (k.each l (inside l (inl refl))).row_id)
+    ∙ ap (merged (end_leaf old set (slice_index rows l) pk)) (wrong_same old new set rows ends ls pk k g (λ n i. inside n (inr i)))
+
+pub wrong_on : (old new : Held) (set : ℕ) (rows ends places pk : List ℕ) → HaveEndsOf old set rows ends → Grows old new → All (λ l. l < length rows) places →
+    wrong_leaf new set rows places pk ≡ wrong_leaf old set rows places pk
+wrong_on old new set rows ends places pk k g inside = wrong_same old new set rows ends places pk k g (members_from_all (λ l. l < length rows) places inside)

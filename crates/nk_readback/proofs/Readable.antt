@@ -1,0 +1,122 @@
+-- What compiling a name prints is such as is read back from its text.
+use Rattle.std.proofs.Common.{◌≡◌, ℕ, zero, suc, ◌≤◌, Option, Some, List, [], length, sym, ap, subst, ◌∙◌, arith}
+use Rattle.std.specs.Prelude.{All, AllPairs, is_some, map, slice_index}
+use Rattle.std.proofs.lemmas.Option.{slice_get_within}
+use Rattle.nk_field.specs.Packet.{FieldTable, IsFieldTable}
+use Rattle.nk_field.proofs.Lists.{In, in_mapped, from_mapped, from_joined, contains_from_in}
+use Rattle.nk_field.proofs.Ascending.{all_from_members, members_from_all}
+use Rattle.nk_lex.specs.Lex.{largest}
+use Rattle.nk_lex.specs.Spelling.{IsName}
+use Rattle.nk_topo.specs.Topology.{Topology, SwitchPorts, IsTopology, numbers_of}
+use Rattle.nk_policy.specs.Policy.{Policy}
+use Rattle.nk_policy.specs.Tree.{tree_of}
+use Rattle.nk_policy.specs.declared.policy.Pol.{Pol}
+use Rattle.nk_policy.specs.Ranges.{IsInRange}
+use Rattle.nk_names.specs.declared.Program.{Program}
+use Rattle.nk_names.specs.Accepted.{IsStart, IsAccepted, most_tags}
+use Rattle.nk_names.specs.Named.{policy_named}
+use Rattle.nk_names.specs.ProgramValue.{IsLet, IsProgram}
+use Rattle.nk_names.specs.ReadBack.{IsWritable}
+use Rattle.nk_names.specs.Topologies.{IsDeclarable}
+use Rattle.nk_table.specs.declared.Group.{Group}
+use Rattle.nk_table.specs.declared.Plain.{Plain}
+use Rattle.nk_table.specs.declared.Table.{Table}
+use Rattle.nk_table.specs.declared.Tables.{Tables}
+use Rattle.nk_tabtext.specs.ReadBack.{IsGroupOf, IsRowOf, IsPrintable, IsTableOf as IsTextTable}
+use Rattle.nk_extract.specs.RuleTree.{rows_for}
+use Rattle.nk_group.specs.Groups.{rows_after, groups_of}
+use Rattle.nk_compile.specs.PrintedTable.{IsTreeOf}
+use Rattle.nk_compile.specs.WholeTable.{HasRowsAt, TagTree, rows_of_trees, IsSwitchTable, IsTableOf}
+use Rattle.nk_readback.specs.TextTables.{HasFewGroups, CompilesPrintable}
+use Rattle.nk_compile.proofs.FewTags.{tags_fit}
+use Rattle.nk_compile.proofs.Fitting.{fronts}
+use Rattle.nk_compile.proofs.Printed.{named_in}
+use Rattle.nk_readback.proofs.SoundRows.{IsSoundRow, sound_row}
+use Rattle.nk_readback.proofs.TableGroups.{Below, groups_ok, groups_ascend, rows_ok}
+
+-- a tag with rows is one of the tags
+tag_low : (p : Policy) (tags : List (List ℕ)) (sw t : ℕ) → HasRowsAt p tags sw t → t ≤ length tags
+tag_low p tags sw zero h = omega arith
+tag_low p tags sw (suc t) h = let lt = slice_get_within tags t h.0 h.2 in omega (arith, lt)
+
+module _ (fields : FieldTable) (tag : ℕ) (p : Policy) (tags : List (List ℕ)) (table : IsFieldTable fields) (is : fields.tag ≡ Some tag) (range : IsInRange p fields) (many : length tags ≤ slice_index fields.maxima tag) where
+  abbrev rows_at : List TagTree → List Plain
+  rows_at trees = rows_of_trees (length fields.maxima) tag trees
+
+  -- the rows of a switch
+  rows_sound :
+      (u : Table) (st : IsSwitchTable fields tag p tags u) → u.switch ≤ 65535
+      → (r : Plain) → In (rows_at st.trees) r → IsSoundRow fields r
+  rows_sound u st le r i =
+      let e = from_joined (λ (q : TagTree). rows_for (length fields.maxima) tag q.tag q.tree) st.trees r i in
+      let tree : IsTreeOf fields tag p tags e.0.tag u.switch e.0.tree = members_from_all (λ (q : TagTree). IsTreeOf fields tag p tags q.tag u.switch q.tree) st.trees st.each e.0 e.1 in
+      let at : HasRowsAt p tags u.switch e.0.tag = (st.exactly e.0.tag).0 (contains_from_in (map (λ (q : TagTree). q.tag) st.trees) e.0.tag (in_mapped (λ (q : TagTree). q.tag) st.trees e.0 e.1)) in
+      let most = (fronts fields.maxima 65535 65535 table.built_in_maxima).0 in
+      sound_row fields tag p tags table is range many e.0.tag u.switch e.0.tree tree (tag_low p tags u.switch e.0.tag at) (subst (λ n. u.switch ≤ n) (sym most) le) r e.2
+
+  -- the table of a switch
+  table_ok : (u : Table) → IsSwitchTable fields tag p tags u → u.switch ≤ 65535 → length u.groups ≤ largest → IsTextTable fields u
+  table_ok u st le few =
+      let ps = rows_at st.trees in
+      let sound = rows_sound u st le in
+      record {
+        groups = subst (λ gs. All (IsGroupOf fields) gs) (sym st.groups)
+            (all_from_members (IsGroupOf fields) (groups_of ps) (groups_ok fields ps sound (subst (λ (gs : List Group). length gs ≤ largest) st.groups few)));
+        ascend = subst (λ gs. AllPairs Below gs) (sym st.groups) (groups_ascend ps);
+        rows = subst (λ gs. All (IsRowOf fields gs) u.rows) (sym st.groups)
+            (subst (λ rs. All (IsRowOf fields (groups_of ps)) rs) (sym st.rows)
+            (all_from_members (IsRowOf fields (groups_of ps)) (rows_after [] ps) (rows_ok fields ps sound)));
+      }
+
+-- a table's switch is declared
+switch_low :
+    (topo : Topology) (ts : List Table) → map (λ (u : Table). u.switch) ts ≡ map (λ (s : SwitchPorts). s.switch) topo.switches
+    → IsDeclarable topo → (u : Table) → In ts u → u.switch ≤ 65535
+switch_low topo ts same declarable u i =
+    let s = from_mapped (λ (s : SwitchPorts). s.switch) topo.switches u.switch (subst (λ l. In l u.switch) same (in_mapped (λ (v : Table). v.switch) ts u i)) in
+    subst (λ n. n ≤ 65535) (sym s.2) (members_from_all (λ (r : SwitchPorts). r.switch ≤ 65535) topo.switches declarable.switches s.0 s.1)
+
+-- a named policy of a program sets fields to values in range
+named_in_range :
+    (program : Program) (name : List ℕ) (p : Policy) → IsProgram program.fields program.topo program.lets
+    → policy_named program name ≡ Some p → IsInRange p program.fields
+named_in_range program name p ok named =
+    let l = named_in program.lets name p named in
+    let good : IsLet program.fields (tree_of l.0.1) = members_from_all (λ (k : List ℕ × Pol). IsLet program.fields (tree_of k.1)) program.lets ok.policies l.0 l.1 in
+    subst (λ q. IsInRange q program.fields) l.2 good.in_range
+
+-- of a policy that is accepted
+accepted_printable :
+    (program : Program) (p : Policy) (t : Tables) → IsProgram program.fields program.topo program.lets
+    → IsWritable program.fields → IsDeclarable program.topo → IsInRange p program.fields → IsAccepted program p
+    → IsTableOf program.fields program.topo (IsStart program.fields program.topo) p t → HasFewGroups t → IsPrintable t
+accepted_printable program p t ok writable declarable range accepted printed few =
+    let fields = program.fields in
+    let tag = printed.tag in
+    let tags = printed.tags in
+    let most : most_tags fields fields.tag ≡ slice_index fields.maxima tag = ap (most_tags fields) printed.tag_declared in
+    let many : length tags ≤ slice_index fields.maxima tag = subst (λ n. length tags ≤ n) most (tags_fit p (IsStart fields program.topo) tags (most_tags fields fields.tag) printed.in_order accepted.1) in
+    let same = sym printed.same_fields in
+    let same_topo = sym printed.same_topology in
+    record {
+      fields = subst IsFieldTable same writable.table;
+      maxima = subst (λ (f : FieldTable). All (λ m. m ≤ largest) f.maxima) same writable.maxima;
+      names = subst (λ (f : FieldTable). All IsName f.names) same writable.names;
+      tag = ap (λ (f : FieldTable). is_some f.tag) printed.same_fields ∙ ap (λ (o : Option ℕ). is_some o) printed.tag_declared;
+      topology = subst IsTopology same_topo ok.topology;
+      switches = subst (λ (o : Topology). All (λ s. s.switch ≤ 65535) o.switches) same_topo declarable.switches;
+      ports = subst (λ (o : Topology). All (λ s. All (λ q. q ≤ 65535) s.ports) o.switches) same_topo declarable.ports;
+      some = subst (λ (o : Topology). All (λ s. 1 ≤ length s.ports) o.switches) same_topo declarable.some;
+      each = printed.switches ∙ ap numbers_of same_topo;
+      tables = subst (λ f. All (IsTextTable f) t.tables) same
+          (all_from_members (IsTextTable fields) t.tables (λ u i.
+          table_ok fields tag p tags writable.table printed.tag_declared range many u
+          (members_from_all (IsSwitchTable fields tag p tags) t.tables printed.each u i)
+          (switch_low program.topo t.tables printed.switches declarable u i)
+          (members_from_all (λ (v : Table). length v.groups ≤ largest) t.tables few u i)));
+    }
+
+pub compiles_printable : CompilesPrintable
+compiles_printable program name t ok writable declarable compiled few =
+    let range = named_in_range program name compiled.0 ok compiled.1 in
+    accepted_printable program compiled.0 t ok writable declarable range compiled.2 compiled.3 few

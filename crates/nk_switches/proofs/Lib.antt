@@ -1,0 +1,9 @@
+pub mod Matching
+pub mod Cutting
+pub mod Growing
+pub mod Exacting
+pub mod Printing
+pub mod Tagging
+pub mod Stating
+pub mod Trees
+pub mod Finishing

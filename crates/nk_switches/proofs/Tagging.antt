@@ -1,0 +1,106 @@
+-- The tags of targets: one tag more in the table, and where a state sends by the table.
+use Rattle.std.proofs.Common.{◌≡◌, ◌≢◌, ℕ, zero, suc, ◌+◌, ◌-◌, ◌<◌, ◌≤◌, ◌⊎◌, ⊎_elim, inl, inr, Option, Some, None, List, [], ◌∷◌, ◌++◌, length, length-set, refl, sym, ap, subst, ◌∙◌, arith, get_or, set, get_or-set_same, get_or-set_other}
+use Rattle.std.specs.Prelude.{◌↔◌, map, slice_index, Contains, All}
+use Rattle.nk_field.proofs.Lists.{numbers_decided}
+use Rattle.nk_store.specs.Held.{Held, IsPacket}
+use Rattle.nk_determ.specs.Exact.{Sends}
+use Rattle.nk_determ.specs.Sets.{Differ, Ascend, SetsGrow}
+use Rattle.nk_determ.specs.States.{RowLeads, IsLedTo}
+use Rattle.nk_switches.specs.States.{IsStateAt}
+use Rattle.nk_switches.specs.Tagged.{set_of, members_of, LeadsWith, SendsBy, IsTagTable}
+use Rattle.nk_switches.proofs.Growing.{tag_set_kept}
+use Rattle.nk_switches.proofs.Printing.{some_member, one_set}
+
+-- the rows of a later tag
+pub members_later : (ss : List (List ℕ)) (tags : List ℕ) (t : ℕ) → (t ≡ 0 → ⊥) → members_of ss tags t ≡ map (λ l. l + 1) (get_or ss (get_or tags (t - 1) 0) [])
+members_later ss tags zero h = absurd (h refl)
+members_later ss tags (suc t) h = let e : suc t - 1 ≡ t = omega arith in ap (λ i. map (λ l. l + 1) (set_of ss tags i)) (sym e)
+
+-- equal values that are there
+pub same_some : (a b : ℕ) → Some a ≡ Some b → a ≡ b
+same_some a b e = cc
+
+-- no table at first
+pub table_first : (tags : List ℕ) (table : List (Option ℕ)) → get_or table 0 None ≡ Some 0 → ((u : ℕ) → 0 < u → get_or table u None ≡ None) → IsTagTable 0 tags table
+table_first tags table first none = record {
+  zero_is = first;
+  tagged = λ t lt. absurd (omega (arith, lt));
+  only = λ u t e. by u t e;
+}
+  where
+    by : (u t : ℕ) → get_or table u None ≡ Some t → ((u ≡ 0) × (t ≡ 0)) ⊎ ((i : ℕ) × (i < 0) × (u ≡ get_or tags i 0 + 1) × (t ≡ i + 1))
+    by zero t e = inl (refl, sym (same_some 0 t (sym first ∙ e)))
+    by (suc u) t e = let n = none (suc u) (omega arith) in let z : None ≡ Some t = sym n ∙ e in absurd cc
+
+-- one tag more
+pub table_more : (sets i : ℕ) (tags : List ℕ) (table : List (Option ℕ)) → length table ≡ sets + 1 → All (λ s. s < sets) tags →
+    ((j k : ℕ) → j < length tags → k < length tags → get_or tags j 0 ≡ get_or tags k 0 → j ≡ k) → i < length tags → IsTagTable i tags table →
+    IsTagTable (i + 1) tags (set table (get_or tags i 0 + 1) (Some (i + 1)))
+table_more sets i tags table len known once lt k = record {
+  zero_is = let ne : 0 ≢ get_or tags i 0 + 1 = λ e. omega (arith, e) in get_or-set_other table (get_or tags i 0 + 1) 0 (Some (i + 1)) None ne ∙ k.zero_is;
+  tagged = λ t le. tagged t le (numbers_decided t i);
+  only = λ u t e. only u t e (numbers_decided u (get_or tags i 0 + 1));
+}
+  where
+    inside : get_or tags i 0 + 1 < length table
+    inside = let a = known i 0 lt in omega (arith, a, len)
+
+    tagged : (t : ℕ) → t < i + 1 → (t ≡ i) ⊎ (t ≡ i → ⊥) → get_or (set table (get_or tags i 0 + 1) (Some (i + 1))) (get_or tags t 0 + 1) None ≡ Some (t + 1)
+    tagged t le (inl e) =
+        ap (λ j. get_or (set table (get_or tags i 0 + 1) (Some (i + 1))) (get_or tags j 0 + 1) None) e
+        ∙ get_or-set_same table (get_or tags i 0 + 1) (Some (i + 1)) None inside ∙ ap (λ j. Some (j + 1)) (sym e)
+    tagged t le (inr ne) =
+        let less : t < i = omega (arith, le, ne) in
+        let other : get_or tags t 0 + 1 ≢ get_or tags i 0 + 1 = λ e. ne (once t i (omega (arith, less, lt)) lt (omega (arith, e))) in
+        get_or-set_other table (get_or tags i 0 + 1) (get_or tags t 0 + 1) (Some (i + 1)) None other ∙ k.tagged t less
+
+    only : (u t : ℕ) → get_or (set table (get_or tags i 0 + 1) (Some (i + 1))) u None ≡ Some t → (u ≡ get_or tags i 0 + 1) ⊎ (u ≡ get_or tags i 0 + 1 → ⊥) →
+        ((u ≡ 0) × (t ≡ 0)) ⊎ ((j : ℕ) × (j < i + 1) × (u ≡ get_or tags j 0 + 1) × (t ≡ j + 1))
+    only u t e (inl is) =
+        let value : Some (i + 1) ≡ Some t =
+        sym (get_or-set_same table (get_or tags i 0 + 1) (Some (i + 1)) None inside) ∙ ap (λ v. get_or (set table (get_or tags i 0 + 1) (Some (i + 1))) v None) (sym is) ∙ e in
+        inr (i, omega arith, is, sym (same_some (i + 1) t value))
+    only u t e (inr ne) =
+        ⊎_elim
+        (λ z. inl z)
+        (λ j. inr (j.0, omega (arith, j.1), j.2, j.3))
+        (k.only u t (sym (get_or-set_other table (get_or tags i 0 + 1) u (Some (i + 1)) None ne) ∙ e))
+
+module _ (st : Held) (first ss : List (List ℕ)) (rows tags members : List ℕ) (sw d : ℕ) (table : List (Option ℕ)) (differ : Differ ss) (ascend : Ascend ss)
+    (grew : SetsGrow first ss) (known : All (λ s. s < length first) tags) (more : length first ≤ length ss)
+    (is : IsTagTable (length tags) tags table) (state : IsStateAt st ss rows members sw d) where
+  -- a tag's set is the one of the beginning
+  same_set : (i : ℕ) → i < length tags → get_or ss (get_or tags i 0) [] ≡ set_of first tags i
+  same_set i lt = tag_set_kept first ss tags i grew known lt
+
+  -- where the table sends is where the rows lead with a tag
+  pub sends_leads : (pk y : List ℕ) (t : ℕ) → IsPacket st pk → slice_index pk 0 ≡ sw → SendsBy st table d pk y t → LeadsWith st first rows tags members pk y t
+  sends_leads pk y t p here s =
+      ⊎_elim
+      (λ z. subst (λ n. LeadsWith st first rows tags members pk y n) (sym z.1) ((state.ends pk y p here).0 (subst (λ u. Sends st d pk y u) z.0 s.1)))
+      (λ i.
+      let l = state.leads pk y (get_or tags i.0 0) p here (subst (λ u. Sends st d pk y u) i.2 s.1) in
+      let same = same_set i.0 i.1 in
+      let next : suc i.0 ≡ t = let e = i.3 in omega (arith, e) in
+      subst (λ n. LeadsWith st first rows tags members pk y n) next (
+        i.1,
+        (λ e. l.some (same ∙ e)),
+        λ m. (λ c. (l.every m).0 (subst (λ x. Contains x m) (sym same) c), λ q. subst (λ x. Contains x m) same ((l.every m).1 q)),
+      ))
+      (is.only s.0 t s.2)
+
+  pub leads_sends : (pk y : List ℕ) (t : ℕ) → IsPacket st pk → slice_index pk 0 ≡ sw → LeadsWith st first rows tags members pk y t → SendsBy st table d pk y t
+  leads_sends pk y zero p here h = (0, (state.ends pk y p here).1 h, is.zero_is)
+  leads_sends pk y (suc t) p here h =
+      let same = same_set t h.0 in
+      let m = some_member (set_of first tags t) h.1 in
+      let q = (h.2 m.0).0 m.1 in
+      let i = state.led pk y m.0 p here q.0 q.1 in
+      let l = state.leads pk y i.0 p here i.1 in
+      let inside : get_or tags t 0 < length ss = let a = known t 0 h.0 in omega (arith, a, more) in
+      let one : i.0 ≡ get_or tags t 0 =
+      one_set ss i.0 (get_or tags t 0) differ ascend l.within inside
+      (λ x c. subst (λ z. Contains z x) (sym same) ((h.2 x).1 ((l.every x).0 c)))
+      (λ x c. (l.every x).1 ((h.2 x).0 (subst (λ z. Contains z x) same c))) in
+      let next : t + 1 ≡ suc t = omega arith in
+      (i.0 + 1, i.1, ap (λ u. get_or table (u + 1) None) one ∙ is.tagged t h.0 ∙ ap Some next)

@@ -1,0 +1,17 @@
+use Rattle.std.proofs.Common.{◌+◌, ◌∙◌, sym, subst, ap, length, get_or, take}
+use Rattle.nk_store.proofs.Stores.{grows_on}
+use Rattle.nk_switches.proofs.Growing.{sets_grow_on, known_kept}
+use Rattle.nk_switches.proofs.Stating.{ids_kept, all_more}
+use Rattle.nk_switches.proofs.states.all_states.Goals as goal
+
+pub loop-stop-preserved : goal.loop-stop-preserved
+loop-stop-preserved c = record {
+  grows = grows_on _ _ _ c.loop-stop.invariant.grows c.switch_states.ensures.grows;
+  sets = sets_grow_on c.args.ss.now c.loop-stop.ss c.switch_states.new.ss c.loop-stop.invariant.sets c.switch_states.ensures.sets;
+  made =
+      all_more c.loop-stop.st c.switch_states.new.st c.loop-stop.ss c.switch_states.new.ss c.args.rows.now c.args.tags.now c.args.stops.now c.loop-stop.stop-index
+      c.stop-item.result c.in_ok-states.states c.loop-stop.all c.push.new.self
+      c.switch_states.ensures.grows c.switch_states.ensures.sets (ids_kept c.args.st.now c.loop-stop.st c.args.rows.now c.loop-stop.invariant.grows c.requires.rows)
+      (known_kept c.args.ss.now c.loop-stop.ss c.args.tags.now c.loop-stop.invariant.sets c.requires.known) c.loop-stop-test.true c.stop-item.is c.in_ok-push.ensures.ok
+      c.in_ok-states.ensures.states c.loop-stop.invariant.made;
+}

@@ -1,0 +1,4 @@
+pub mod Matched
+pub mod States
+pub mod Tagged
+pub mod Made

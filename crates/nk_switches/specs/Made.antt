@@ -1,0 +1,104 @@
+-- The tables that are made of an automaton's rows: at each switch the rows of its tags.
+use Rattle.std.specs.Prelude.{◌≡◌, ℕ, ◌<◌, ◌≤◌, List, [], Option, length, map, take, slice_index, All}
+use Rattle.std.specs.List.{flat_map}
+use Rattle.nk_store.specs.Held.{Held, IsId, IsPacket}
+use Rattle.nk_store.specs.Diagram.{Diagram, IsReduced, IsFreeOf, leaf_at}
+use Rattle.nk_table.specs.declared.Bucket.{Bucket}
+use Rattle.nk_table.specs.declared.Plain.{Plain}
+use Rattle.nk_table.specs.declared.Table.{Table}
+use Rattle.nk_extract.specs.Buckets.{AreBuckets}
+use Rattle.nk_extract.specs.RowsOf.{IsPrintable}
+use Rattle.nk_extract.specs.RuleTree.{rows_for}
+use Rattle.nk_group.specs.Groups.{groups_of, rows_after}
+use Rattle.nk_switches.specs.declared.stop.Stop.{Stop}
+use Rattle.nk_switches.specs.declared.stop.TagState.{TagState}
+use Rattle.nk_switches.specs.declared.stop.SwitchStates.{SwitchStates}
+use Rattle.nk_switches.specs.Matched.{Matched}
+use Rattle.nk_switches.specs.States.{IsStateAt, StayAt}
+use Rattle.nk_switches.specs.Tagged.{members_of, LeadsWith, SendsBy}
+
+-- a tag beside its tree
+pub record TagTree : Type 0 where
+  pub tag : ℕ
+  pub tree : Diagram (List Bucket)
+
+-- the rows of these trees in turn, each with its whole bucket list
+abbrev pub rows_of_trees : ℕ → ℕ → List TagTree → List Plain
+rows_of_trees width tag trees = flat_map (λ e. rows_for width tag e.tag e.tree) trees
+
+-- the tag's rows are there and stay at the switch
+pub record IsTagAt (st : Held) (ss : List (List ℕ)) (rows tags : List ℕ) (tag sw t : ℕ) : Type 0 where
+  pub within : t ≤ length tags
+  pub places : All (λ l. l < length rows) (members_of ss tags t)
+  pub stay : StayAt st tag sw rows (members_of ss tags t)
+
+-- so it is with each tag of the switch
+abbrev pub IsStop : Held → List (List ℕ) → List ℕ → List ℕ → ℕ → Stop → Type 0
+IsStop st ss rows tags tag s = All (IsTagAt st ss rows tags tag s.switch) s.tags
+
+-- the places of a tag's rows are places among so many rows
+pub record HasPlaces (ss : List (List ℕ)) (count : ℕ) (tags : List ℕ) (t : ℕ) : Type 0 where
+  pub within : t ≤ length tags
+  pub places : All (λ l. l < count) (members_of ss tags t)
+
+-- so are those of a switch's tags
+abbrev pub HavePlaces : List (List ℕ) → ℕ → List ℕ → Stop → Type 0
+HavePlaces ss count tags s = All (HasPlaces ss count tags) s.tags
+
+-- the reduced tree of the bucket lists of where a tag's rows lead at the packets of a switch
+pub record IsTagTree (st : Held) (ss : List (List ℕ)) (rows tags : List ℕ) (tag sw : ℕ) (e : TagTree) : Type 0 where
+  pub reduced : IsReduced e.tree (take st.width st.maxes) 1
+  pub tag_free : IsFreeOf tag e.tree
+  pub leaves : (pk : List ℕ) → IsPacket st pk → slice_index pk 0 ≡ sw →
+      AreBuckets st.width tag (λ y t. LeadsWith st ss rows tags (members_of ss tags e.tag) pk y t) pk (leaf_at e.tree [] pk)
+
+-- the table of a switch: the rows of its tags' trees in turn, and the groups of these rows
+pub record IsTableAt (st : Held) (ss : List (List ℕ)) (diagrams tags : List ℕ) (tag : ℕ) (s : Stop) (table : Table) : Type 0 where
+  pub switch : table.switch ≡ s.switch
+  pub trees : List TagTree
+  pub tags_are : map (λ e. e.tag) trees ≡ s.tags
+  pub each : All (IsTagTree st ss diagrams tags tag s.switch) trees
+  pub groups : table.groups ≡ groups_of (rows_of_trees st.width tag trees)
+  pub rows : table.rows ≡ rows_after [] (rows_of_trees st.width tag trees)
+
+-- the diagram of a tag's rows at a switch
+pub record IsTagState (st : Held) (ss : List (List ℕ)) (rows tags : List ℕ) (sw : ℕ) (e : TagState) : Type 0 where
+  pub within : e.tag ≤ length tags
+  pub places : All (λ l. l < length rows) (members_of ss tags e.tag)
+  pub state : IsStateAt st ss rows (members_of ss tags e.tag) sw e.diagram
+
+-- the diagrams of a switch's tags
+pub record AreStatesAt (st : Held) (ss : List (List ℕ)) (rows tags : List ℕ) (s : Stop) (states : SwitchStates) : Type 0 where
+  pub switch : states.switch ≡ s.switch
+  pub tags_are : map (λ (e : TagState). e.tag) states.states ≡ s.tags
+  pub each : All (IsTagState st ss rows tags s.switch) states.states
+
+-- a diagram that can be printed at the switch
+pub record IsPrintableState (st : Held) (tag sw : ℕ) (e : TagState) : Type 0 where
+  pub id : IsId st e.diagram
+  pub printable : IsPrintable st tag sw e.diagram
+
+-- so are those of a switch's tags
+abbrev pub ArePrintableStates : Held → ℕ → SwitchStates → Type 0
+ArePrintableStates st tag s = All (IsPrintableState st tag s.switch) s.states
+
+-- the reduced tree of where a diagram leads at the packets of a switch, with the tags of a table
+pub record IsTreeBy (st : Held) (table : List (Option ℕ)) (tag sw : ℕ) (s : TagState) (e : TagTree) : Type 0 where
+  pub tag_is : e.tag ≡ s.tag
+  pub reduced : IsReduced e.tree (take st.width st.maxes) 1
+  pub tag_free : IsFreeOf tag e.tree
+  pub leaves : (pk : List ℕ) → IsPacket st pk → slice_index pk 0 ≡ sw →
+      AreBuckets st.width tag (λ y t. SendsBy st table s.diagram pk y t) pk (leaf_at e.tree [] pk)
+
+-- the rows of the trees of a switch's diagrams
+abbrev pub AreRowsBy : Held → List (Option ℕ) → ℕ → ℕ → List TagState → List Plain → Type 0
+AreRowsBy st table tag sw states rows =
+    (trees : List TagTree) × Matched (IsTreeBy st table tag sw) states trees × (rows ≡ rows_of_trees st.width tag trees)
+
+-- the table that is made of a switch's diagrams
+pub record IsTableBy (st : Held) (table : List (Option ℕ)) (tag : ℕ) (s : SwitchStates) (t : Table) : Type 0 where
+  pub switch : t.switch ≡ s.switch
+  pub trees : List TagTree
+  pub each : Matched (IsTreeBy st table tag s.switch) s.states trees
+  pub groups : t.groups ≡ groups_of (rows_of_trees st.width tag trees)
+  pub rows : t.rows ≡ rows_after [] (rows_of_trees st.width tag trees)
