@@ -2,9 +2,11 @@
 mod compiled;
 mod cut;
 mod limits;
+mod networks;
 mod random;
 mod refused;
 mod traced;
+mod walks;
 
 use nk::{Status, run};
 use nk_io::{MemSink, MemSource, PlainSource};

@@ -7,36 +7,45 @@ use nk_io::{MemSink, PlainSource};
 use std::alloc::{AllocError, Global};
 use std::{fs, io};
 
-/// An example: the name of its file, a policy in it, and the ending of the file with the answer.
-const EXAMPLES: [(&str, &str, &str); 4] = [
-    ("access-list", "allow", "tables"),
-    ("gateway", "forward", "tables"),
-    ("quarantine", "isolate", "tables"),
-    ("two-switches", "route", "refusal"),
+/// An example: the name of its file and a policy in it. The printed tables are in the file that ends in `tables`.
+const EXAMPLES: [(&str, &str); 7] = [
+    ("access-list", "allow"),
+    ("gateway", "forward"),
+    ("quarantine", "isolate"),
+    ("two-switches", "route"),
+    ("firewall", "admit"),
+    ("fork", "share"),
+    ("ring", "around"),
 ];
 
-/// A packet that is followed through the tables of an example; the answer is in the file that ends in `trace`.
-const TRACES: [(&str, &str); 3] = [
+/// How many links a packet may cross, and the packet that is followed through the tables of an example; the answer is in
+/// the file that ends in `trace`.
+const TRACES: [(&str, &str, &str); 7] = [
     (
         "access-list",
+        "0",
         "sw=1,pt=1,source=3405803783,destination=167772170,service=443",
     ),
-    ("gateway", "sw=1,pt=1,destination=3405803783"),
-    ("quarantine", "sw=1,pt=3"),
+    ("gateway", "0", "sw=1,pt=1,destination=3405803783"),
+    ("quarantine", "0", "sw=1,pt=3"),
+    ("two-switches", "1", "sw=1,pt=1,destination=2"),
+    ("firewall", "1", "sw=1,pt=1,destination=2,service=25"),
+    ("fork", "1", "sw=1,pt=1"),
+    ("ring", "1", "sw=1,pt=9"),
 ];
 
 fn main(rt: HostRuntime) -> io::Result<()> {
     let alloc = rt.alloc();
-    for (name, policy, ending) in EXAMPLES {
+    for (name, policy) in EXAMPLES {
         let input = fs::read(&rt, &format!(in alloc; "{name}.nk")?)?;
-        let wanted = fs::read(&rt, &format!(in alloc; "{name}.{ending}")?)?;
+        let wanted = fs::read(&rt, &format!(in alloc; "{name}.tables")?)?;
         let said = said_of(answers(alloc, &["compile", policy], input, &wanted)?);
         println!(rt; "{name}: {said}")?;
     }
-    for (name, packet) in TRACES {
+    for (name, hops, packet) in TRACES {
         let input = fs::read(&rt, &format!(in alloc; "{name}.tables")?)?;
         let wanted = fs::read(&rt, &format!(in alloc; "{name}.trace")?)?;
-        let said = said_of(answers(alloc, &["trace", "0", packet], input, &wanted)?);
+        let said = said_of(answers(alloc, &["trace", hops, packet], input, &wanted)?);
         println!(rt; "{name}, a packet: {said}")?;
     }
     Ok(())

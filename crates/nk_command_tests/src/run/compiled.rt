@@ -116,6 +116,56 @@ pub(super) const SUMS: &[Row] = &[
     (ONE_PORT, b"~dst=1;dst=1", DROPS),
 ];
 
+/// One field of eight values.
+const EIGHT_VALUES: &[u8] = b"field dst 7\nfield vlan 3\ntag vlan\nswitch 1 ports 1\n";
+
+const STARS: &[Row] = &[
+    (ONE_PORT, b"(dst=1)*", KEEPS),
+    (ONE_PORT, b"(id)*", KEEPS),
+    (ONE_PORT, b"(drop)*", KEEPS),
+    (ONE_PORT, b"(~dst=1)*", KEEPS),
+    (
+        ONE_PORT,
+        b"(dst=0;dst:=1 + dst=1;dst:=2)*",
+        b"table 1\ngroup 1 = [vlan:=0 out in] [dst:=1 vlan:=0 out in] [dst:=2 vlan:=0 out in]\n\
+          group 2 = [vlan:=0 out in] [dst:=2 vlan:=0 out in]\nrow 1 : vlan=0 dst=0 -> group 1\n\
+          row 1 : vlan=0 dst=1 -> group 2\nrow 0 : vlan=0 -> [vlan:=0 out in]\n",
+    ),
+    // a star of a star is the star
+    (
+        ONE_PORT,
+        b"((dst=1;dst:=2)*)*",
+        b"table 1\ngroup 1 = [vlan:=0 out in] [dst:=2 vlan:=0 out in]\nrow 1 : vlan=0 dst=1 -> group 1\n\
+          row 0 : vlan=0 -> [vlan:=0 out in]\n",
+    ),
+    (
+        ONE_PORT,
+        b"(~dst=0;dst:=0)*",
+        b"table 1\ngroup 1 = [vlan:=0 out in] [dst:=0 vlan:=0 out in]\nrow 1 : vlan=0 dst=0 -> [vlan:=0 out in]\n\
+          row 0 : vlan=0 -> group 1\n",
+    ),
+    // seven steps, each value a set of its own
+    (
+        EIGHT_VALUES,
+        b"(dst=0;dst:=1 + dst=1;dst:=2 + dst=2;dst:=3 + dst=3;dst:=4 + dst=4;dst:=5 + dst=5;dst:=6 + dst=6;dst:=7)*",
+        b"table 1\n\
+          group 1 = [vlan:=0 out in] [dst:=2 vlan:=0 out in] [dst:=3 vlan:=0 out in] [dst:=4 vlan:=0 out in] \
+          [dst:=5 vlan:=0 out in] [dst:=6 vlan:=0 out in] [dst:=7 vlan:=0 out in]\n\
+          group 2 = [vlan:=0 out in] [dst:=3 vlan:=0 out in] [dst:=4 vlan:=0 out in] [dst:=5 vlan:=0 out in] \
+          [dst:=6 vlan:=0 out in] [dst:=7 vlan:=0 out in]\n\
+          group 3 = [vlan:=0 out in] [dst:=4 vlan:=0 out in] [dst:=5 vlan:=0 out in] [dst:=6 vlan:=0 out in] \
+          [dst:=7 vlan:=0 out in]\n\
+          group 4 = [vlan:=0 out in] [dst:=5 vlan:=0 out in] [dst:=6 vlan:=0 out in] [dst:=7 vlan:=0 out in]\n\
+          group 5 = [vlan:=0 out in] [dst:=6 vlan:=0 out in] [dst:=7 vlan:=0 out in]\n\
+          group 6 = [vlan:=0 out in] [dst:=7 vlan:=0 out in]\n\
+          group 7 = [vlan:=0 out in] [dst:=1 vlan:=0 out in] [dst:=2 vlan:=0 out in] [dst:=3 vlan:=0 out in] \
+          [dst:=4 vlan:=0 out in] [dst:=5 vlan:=0 out in] [dst:=6 vlan:=0 out in] [dst:=7 vlan:=0 out in]\n\
+          row 1 : vlan=0 dst=1 -> group 1\nrow 1 : vlan=0 dst=2 -> group 2\nrow 1 : vlan=0 dst=3 -> group 3\n\
+          row 1 : vlan=0 dst=4 -> group 4\nrow 1 : vlan=0 dst=5 -> group 5\nrow 1 : vlan=0 dst=6 -> group 6\n\
+          row 1 : vlan=0 dst=7 -> [vlan:=0 out in]\nrow 0 : vlan=0 -> group 7\n",
+    ),
+];
+
 /// Whether each policy is compiled to its tables; else the number of the first that isn't, from 0.
 fn first_wrong(alloc: Global, rows: &[Row]) -> Result<Option<usize>, Fail> {
     for (number, (declarations, policy, tables)) in rows.iter().enumerate() {
@@ -137,5 +187,11 @@ fn sequences_of_tests_and_assignments(rt: HostRuntime) -> Result<(), Fail> {
 #[test]
 fn sums_and_complements(rt: HostRuntime) -> Result<(), Fail> {
     assert_eq!(rt; first_wrong(rt.alloc(), SUMS)?, None);
+    Ok(())
+}
+
+#[test]
+fn stars(rt: HostRuntime) -> Result<(), Fail> {
+    assert_eq!(rt; first_wrong(rt.alloc(), STARS)?, None);
     Ok(())
 }

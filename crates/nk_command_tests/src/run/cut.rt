@@ -14,13 +14,11 @@ const DECLARED: &[u8] =
     b"field dst 3\nfield vlan 3\ntag vlan\nswitch 1 ports 1,2\nlink 1:2 -> 1:1\nlet p = drop;1:2=>1:1";
 
 /// What the first bytes of `DECLARED` come to when `p` is compiled. Between two declarations no policy is
-/// declared yet; `drop` alone is compiled, and the whole is refused for its link; else the text has a
-/// fault. A cut in the middle of a number or a name is a declaration too.
+/// declared yet; `drop` alone is compiled, and so is the whole; else the text has a fault. A cut in the middle of a number or a name is a declaration too.
 fn status_at(len: usize) -> Status {
     match len {
         0 | 11 | 12 | 24 | 25 | 33 | 34 | 50 | 52 | 53 | 68 | 69 => Status::Refused,
-        81 => Status::Done,
-        90 => Status::Refused,
+        81 | 90 => Status::Done,
         _ => Status::Text,
     }
 }

@@ -19,13 +19,18 @@ use std::test::Fail;
 
 /// Numbers drawn one after the other: each is 48271 times the one before, modulo 2147483647.
 #[derive(Drop)]
-struct Draws {
+pub(super) struct Draws {
     last: u64,
 }
 
 impl Draws {
+    /// The numbers behind this one.
+    pub(super) fn new(last: u64) -> Draws {
+        Draws { last }
+    }
+
     /// A number below `bound`.
-    fn below(&mut self, bound: u64) -> u64 {
+    pub(super) fn below(&mut self, bound: u64) -> u64 {
         self.last = (self.last % 2_147_483_647) * 48271 % 2_147_483_647;
         self.last % bound.max(1)
     }
@@ -132,7 +137,7 @@ fn policies(alloc: Global, count: u32, draws: &mut Draws) -> Result<Vec<Vec<u8>>
 /// Whether the policy has no star, and each complement is that of a predicate: then all its histories are a list.
 #[cycle(is_flat)]
 #[tactic(auto, using(nk_policy::proofs::Trees::tree_of_sum, nk_policy::proofs::Trees::tree_of_seq))]
-fn is_flat(p: &Pol) -> bool
+pub(super) fn is_flat(p: &Pol) -> bool
     ensures { result ≡ true → IsFlat (tree_of p.now) }
 {
     match p {
@@ -228,7 +233,7 @@ fn is_carried(alloc: Global, policy: &[u8]) -> Result<bool, Fail> {
 fn tables_of_random_policies(rt: HostRuntime) -> Result<(), Fail> {
     let alloc = rt.alloc();
     for seed in 1..=6 {
-        let mut draws = Draws { last: seed };
+        let mut draws = Draws::new(seed);
         for policy in policies(alloc, 16, &mut draws)?.iter() {
             assert!(rt; is_carried(alloc, policy)?, "seed {seed}");
         }

@@ -136,8 +136,8 @@ pub(super) const POLICIES: &[(&[u8], &[u8], &[u8])] = &[
     (LINKED, b"sw:=2;1:1=>2:1", b"refused C5: switch set\n"),
     (LINKED, b"1:1=>2:1", b"refused C6: no such link\n"),
     (LINKED, b"2:1=>1:2", b"refused C6: no such link\n"),
-    (LINKED, b"1:2=>2:1", b"refused C0: not yet\n"),
-    (LINKED, b"dst=1*", b"refused C0: not yet\n"),
+    (LINKED, b"(1:2=>2:1)*", b"refused C7: off edge\n"),
+    (LINKED, b"dst=1*", b"refused C7: off edge\n"),
     (LINKED, b"id", b"refused C7: off edge\n"),
     (LINKED, b"pt:=5", b"refused C7: off edge\n"),
     (

@@ -8,7 +8,7 @@ use std::alloc::Global;
 use std::test::Fail;
 
 /// Two switches and a link.
-const LINE: &[u8] = b"tables 1
+pub(super) const LINE: &[u8] = b"tables 1
 field dst 3
 field vlan 7
 tag vlan
@@ -49,7 +49,7 @@ row 0 : vlan=0 -> group 1
 ";
 
 /// Two switches that lead packets round and let a copy out at each.
-const RING: &[u8] = b"tables 1
+pub(super) const RING: &[u8] = b"tables 1
 field vlan 7
 tag vlan
 switch 1 ports 2,3,9

@@ -1,0 +1,152 @@
+//! Random policies over a small network: where the packets go by their printed tables, against all histories of the
+//! policies by the plain program.
+use super::done;
+use super::random::{Draws, declared_by, is_flat};
+use nk::Status;
+use nk_field::{Fid, History, Packet};
+use nk_lex::tokens;
+use nk_policy::{Pol, histories};
+use nk_sim::trace;
+use nk_table::Tables;
+use nk_tabtext::read_tables;
+use std::alloc::{AllocError, Global};
+use std::test::Fail;
+
+/// Three switches in a ring, with a link back from the second to the first; packets leave at the ports 9.
+const NETWORK: &[u8] = b"field a 1 field vlan 255 tag vlan
+switch 1 ports 1,2,9 switch 2 ports 1,2,9 switch 3 ports 1,2,9
+link 1:1 -> 2:2 link 2:1 -> 3:2 link 3:1 -> 1:2 link 2:2 -> 1:1
+";
+
+/// What is done before a link and behind it.
+const DEEDS: [&[u8]; 8] = [
+    b"id",
+    b"a=0",
+    b"a=1;a:=0",
+    b"a:=1",
+    b"(id + a:=1)",
+    b"~(a=1;pt=2)",
+    b"(a=0;a:=1 + a=1;a:=0)",
+    b"(pt=9 + pt=2)",
+];
+
+/// Ways over a link.
+const CROSSINGS: [&[u8]; 5] = [
+    b";pt:=1;1:1=>2:2;",
+    b";pt:=1;2:1=>3:2;",
+    b";pt:=1;3:1=>1:2;",
+    b";pt:=2;2:2=>1:1;",
+    b";1:1=>2:2;",
+];
+
+/// One of the texts.
+fn one_of<'a>(texts: &[&'a [u8]], draws: &mut Draws) -> &'a [u8] {
+    match texts.get(draws.below(texts.len() as u64) as usize) {
+        Some(text) => text,
+        None => b"id",
+    }
+}
+
+/// A sum of one to four ways, each over one link.
+fn round(alloc: Global, draws: &mut Draws) -> Result<Vec<u8>, AllocError> {
+    let mut text = Vec::new(alloc);
+    let more = draws.below(4);
+    for part in 0..=more {
+        if part > 0 {
+            text.extend_from_slice(b" + ")?;
+        }
+        text.extend_from_slice(one_of(&DEEDS, draws))?;
+        text.extend_from_slice(one_of(&CROSSINGS, draws))?;
+        text.extend_from_slice(one_of(&DEEDS, draws))?;
+    }
+    Ok(text)
+}
+
+/// A program of two policies: any number of rounds, and at most three of them, which is the same up to three crossings.
+fn program_text(alloc: Global, draws: &mut Draws) -> Result<Vec<u8>, AllocError> {
+    let round = round(alloc, draws)?;
+    let last = one_of(&DEEDS, draws);
+    let mut text = Vec::from_slice(alloc, NETWORK)?;
+    text.extend_from_slice(b"let r = ")?;
+    text.extend_from_slice(round.as_slice())?;
+    text.extend_from_slice(b"\nlet p = r*;")?;
+    text.extend_from_slice(last)?;
+    text.extend_from_slice(b";pt:=9\nlet q = (id + r;(id + r;(id + r)));")?;
+    text.extend_from_slice(last)?;
+    text.extend_from_slice(b";pt:=9\n")?;
+    Ok(text)
+}
+
+/// A packet that may come in, by a number below 18.
+fn packet_of(number: u64) -> Packet {
+    let mut pk = Packet::zero();
+    pk.put(Fid::SWITCH, 1 + number % 3);
+    pk.put(
+        Fid::PORT,
+        match number / 3 % 3 {
+            0 => 1,
+            1 => 2,
+            _ => 9,
+        },
+    );
+    pk.put(Fid::new(2), number / 9);
+    pk
+}
+
+/// The histories of the policy from a packet, each once.
+fn all_histories(alloc: Global, p: &Pol, pk: &Packet) -> Result<Vec<History>, AllocError> {
+    if !is_flat(p) {
+        return Ok(Vec::new(alloc));
+    }
+    let mut each = Vec::new(alloc);
+    for history in histories(alloc, p, pk)? {
+        if !each.as_slice().contains(&history) {
+            each.push(history)?;
+        }
+    }
+    Ok(each)
+}
+
+/// Whether each packet leaves with exactly the histories that the policy has, each once, over up to three links.
+fn agree(alloc: Global, p: &Pol, tables: &Tables) -> Result<bool, AllocError> {
+    for number in 0..18 {
+        let pk = packet_of(number);
+        let wanted = all_histories(alloc, p, &pk)?;
+        let traced = trace(alloc, tables, 3, &pk)?;
+        let left = traced.histories.as_slice();
+        if left.len() != wanted.len() || wanted.iter().any(|h| !left.contains(h)) {
+            return Ok(false);
+        }
+    }
+    Ok(true)
+}
+
+/// Whether the printed tables of `p` do what `q` does.
+fn is_carried(alloc: Global, text: &[u8]) -> Result<bool, Fail> {
+    let declared = match tokens(alloc, text) {
+        Ok(tokens) => declared_by(alloc, &tokens)?,
+        Err(_) => return Ok(false),
+    };
+    let (status, out, _) = done(alloc, &["compile", "p"], text)?;
+    if status != Status::Done {
+        return Ok(false);
+    }
+    let Ok(tables) = read_tables(alloc, out.taken()) else {
+        return Ok(false);
+    };
+    match declared.find("q") {
+        Some(q) => Ok(agree(alloc, q, &tables)?),
+        None => Ok(false),
+    }
+}
+
+#[test]
+fn histories_of_random_policies(rt: HostRuntime) -> Result<(), Fail> {
+    let alloc = rt.alloc();
+    for seed in 1..=40 {
+        let mut draws = Draws::new(seed);
+        let text = program_text(alloc, &mut draws)?;
+        assert!(rt; is_carried(alloc, &text)?, "seed {seed}");
+    }
+    Ok(())
+}
