@@ -15,4 +15,7 @@ pub mod Laters
 pub mod OverPlaces
 pub mod Places
 pub mod Chosen
+pub mod Cuts
 pub mod Shorts
+pub mod PartSums
+pub mod Halved

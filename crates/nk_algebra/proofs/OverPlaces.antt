@@ -16,12 +16,12 @@ use Rattle.nk_algebra.proofs.Unite.{merged_assoc}
 use Rattle.nk_algebra.proofs.Weaves.{merged-nil}
 
 -- what is made of some places ascends strictly
-places_strict : (F : ℕ → List Out) (from n : ℕ) → ((k : ℕ) → Strict (F k)) → Strict (over_places F from n)
+pub places_strict : (F : ℕ → List Out) (from n : ℕ) → ((k : ℕ) → Strict (F k)) → Strict (over_places F from n)
 places_strict F from zero s = tt
 places_strict F from (suc n) s = merged_strict (F from) (over_places F (from + 1) n) (s from) (places_strict F (from + 1) n s)
 
 -- two halves together are the whole
-places_halves : (F : ℕ → List Out) (from m n : ℕ) → ((k : ℕ) → Strict (F k)) →
+pub places_halves : (F : ℕ → List Out) (from m n : ℕ) → ((k : ℕ) → Strict (F k)) →
     merged (over_places F from m) (over_places F (from + m) n) ≡ over_places F from (m + n)
 places_halves F from zero n s =
     let e : from + 0 ≡ from = omega arith in

@@ -1,5 +1,7 @@
 -- The part that holds a value, by its place.
-use Rattle.std.proofs.Common.{◌≡◌, ℕ, zero, suc, ◌+◌, ◌<◌, ◌≤◌, List, [], ◌∷◌, length, sym, ◌∙◌, arith, get_or}
+use Rattle.std.proofs.Common.{◌≡◌, ◌≢◌, ℕ, zero, suc, ◌+◌, ◌-◌, ◌<◌, ◌≤◌, nat_lt, true, List, [], ◌∷◌, length, refl, sym, subst, ◌∙◌, arith, get_or}
+use Rattle.std.proofs.lemmas.Bool.Decides.{nat_tests}
+use Rattle.std.proofs.lemmas.List.{get_or_default}
 use Rattle.std.specs.List.Sorted.{IsNonDecreasingBy}
 use Rattle.nk_store.specs.Nodes.{Rises}
 use Rattle.nk_algebra.specs.Subs.{found_in}
@@ -37,3 +39,19 @@ place_found v i [] e d l h m = absurd (omega arith)
 place_found v zero (p ∷ ps) e d l h m = sym (found-first e p ps v m)
 place_found v (suc i) (p ∷ ps) e d l h m =
     place_found v i ps p d (omega arith) (λ k n. h (suc k) (omega (arith, n))) m ∙ sym (found-rest e p ps v (h 0 (omega arith)))
+
+-- a part is found where its end is not below the value and the end before it is
+pub next_found : (high v i : ℕ) (ps : List (ℕ × ℕ)) (e d : ℕ × ℕ) → Rises high 0 ps → suc i < length ps →
+    (get_or ps i d).0 < v → v ≤ (get_or ps (suc i) d).0 → get_or ps (suc i) d ≡ found_in e ps v
+next_found high v i ps e d r l b m =
+    place_found v (suc i) ps e d l (λ k n. omega (arith, b, ends_ordered high 0 ps r k i d (omega (arith, n)) (omega (arith, l)))) m
+
+-- the same, by a test of the end before it
+pub found_behind : (high v i : ℕ) (ps : List (ℕ × ℕ)) (x y e : ℕ × ℕ) → Rises high 0 ps → i ≢ 0 → i < length ps →
+    nat_lt (get_or ps (i - 1) x).0 v ≡ true → v ≤ (get_or ps i y).0 → get_or ps i e ≡ found_in (0, 0) ps v
+found_behind high v zero ps x y e r n l t u = absurd (n refl)
+found_behind high v (suc i) ps x y e r n l t u =
+    let before : (get_or ps i x).0 < v = grind (arith, nat_tests, t) in
+    next_found high v i ps (0, 0) e r l
+    (subst (λ (p : ℕ × ℕ). p.0 < v) (get_or_default ps i x e (omega (arith, l))) before)
+    (subst (λ (p : ℕ × ℕ). v ≤ p.0) (get_or_default ps (suc i) y e l) u)

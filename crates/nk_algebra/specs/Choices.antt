@@ -1,8 +1,10 @@
 -- A choice by a field between diagrams that test any fields.
-use Rattle.std.specs.Prelude.{ℕ, zero, suc, ◌+◌, ◌<◌, min, cond, leb, ltb, ◌&&◌, List, [], ◌∷◌, slice_index}
-use Rattle.nk_store.specs.declared.node.Out.{Out}
+use Rattle.std.specs.Prelude.{◌≡◌, ℕ, ◌<◌, ◌≤◌, min, Bool, eqb, ◌&&◌, List, [], ◌∷◌, Some, slice_index}
+use Rattle.std.specs.Map.{lookup}
+use Rattle.std.specs.Cmp.Lexicographic.{pointwise}
 use Rattle.nk_store.specs.Nodes.{child_at, Rises, Each}
-use Rattle.nk_store.specs.Held.{Held, IsId, look}
+use Rattle.nk_store.specs.Held.{Held, IsId, IsChild, HasLeaves, look, top}
+use Rattle.nk_algebra.specs.Subs.{sub}
 
 -- parts of a field's values, each with a diagram
 pub record AreChoices (st : Held) (f : ℕ) (parts : List (ℕ × ℕ)) : Type 0 where
@@ -10,15 +12,33 @@ pub record AreChoices (st : Held) (f : ℕ) (parts : List (ℕ × ℕ)) : Type 0
   pub rise : Rises (slice_index st.maxes f) 0 parts
   pub ids : Each (IsId st) parts
 
--- the first value of part number k, of parts from the value low on; behind the last part the value after them all
-abbrev pub start : ℕ → List (ℕ × ℕ) → ℕ → ℕ
-start low ps zero = low
-start low [] (suc k) = low
-start low (p ∷ ps) (suc k) = start (p.0 + 1) ps k
+-- the field f, or the least one before it that a part's diagram tests first
+abbrev pub first_of : Held → ℕ → List (ℕ × ℕ) → ℕ
+first_of st f [] = f
+first_of st f (p ∷ ps) = first_of st (min f (top st p.1)) ps
 
--- the leaf of the part that holds the field's value, where it is one of the parts from one number up to before another,
--- else nothing; a value past the highest counts as the highest
-abbrev pub chosen : Held → ℕ → List (ℕ × ℕ) → ℕ → ℕ → List ℕ → List Out
-chosen st f parts from to pk =
-    cond (leb (start 0 parts from) (min (slice_index pk f) (slice_index st.maxes f)) && ltb (min (slice_index pk f) (slice_index st.maxes f)) (start 0 parts to))
-    (look st (child_at 0 parts (slice_index pk f)) pk) []
+-- the parts, each with what its diagram is at the value v of g
+abbrev pub subs : Held → ℕ → ℕ → List (ℕ × ℕ) → List (ℕ × ℕ)
+subs st g v [] = []
+subs st g v (p ∷ ps) = (p.0, sub st g v p.1) ∷ subs st g v ps
+
+-- what the parts are at the value v of g: the parts p.1, up to the value p.0
+pub record IsCut (st : Held) (g v : ℕ) (parts : List (ℕ × ℕ)) (p : ℕ × List (ℕ × ℕ)) : Type 0 where
+  pub from : v ≤ p.0
+  pub within : p.0 ≤ slice_index st.maxes g
+  pub same : (w : ℕ) → v ≤ w → w ≤ p.0 → subs st g w parts ≡ p.1
+  pub children : Each (IsChild st g) p.1
+
+-- d is the choice by f between the parts; it tests no field before the first of f and those that they test
+pub record IsChosen (st : Held) (f : ℕ) (parts : List (ℕ × ℕ)) (d : ℕ) : Type 0 where
+  pub choices : AreChoices st f parts
+  pub leaves : HasLeaves st d (λ pk. look st (child_at 0 parts (slice_index pk f)) pk)
+  pub later : first_of st f parts ≤ top st d
+
+-- whether two lists of parts are one
+abbrev pub parts_eq : List (ℕ × ℕ) → List (ℕ × ℕ) → Bool
+parts_eq ps qs = pointwise (λ p q. eqb p.0 q.0 && eqb p.1 q.1) ps qs
+
+-- each row leads from parts to the choice by f between them
+abbrev pub AreChosen : Held → ℕ → List (List (ℕ × ℕ) × ℕ) → Type 0
+AreChosen st f rows = (parts : List (ℕ × ℕ)) (d : ℕ) → lookup (parts_eq parts) rows ≡ Some d → IsChosen st f parts d

@@ -6,3 +6,4 @@ pub mod Seqs
 pub mod Unions
 pub mod Predicates
 pub mod Choices
+pub mod Halves

@@ -1,8 +1,10 @@
 -- Many diagrams together.
-use Rattle.std.specs.Prelude.{ℕ, zero, suc, ◌+◌, ◌<◌, List, [], length, slice_index}
+use Rattle.std.specs.Prelude.{◌≡◌, ℕ, zero, suc, ◌+◌, ◌<◌, ◌≤◌, List, [], length, slice_index}
 use Rattle.nk_store.specs.declared.node.Out.{Out}
-use Rattle.nk_store.specs.Held.{Held, IsId, look}
+use Rattle.nk_store.specs.Nodes.{child_at}
+use Rattle.nk_store.specs.Held.{Held, IsId, IsWhole, look, top, AreParts}
 use Rattle.nk_algebra.specs.Leaves.{merged}
+use Rattle.nk_algebra.specs.Subs.{sub}
 
 -- each is a number of the store
 abbrev pub AreIds : Held → List ℕ → Type 0
@@ -17,3 +19,16 @@ unions st ds from (suc n) pk = merged (look st (slice_index ds from) pk) (unions
 abbrev pub over_places : (ℕ → List Out) → ℕ → ℕ → List Out
 over_places F from zero = []
 over_places F from (suc n) = merged (F from) (over_places F (from + 1) n)
+
+-- none of the diagrams tests a field before f
+abbrev pub AreFrom : Held → ℕ → List ℕ → Type 0
+AreFrom st f ds = (k : ℕ) → k < length ds → f ≤ top st (slice_index ds k)
+
+-- the leaf of the diagram at place k, at the value v of f
+abbrev pub leaf_at : Held → ℕ → List ℕ → ℕ → List ℕ → ℕ → List Out
+leaf_at st f ds v pk k = look st (sub st f v (slice_index ds k)) pk
+
+-- parts by f that have at each value v the leaf R v
+pub record HaveParts (st : Held) (f : ℕ) (R : ℕ → List ℕ → List Out) (ps : List (ℕ × ℕ)) : Type 0 where
+  pub parts : AreParts st f ps
+  pub leaf : (v : ℕ) (pk : List ℕ) → IsWhole pk → look st (child_at 0 ps v) pk ≡ R v pk

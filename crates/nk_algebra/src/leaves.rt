@@ -1,6 +1,6 @@
 //! Operations leaf by leaf.
-ghost use Rattle.std.specs.Prelude.{◌≡◌, ℕ, ◌≤◌, [], ◌++◌, true, IfOk, IfSome, OnOk, OnErr, List as Items, drop, length};
-ghost use Rattle.nk_store.specs.Held.{IsId, look, Grows, HasLeaves};
+ghost use Rattle.std.specs.Prelude.{◌≡◌, ℕ, ◌≤◌, min, [], ◌++◌, true, IfOk, IfSome, OnOk, OnErr, List as Items, drop, length};
+ghost use Rattle.nk_store.specs.Held.{IsId, look, top, Grows, HasLeaves};
 ghost use Rattle.nk_algebra.specs.Leaves.{merged, guarded, absent};
 ghost use Rattle.nk_algebra.specs.Predicates.{IsPredicate, Ends};
 
@@ -171,6 +171,17 @@ pub fn union(st: &mut Store, a: Id, b: Id) -> Result<Id, AllocError>
     ensures ok { IfOk result (λ d. HasLeaves st.new d (λ pk. merged (look st.old a pk) (look st.old b pk))) }
     ensures predicate { IfOk result (λ d. IsPredicate st.old a → IsPredicate st.old b → IsPredicate st.new d) }
     ensures ends { IfOk result (λ d. Ends (look st.old a) → Ends (look st.old b) → Ends (look st.new d)) }
+{
+    union_later(st, a, b)
+}
+
+/// Both leaves together; no field is tested before both test one.
+pub(crate) fn union_later(st: &mut Store, a: Id, b: Id) -> Result<Id, AllocError>
+    requires left { IsId st.old a }
+    requires right { IsId st.old b }
+    ensures grows { Grows st.old st.new }
+    ensures ok { IfOk result (λ d. HasLeaves st.new d (λ pk. merged (look st.old a pk) (look st.old b pk))) }
+    ensures later { IfOk result (λ d. min (top st.old a) (top st.old b) ≤ top st.new d) }
 {
     merge(st, &Together, a, b)
 }

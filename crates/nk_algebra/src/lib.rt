@@ -4,6 +4,7 @@
 mod aims;
 mod choices;
 mod constants;
+mod halves;
 mod leaves;
 mod maps;
 mod pairs;
@@ -11,6 +12,7 @@ mod part;
 mod restricts;
 mod seqs;
 mod spans;
+mod sums;
 mod unions;
 
 pub use aims::{aim, assign};
@@ -19,7 +21,7 @@ pub use constants::{empty, identity};
 pub use leaves::{both, negate, union};
 pub use maps::{LeafMap, map_leaves};
 pub use pairs::{Join, merge};
-pub use part::{part_at, tested};
+pub use part::{part_at, part_near, tested};
 pub use restricts::restrict;
 pub use seqs::{after, out_count, put_after, seq, shift};
 pub use spans::{range, span, test};

@@ -8,7 +8,7 @@ ghost use Rattle.nk_store.specs.Held.{IsId, look, top, Grows, HasLeaves, IsWhole
 ghost use Rattle.nk_algebra.specs.Subs.{sub, IsSplit};
 ghost use Rattle.nk_algebra.specs.MadeOf.{AreMadeOf};
 
-use crate::part::{part_at, tested};
+use crate::part::{part_near, tested};
 use nk_field::{Fid, List};
 use nk_store::{Id, Node, Out, Store};
 use std::alloc::{AllocError, Global};
@@ -153,9 +153,10 @@ fn map_parts<M: LeafMap>(
 {
     let max = st.max(f);
     let mut parts = List::new(st.alloc());
+    let mut near = 0;
     let mut from = 0;
     loop {
-        let (end, child) = part_at(st, d, f, from);
+        let (end, child) = part_near(st, d, f, from, &mut near);
         let to = map_once(st, seen, m, child)?;
         parts.push((end, to))?;
         if end == max {

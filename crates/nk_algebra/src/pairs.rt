@@ -6,7 +6,7 @@ ghost use Rattle.nk_store.specs.Leaves.{Strict, Every, Suits};
 ghost use Rattle.nk_store.specs.Held.{IsId, look, top, Grows, HasLeaves, IsWhole, AreParts};
 ghost use Rattle.nk_algebra.specs.Subs.{sub, IsFirst};
 
-use crate::part::part_at;
+use crate::part::part_near;
 use nk_field::{Fid, List};
 use nk_store::{Id, Node, Out, Store};
 use std::alloc::{AllocError, Global};
@@ -57,7 +57,7 @@ fn first_field(st: &Store, a: Id, b: Id) -> Option<Fid>
     }
 }
 
-/// The diagram whose leaf at each packet is both leaves put together.
+/// The diagram whose leaf at each packet is both leaves put together: what is known of them, else made and then kept.
 #[cycle(merge)]
 pub fn merge<J: Join>(st: &mut Store, j: &J, a: Id, b: Id) -> Result<Id, AllocError>
     requires left { IsId st.old a }
@@ -66,13 +66,18 @@ pub fn merge<J: Join>(st: &mut Store, j: &J, a: Id, b: Id) -> Result<Id, AllocEr
     ensures ok { IfOk result (λ d. HasLeaves st.new d (λ pk. J.joined j.now (look st.old a pk) (look st.old b pk))) }
     ensures later { IfOk result (λ d. min (top st.old a) (top st.old b) ≤ top st.new d) }
 {
-    match first_field(st, a, b) {
-        None => merge_leaves(st, j, a, b),
-        Some(f) => merge_case(st, j, f, a, b),
+    if let Some(d) = known_top(st, j, a, b) {
+        return Ok(d);
     }
+    let d = match first_field(st, a, b) {
+        None => merge_leaves(st, j, a, b)?,
+        Some(f) => merge_case(st, j, f, a, b)?,
+    };
+    j.keep(st, a, b, d)?;
+    Ok(d)
 }
 
-/// Two diagrams put together where one tests a field: what is known of them, else by the parts, and then kept.
+/// Two diagrams put together where one tests a field, by the parts.
 #[cycle(merge)]
 fn merge_case<J: Join>(st: &mut Store, j: &J, f: Fid, a: Id, b: Id) -> Result<Id, AllocError>
     requires left { IsId st.old a }
@@ -82,13 +87,8 @@ fn merge_case<J: Join>(st: &mut Store, j: &J, f: Fid, a: Id, b: Id) -> Result<Id
     ensures ok { IfOk result (λ d. HasLeaves st.new d (λ pk. J.joined j.now (look st.old a pk) (look st.old b pk))) }
     ensures later { IfOk result (λ d. min (top st.old a) (top st.old b) ≤ top st.new d) }
 {
-    if let Some(d) = known_top(st, j, a, b) {
-        return Ok(d);
-    }
     let parts = merge_parts(st, j, f, a, b)?;
-    let d = st.case(f, parts)?;
-    j.keep(st, a, b, d)?;
-    Ok(d)
+    st.case(f, parts)
 }
 
 /// What is known of two diagrams put together; it tests no field before both.
@@ -137,10 +137,12 @@ fn merge_parts<J: Join>(
 {
     let max = st.max(f);
     let mut parts = List::new(st.alloc());
+    let mut near_a = 0;
+    let mut near_b = 0;
     let mut from = 0;
     loop {
-        let (end_a, child_a) = part_at(st, a, f, from);
-        let (end_b, child_b) = part_at(st, b, f, from);
+        let (end_a, child_a) = part_near(st, a, f, from, &mut near_a);
+        let (end_b, child_b) = part_near(st, b, f, from, &mut near_b);
         let end = end_a.min(end_b);
         let child = merge(st, j, child_a, child_b)?;
         parts.push((end, child))?;

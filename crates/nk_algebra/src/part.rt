@@ -1,5 +1,5 @@
 //! A diagram at one value of its first field.
-ghost use Rattle.std.specs.Prelude.{◌≡◌, ℕ, ◌<◌, ◌≤◌, length, MatchOption, slice_index, slice_index_or};
+ghost use Rattle.std.specs.Prelude.{◌≡◌, ℕ, ◌<◌, ◌≤◌, length, true, MatchOption, slice_index, slice_index_or};
 ghost use Rattle.nk_store.specs.Nodes.{Rises};
 ghost use Rattle.nk_store.specs.Held.{IsId, top};
 ghost use Rattle.nk_algebra.specs.Subs.{found_in, IsPart, IsSplit};
@@ -26,11 +26,24 @@ pub fn part_at(st: &Store, d: Id, f: Fid, v: u64) -> (u64, Id)
     requires within { v ≤ slice_index st.now.maxes f }
     ensures { IsPart st.now f d v result }
 {
+    let mut near = 0;
+    part_near(st, d, f, v, &mut near)
+}
+
+/// What the diagram is at a value of the field, as `part_at` says it. The place near which it is found first is kept for the
+/// next value: values that rise are found in steps, wherever they are.
+pub fn part_near(st: &Store, d: Id, f: Fid, v: u64, near: &mut usize) -> (u64, Id)
+    requires id { IsId st.now d }
+    requires first { f ≤ top st.now d }
+    requires field { f < 18 }
+    requires within { v ≤ slice_index st.now.maxes f }
+    ensures { IsPart st.now f d v result }
+{
     let max = st.max(f);
     match st.view(d) {
         Node::Case(g, parts) => {
             if *g == f {
-                found(parts.as_slice(), max, v)
+                found_near(parts.as_slice(), max, v, near)
             } else {
                 (max, d)
             }
@@ -39,13 +52,50 @@ pub fn part_at(st: &Store, d: Id, f: Fid, v: u64) -> (u64, Id)
     }
 }
 
-/// The first part whose end is not below the value, of parts whose ends rise to the highest value.
-fn found(parts: &[(u64, Id)], max: u64, v: u64) -> (u64, Id)
+/// The first part whose end is not below the value, looked for at a place first, which becomes the part's own.
+pub(crate) fn found_near(parts: &[(u64, Id)], max: u64, v: u64, near: &mut usize) -> (u64, Id)
     requires rise { Rises max 0 parts.now }
     requires within { v ≤ max }
-    ensures { result ≡ found_in (0, 0) parts.now v }
+    ensures found { result ≡ found_in (0, 0) parts.now v }
+    ensures from { v ≤ result.0 }
+    ensures within { result.0 ≤ max }
 {
-    parts[place_of(parts, max, v)]
+    let place = place_near(parts, max, v, *near);
+    *near = place;
+    parts[place]
+}
+
+/// The place of the first part whose end is not below the value, of parts whose ends rise to the highest value: looked for
+/// at a place, then behind it, then everywhere.
+fn place_near(parts: &[(u64, Id)], max: u64, v: u64, near: usize) -> usize
+    requires rise { Rises max 0 parts.now }
+    requires within { v ≤ max }
+    ensures within { result < length parts.now }
+    ensures found { (e : ℕ × ℕ) → slice_index_or parts.now result e ≡ found_in (0, 0) parts.now v }
+{
+    if is_place(parts, max, v, near) {
+        return near;
+    }
+    if near < parts.len() && is_place(parts, max, v, near + 1) {
+        return near + 1;
+    }
+    place_of(parts, max, v)
+}
+
+/// Whether the part at a place is that one: its end is not below the value, and the one before it is.
+fn is_place(parts: &[(u64, Id)], max: u64, v: u64, place: usize) -> bool
+    requires rise { Rises max 0 parts.now }
+    ensures within { result ≡ true → place < length parts.now }
+    ensures found { result ≡ true → (e : ℕ × ℕ) → slice_index_or parts.now place e ≡ found_in (0, 0) parts.now v }
+{
+    if place >= parts.len() || parts[place].0 < v {
+        return false;
+    }
+    if place == 0 {
+        return true;
+    }
+    let before = place - 1;
+    parts[before].0 < v
 }
 
 /// The place of that part.

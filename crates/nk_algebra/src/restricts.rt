@@ -7,7 +7,7 @@ ghost use Rattle.nk_algebra.specs.MadeOf.{AreMadeOf};
 ghost use Rattle.nk_algebra.specs.Predicates.{IsPredicate, Ends};
 
 use crate::maps::known;
-use crate::part::part_at;
+use crate::part::{part_at, part_near};
 use nk_field::{Fid, List};
 use nk_store::{Id, Node, Store};
 use std::alloc::AllocError;
@@ -165,9 +165,10 @@ fn restrict_parts(
 {
     let max = st.max(g);
     let mut parts = List::new(st.alloc());
+    let mut near = 0;
     let mut from = 0;
     loop {
-        let (end, child) = part_at(st, d, g, from);
+        let (end, child) = part_near(st, d, g, from, &mut near);
         let to = restrict_once(st, seen, child, f, n)?;
         parts.push((end, to))?;
         if end == max {

@@ -14,7 +14,7 @@ use crate::choices::choose;
 use crate::constants::empty;
 use crate::leaves::union;
 use crate::maps::{LeafMap, map_leaves};
-use crate::part::{part_at, tested};
+use crate::part::{part_near, tested};
 use crate::restricts::restrict;
 use nk_field::{Act, Fid, List};
 use nk_store::{Id, Node, Operation, Out, Store};
@@ -227,9 +227,10 @@ fn seq_parts(st: &mut Store, f: Fid, a: Id, b: Id) -> Result<List<(u64, Id)>, Al
 {
     let max = st.max(f);
     let mut parts = List::new(st.alloc());
+    let mut near = 0;
     let mut from = 0;
     loop {
-        let (end, child) = part_at(st, a, f, from);
+        let (end, child) = part_near(st, a, f, from, &mut near);
         let made = sequence(st, child, b)?;
         parts.push((end, made))?;
         if end == max {

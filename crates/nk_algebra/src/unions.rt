@@ -6,6 +6,8 @@ ghost use Rattle.nk_algebra.specs.Predicates.{IsPredicate};
 
 use crate::constants::empty;
 use crate::leaves::union;
+use crate::sums::{least_place, union_at};
+use nk_field::{Fid, PLACES};
 use nk_store::{Id, Store};
 use std::alloc::AllocError;
 
@@ -29,10 +31,14 @@ fn unions_of(st: &mut Store, ds: &[Id]) -> Result<Id, AllocError>
     if ds.len() == 0 {
         return empty(st);
     }
+    let place = least_place(st, ds);
+    if ds.len() > 2 && place < PLACES {
+        return union_at(st, Fid::new(place as u8), ds);
+    }
     union_some(st, ds, 0, ds.len())
 }
 
-/// The leaves of some of the diagrams together, by halves.
+/// The leaves of some of the diagrams together, by halves: of few, or of such as test no field.
 fn union_some(st: &mut Store, ds: &[Id], from: usize, to: usize) -> Result<Id, AllocError>
     requires ids { AreIds st.old ds.now }
     requires some { from < to }

@@ -9,7 +9,7 @@ ghost use Rattle.nk_algebra.specs.Seqs.{prefixed, outs_of, no_out};
 ghost use Rattle.nk_determ.specs.Exact.{exact, split_leaf, out_split, AreExact, Sends};
 ghost use Rattle.nk_algebra.specs.Unions.{over_places};
 
-use nk_algebra::{choose, empty, out_count, part_at, put_after, span, tested, union};
+use nk_algebra::{choose, empty, out_count, part_near, put_after, span, tested, union};
 use nk_field::{Act, Fid, List};
 use nk_store::{Id, Node, Operation, Out, Store};
 use std::alloc::AllocError;
@@ -174,9 +174,10 @@ fn split_parts(st: &mut Store, f: Fid, d: Id) -> Result<List<(u64, Id)>, AllocEr
 {
     let max = st.max(f);
     let mut parts = List::new(st.alloc());
+    let mut near = 0;
     let mut from = 0;
     loop {
-        let (end, child) = part_at(st, d, f, from);
+        let (end, child) = part_near(st, d, f, from, &mut near);
         let made = divide(st, child)?;
         parts.push((end, made))?;
         if end == max {

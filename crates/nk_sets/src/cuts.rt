@@ -6,7 +6,7 @@ ghost use Rattle.nk_algebra.specs.Leaves.{guarded};
 ghost use Rattle.nk_algebra.specs.Subs.{sub, IsFirst};
 ghost use Rattle.nk_sets.specs.Cuts.{IsEnd};
 
-use nk_algebra::part_at;
+use nk_algebra::part_near;
 use nk_field::{Fid, List};
 use nk_store::{Id, Node, Operation, Store};
 use std::alloc::AllocError;
@@ -125,10 +125,12 @@ fn cut_parts(st: &mut Store, f: Fid, s: Id, d: Id) -> Result<List<(u64, Id)>, Al
 {
     let max = st.max(f);
     let mut parts = List::new(st.alloc());
+    let mut near_here = 0;
+    let mut near_there = 0;
     let mut from = 0;
     loop {
-        let (end_here, here) = part_at(st, s, f, from);
-        let (end_there, there) = part_at(st, d, f, from);
+        let (end_here, here) = part_near(st, s, f, from, &mut near_here);
+        let (end_there, there) = part_near(st, d, f, from, &mut near_there);
         let end = end_of(st, here, end_here, end_there);
         let child = at_packets(st, here, there)?;
         parts.push((end, child))?;

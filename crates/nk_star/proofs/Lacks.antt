@@ -13,7 +13,7 @@ use Rattle.nk_store.proofs.NodeEq.{out_decides}
 use Rattle.nk_algebra.proofs.Acts.{every_at}
 use Rattle.nk_algebra.proofs.Sorted.{out_order}
 use Rattle.nk_algebra.proofs.Members.{Has, has_contains, contains_has, tied_same, not_before_itself}
-use Rattle.nk_star.specs.Lacking.{out_eq, has_out, lacking}
+use Rattle.nk_store.specs.Operations.{out_eq, has_out, lacking}
 
 -- an out that the test finds is one of the leaf's
 pub found_has : (ys : List Out) (o : Out) → has_out ys o ≡ true → Has ys o

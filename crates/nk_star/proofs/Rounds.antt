@@ -15,7 +15,7 @@ use Rattle.nk_algebra.proofs.Sorted.{merged_strict, prefixed_strict}
 use Rattle.nk_algebra.proofs.Members.{Has, has_contains, contains_has, every_has, merged_left, merged_right, merged_has, merged_grows, strict_same, gathered_strict, seq_leaf_is, seq_leaf_has, has_seq_leaf}
 use Rattle.nk_algebra.proofs.Predicates.{whole_applied, pass_seq, ends_merged, ends_seq}
 use Rattle.nk_star.specs.Steps.{Steps, rounds, IsLastRound}
-use Rattle.nk_star.specs.Lacking.{has_out, lacking}
+use Rattle.nk_store.specs.Operations.{has_out, lacking}
 use Rattle.nk_star.proofs.Lacks.{found_has, lacking_has, has_lacking}
 use Rattle.nk_star.proofs.Room.{room, leaf_room}
 

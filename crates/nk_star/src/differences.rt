@@ -2,11 +2,11 @@
 ghost use Rattle.std.specs.Prelude.{◌≡◌, ℕ, [], true, IfOk, IfSome, List as Items};
 ghost use Rattle.nk_store.specs.Leaves.{Strict};
 ghost use Rattle.nk_store.specs.Held.{IsId, look, Grows, HasLeaves};
-ghost use Rattle.nk_star.specs.Lacking.{has_out, lacking};
+ghost use Rattle.nk_store.specs.Operations.{has_out, lacking};
 
 use nk_algebra::{Join, merge};
 use nk_field::List;
-use nk_store::{Id, Node, Out, Store};
+use nk_store::{Id, Node, Operation, Out, Store};
 use std::alloc::{AllocError, Global};
 
 /// The outs of the first leaf that the second one lacks.
@@ -16,7 +16,14 @@ impl Join for Difference {
     ghost joined = { λ _. lacking };
 
     fn known(&self, st: &Store, a: Id, b: Id) -> Option<Id> {
-        known_missing(st, a, b)
+        if let Some(d) = known_missing(st, a, b) {
+            return Some(d);
+        }
+        st.recall(Operation::Missing, a, b)
+    }
+
+    fn keep(&self, st: &mut Store, a: Id, b: Id, d: Id) -> Result<(), AllocError> {
+        st.keep(Operation::Missing, a, b, d)
     }
 
     fn join(&self, alloc: Global, a: &[Out], b: &[Out]) -> Result<List<Out>, AllocError> {

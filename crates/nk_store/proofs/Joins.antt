@@ -1,6 +1,7 @@
 -- Joining neighbours changes no child.
-use Rattle.std.proofs.Common.{◌≡◌, ◌≢◌, ℕ, ◌+◌, ◌<◌, true, false, cond, leb, eqb, List, [], ◌∷◌, length, refl, sym, ◌∙◌, ap, subst, arith, get_or, inl, inr}
+use Rattle.std.proofs.Common.{◌≡◌, ◌≢◌, ℕ, zero, suc, ◌+◌, ◌-◌, ◌<◌, nat_eq, true, false, cond, leb, eqb, List, [], ◌∷◌, length, refl, sym, ◌∙◌, ap, subst, arith, get_or, inl, inr}
 use Rattle.std.proofs.lemmas.Bool.Decides.{nat_tests, eqb_tells, leb_tells}
+use Rattle.std.proofs.lemmas.List.{get_or_default}
 use Rattle.nk_store.specs.Nodes.{child_at, Rises, Each, Differ, Joined, joined}
 use Rattle.nk_store.proofs.Same.{child-first, child-rest}
 
@@ -84,3 +85,29 @@ pub single_child : (d v : ℕ) (ps : List (ℕ × ℕ)) (q : ℕ × ℕ) → len
 single_child d v [] q l e = absurd (omega arith)
 single_child d v (p ∷ []) q l e = elim (leb v p.0) as (λ b. cond b p.1 p.1 ≡ q.1) [ true ↦ ap (λ r. r.1) (sym e) | false ↦ ap (λ r. r.1) (sym e) ]
 single_child d v (p ∷ r ∷ ps) q l e = absurd (omega arith)
+
+-- neighbours among the first i parts have different children
+abbrev pub IsApart : List (ℕ × ℕ) → ℕ → Type 0
+IsApart ps i = (d : ℕ × ℕ) (k : ℕ) → suc k < i → suc k < length ps → (get_or ps k d).1 ≢ (get_or ps (suc k) d).1
+
+-- with one part more whose neighbour has another child
+pub apart_next : (ps : List (ℕ × ℕ)) (i : ℕ) (x y : ℕ × ℕ) → 0 < i → i < length ps →
+    nat_eq (get_or ps (i - 1) x).1 (get_or ps i y).1 ≡ false → IsApart ps i → IsApart ps (i + 1)
+apart_next ps zero x y p l t h = absurd (omega arith)
+apart_next ps (suc j) x y p l t h = λ d k a b.
+    elim (eqb_tells k j) [
+      | inl same ↦ λ e.
+          let left : get_or ps j x ≡ get_or ps k d = get_or_default ps j x d (omega (arith, l)) ∙ ap (λ n. get_or ps n d) (sym same.1) in
+          let right : get_or ps (suc j) y ≡ get_or ps (suc k) d = get_or_default ps (suc j) y d l ∙ ap (λ n. get_or ps (suc n) d) (sym same.1) in
+          let both : (get_or ps j x).1 ≡ (get_or ps (suc j) y).1 = ap (λ p. p.1) left ∙ e ∙ sym (ap (λ p. p.1) right) in
+          absurd (grind (arith, nat_tests, t, both))
+      | inr other ↦ h d k (omega (arith, other.1, a)) b
+    ]
+
+-- parts whose neighbours have different children stay as they are
+pub apart_joined : (ps : List (ℕ × ℕ)) → IsApart ps (length ps) → joined ps ≡ ps
+apart_joined [] h = refl
+apart_joined (p ∷ []) h = refl
+apart_joined (p ∷ q ∷ ps) h =
+    joined-keep p q ps (h p 0 (omega arith) (omega arith)) ∙
+    ap (λ rest. p ∷ rest) (apart_joined (q ∷ ps) (λ d k a b. h d (suc k) (omega (arith, a)) (omega (arith, b))))

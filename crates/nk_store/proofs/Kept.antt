@@ -5,12 +5,13 @@ use Rattle.std.specs.Prelude.{OnOk, OnErr}
 use Rattle.std.specs.declared.result.Result.{Result}
 use Rattle.std.specs.declared.result.Result.TheVariants.{Ok, Err}
 use Rattle.nk_store.specs.declared.operation.Operation.{Operation}
-use Rattle.nk_store.specs.declared.operation.Operation.TheVariants.{Union, Both, Negate, Seq, Split}
+use Rattle.nk_store.specs.declared.operation.Operation.TheVariants.{Union, Both, Negate, Missing, Seq, Split}
 use Rattle.nk_store.specs.declared.operation.Key.{Key}
 use Rattle.nk_store.specs.contracts.operation.OperationPartialEq.TheImpl.{ghosts}
+use Rattle.nk_store.specs.declared.node.Out.{Out}
 use Rattle.nk_store.specs.Held.{Held, IsId, look, Grows, HasLeaves}
 use Rattle.nk_store.specs.Operations.{made}
-use Rattle.nk_store.specs.Rows.{IsAnswer, key_eq, AreAnswers}
+use Rattle.nk_store.specs.Rows.{IsAnswer, key_eq, AreAnswers, IsKeptLeaf}
 
 -- an answer is one in a store that grew
 pub answer_grown : (old new : Held) (operation : Operation) (a b d : ℕ) → Grows old new →
@@ -40,26 +41,37 @@ operation_same : (a b : Operation) → ghosts.eq a b ≡ true → a ≡ b
 operation_same Union Union h = refl
 operation_same Union Both h = cc
 operation_same Union Negate h = cc
+operation_same Union Missing h = cc
 operation_same Union Seq h = cc
 operation_same Union Split h = cc
 operation_same Both Union h = cc
 operation_same Both Both h = refl
 operation_same Both Negate h = cc
+operation_same Both Missing h = cc
 operation_same Both Seq h = cc
 operation_same Both Split h = cc
 operation_same Negate Union h = cc
 operation_same Negate Both h = cc
 operation_same Negate Negate h = refl
+operation_same Negate Missing h = cc
 operation_same Negate Seq h = cc
 operation_same Negate Split h = cc
+operation_same Missing Union h = cc
+operation_same Missing Both h = cc
+operation_same Missing Negate h = cc
+operation_same Missing Missing h = refl
+operation_same Missing Seq h = cc
+operation_same Missing Split h = cc
 operation_same Seq Union h = cc
 operation_same Seq Both h = cc
 operation_same Seq Negate h = cc
+operation_same Seq Missing h = cc
 operation_same Seq Seq h = refl
 operation_same Seq Split h = cc
 operation_same Split Union h = cc
 operation_same Split Both h = cc
 operation_same Split Negate h = cc
+operation_same Split Missing h = cc
 operation_same Split Seq h = cc
 operation_same Split Split h = refl
 
@@ -136,3 +148,12 @@ answer_made old new operation a b d g ia ib h =
             ∙ ap (λ B. made operation new.maxes (look new a pk) B pk) second;
       };
     }
+
+-- a leaf that is kept is that leaf in a store that grew
+pub leaf_kept : (old new : Held) (outs : List Out) (o : Option ℕ) → Grows old new → IsKeptLeaf old outs o →
+    IsKeptLeaf new outs o
+leaf_kept old new outs None g k = tt
+leaf_kept old new outs (Some d) g k = (
+  record { id = g.ids d k.0.id; leaf = λ pk w. g.leaves d pk k.0.id ∙ k.0.leaf pk w },
+  g.tops d k.0.id ∙ k.1,
+)

@@ -1,11 +1,13 @@
 -- What operations on diagrams make of their leaves.
-use Rattle.std.specs.Prelude.{ℕ, cond, eqb, min, List, [], ◌∷◌, slice_index}
+use Rattle.std.specs.Prelude.{ℕ, Bool, not, cond, eqb, min, List, [], ◌∷◌, slice_index}
+use Rattle.std.specs.List.{list_any, filter}
 use Rattle.std.specs.declared.cmp.Ordering.{Ordering}
 use Rattle.std.specs.declared.cmp.Ordering.TheVariants.{Less, Equal, Greater}
 use Rattle.nk_field.specs.Act.{applied, act_then}
 use Rattle.nk_store.specs.declared.node.Out.{Out}
 use Rattle.nk_store.specs.declared.operation.Operation.{Operation}
-use Rattle.nk_store.specs.declared.operation.Operation.TheVariants.{Union, Both, Negate, Seq, Split}
+use Rattle.nk_store.specs.declared.operation.Operation.TheVariants.{Union, Both, Negate, Missing, Seq, Split}
+use Rattle.nk_store.specs.contracts.node.OutPartialEq.TheImpl.{ghosts}
 use Rattle.nk_store.specs.Leaves.{out_cmp}
 
 -- the answer for less, equal or greater
@@ -33,6 +35,18 @@ guarded (x ∷ xs) d = d
 abbrev pub absent : List Out → List Out → List Out
 absent [] d = record { act = []; target = 0 } ∷ []
 absent (x ∷ xs) d = []
+
+-- whether two outs are one
+abbrev pub out_eq : Out → Out → Bool
+out_eq x y = ghosts.eq x y
+
+-- whether the out is one of a leaf's
+abbrev pub has_out : List Out → Out → Bool
+has_out outs o = list_any (λ x. out_eq o x) outs
+
+-- the outs of the first leaf that the second one lacks
+abbrev pub lacking : List Out → List Out → List Out
+lacking xs ys = filter (λ o. not (has_out ys o)) xs
 
 -- what F makes of each out, as one ascending list
 abbrev pub gathered : (Out → List Out) → List Out → List Out
@@ -72,5 +86,6 @@ abbrev pub made : Operation → List ℕ → List Out → (List ℕ → List Out
 made Union maxes a B pk = merged a (B pk)
 made Both maxes a B pk = guarded a (B pk)
 made Negate maxes a B pk = absent a (B pk)
+made Missing maxes a B pk = lacking a (B pk)
 made Seq maxes a B pk = seq_leaf a B pk
 made Split maxes a B pk = split_leaf maxes pk a

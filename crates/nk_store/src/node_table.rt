@@ -150,18 +150,18 @@ impl NodeTable {
             (λ pk. look self.old (child_at 0 parts (slice_index pk field)) pk)) }
         ensures later { IfOk result (λ d. field ≤ top self.new d) }
     {
-        self.choice(field, &parts)
+        self.choice(field, parts)
     }
 
     /// The diagram of a choice by a field.
-    fn choice(&mut self, field: Fid, parts: &List<(u64, Id)>) -> Result<Id, AllocError>
-        requires { AreParts self.old field parts.now }
+    fn choice(&mut self, field: Fid, parts: List<(u64, Id)>) -> Result<Id, AllocError>
+        requires { AreParts self.old field parts }
         ensures grows { Grows self.old self.new }
         ensures ok { IfOk result (λ d. HasLeaves self.new d
-            (λ pk. look self.old (child_at 0 parts.now (slice_index pk field)) pk)) }
+            (λ pk. look self.old (child_at 0 parts (slice_index pk field)) pk)) }
         ensures later { IfOk result (λ d. field ≤ top self.new d) }
     {
-        let kept = join(*self.nodes.allocator(), parts)?;
+        let kept = in_whole(*self.nodes.allocator(), parts)?;
         if kept.len() == 1 {
             return Ok(kept.at(0).1);
         }
@@ -201,6 +201,28 @@ fn part_child(parts: &[(u64, Id)], value: u64) -> Id
         child = *c;
     }
     child
+}
+
+/// The parts with neighbours of one child joined; where there are none, these parts themselves.
+fn in_whole(alloc: Global, parts: List<(u64, Id)>) -> Result<List<(u64, Id)>, AllocError>
+    ensures { IfOk result (λ kept. kept ≡ joined parts) }
+{
+    if are_apart(parts.as_slice()) {
+        return Ok(parts);
+    }
+    join(alloc, &parts)
+}
+
+/// Whether neighbours have different children.
+fn are_apart(parts: &[(u64, Id)]) -> bool
+    ensures { result ≡ true → joined parts.now ≡ parts.now }
+{
+    for i in 1..parts.len() {
+        if parts[i - 1].1 == parts[i].1 {
+            return false;
+        }
+    }
+    true
 }
 
 /// The parts with neighbours of one child joined.

@@ -10,6 +10,8 @@ pub enum Operation {
     Both,
     /// The packet itself where the first leaf is empty.
     Negate,
+    /// The outs of the first leaf that the second one lacks.
+    Missing,
     /// What the second diagram makes of what the first one gives.
     Seq,
     /// The first leaf, each act with exactly the assignments that change the packet.

@@ -4,33 +4,36 @@ ghost use Rattle.nk_store.specs.declared.node.Out.{Out};
 ghost use Rattle.nk_store.specs.Nodes.{child_at, Sound};
 ghost use Rattle.nk_store.specs.Leaves.{Strict, Every, Suits, AreOrdered};
 ghost use Rattle.nk_store.specs.Held.{IsId, node_of, look, top, Grows, HasLeaves, AreParts, IsNodeOf, IsStill, IsReduced, AreTidy, Agree, IsCanonical, IsOver, HasFields};
-ghost use Rattle.nk_store.specs.Rows.{IsAnswer};
+ghost use Rattle.nk_store.specs.Rows.{IsAnswer, passing};
 
 use crate::answers::Answers;
 use crate::node::{Id, Node, Out};
 use crate::node_table::NodeTable;
 use crate::operation::Operation;
-use nk_field::{Fid, Fields, List, Packet};
+use nk_field::{Act, Fid, Fields, List, Packet};
 use std::alloc::{AllocError, Global};
 use std::marker::Model;
 
-/// Diagrams that share their nodes. Equal diagrams have one number. It keeps answers of operations, which its
-/// contract value doesn't show.
+/// Diagrams that share their nodes. Equal diagrams have one number. It keeps answers of operations, and the two leaves that
+/// are asked for most, which its contract value doesn't show.
 #[derive(Drop)]
 pub struct Store {
     table: NodeTable,
     answers: Answers,
+    empty: Option<Id>,
+    identity: Option<Id>,
 }
 
 impl Model for Store {
     ghost use Rattle.nk_store.specs.Held.{Held};
-    ghost use Rattle.nk_store.specs.Rows.{AreAnswers};
+    ghost use Rattle.std.specs.Prelude.{[], ◌∷◌};
+    ghost use Rattle.nk_store.specs.Rows.{AreAnswers, IsKeptLeaf, passing};
 
     ghost Value = { Held };
 
     ghost view = { λ s. s.table };
 
-    ghost invariant = { λ s. AreAnswers s.table s.answers };
+    ghost invariant = { λ s. AreAnswers s.table s.answers × IsKeptLeaf s.table [] s.empty × IsKeptLeaf s.table (passing ∷ []) s.identity };
 }
 
 impl Store {
@@ -44,6 +47,8 @@ impl Store {
         Ok(Store {
             table: NodeTable::new(alloc, fields)?,
             answers: Answers::new(alloc),
+            empty: None,
+            identity: None,
         })
     }
 
@@ -132,6 +137,40 @@ impl Store {
         ensures later { IfOk result (λ d. top self.new d ≡ 18) }
     {
         self.table.leaf_in_order(outs)
+    }
+
+    /// The leaf with no out: each packet is dropped.
+    pub fn empty(&mut self) -> Result<Id, AllocError>
+        ensures grows { Grows self.old self.new }
+        ensures ok { IfOk result (λ d. HasLeaves self.new d (λ pk. [])) }
+        ensures later { IfOk result (λ d. top self.new d ≡ 18) }
+    {
+        if let Some(d) = self.empty {
+            return Ok(d);
+        }
+        let d = self.leaf_in_order(List::new(self.alloc()))?;
+        self.empty = Some(d);
+        Ok(d)
+    }
+
+    /// The leaf that passes each packet as it is, to target 0.
+    pub fn identity(&mut self) -> Result<Id, AllocError>
+        ensures grows { Grows self.old self.new }
+        ensures ok { IfOk result (λ d. HasLeaves self.new d (λ pk. passing ∷ [])) }
+        ensures later { IfOk result (λ d. top self.new d ≡ 18) }
+    {
+        if let Some(d) = self.identity {
+            return Ok(d);
+        }
+        let alloc = self.alloc();
+        let mut outs = List::new(alloc);
+        outs.push(Out {
+            act: Act::none(alloc),
+            target: 0,
+        })?;
+        let d = self.leaf_in_order(outs)?;
+        self.identity = Some(d);
+        Ok(d)
     }
 
     /// The allocator of the nodes.

@@ -3,5 +3,5 @@ use Rattle.nk_algebra.proofs.Predicates.{predicate_by}
 use Rattle.nk_algebra.proofs.constants.empty.Goals as goal
 
 pub returns-clause-predicate : goal.returns-clause-predicate
-returns-clause-predicate c = IfOk-weaker c.dropping.result _ _
-    (λ d h. predicate_by c.dropping.new.st d _ h (λ pk w. tt)) c.dropping.ensures.ok
+returns-clause-predicate c = IfOk-weaker c.empty.result _ _
+    (λ d h. predicate_by c.empty.new.self d _ h (λ pk w. tt)) c.empty.ensures.ok

@@ -29,24 +29,24 @@ map_case-returns-clause-seen g t c =
 
 pub map_parts-returns-then-end-max-clause-parts : goal.map_parts-returns-then-end-max-clause-parts
 map_parts-returns-then-end-max-clause-parts g t c =
-    let all = turned_push (λ pk. pk) (g.M.LeafMap.mapped c.args.m.now) c.args.st.now c.loop-parts.st c.map_once.new.st c.args.f c.args.d c.loop-parts.from c.loop-parts.parts c.part_at-end.result c.in_ok-to.to c.loop-parts.invariant.built c.loop-parts.invariant.grows c.map_once.ensures.grows c.requires.id c.requires.split c.part_at-end.ensures c.in_ok-to.ensures.ok c.in_ok-to.ensures.later in
+    let all = turned_push (λ pk. pk) (g.M.LeafMap.mapped c.args.m.now) c.args.st.now c.loop-parts.st c.map_once.new.st c.args.f c.args.d c.loop-parts.from c.loop-parts.parts c.part_near-end.result c.in_ok-to.to c.loop-parts.invariant.built c.loop-parts.invariant.grows c.map_once.ensures.grows c.requires.id c.requires.split c.part_near-end.ensures c.in_ok-to.ensures.ok c.in_ok-to.ensures.later in
     subst (AreParts c.map_once.new.st c.args.f) (sym c.in_ok-push.ensures.ok)
-    (built_parts (turned (λ pk. pk) (g.M.LeafMap.mapped c.args.m.now) c.args.st.now c.args.f c.args.d) c.map_once.new.st c.args.f c.part_at-end.result.0 _ all c.requires.field
+    (built_parts (turned (λ pk. pk) (g.M.LeafMap.mapped c.args.m.now) c.args.st.now c.args.f c.args.d) c.map_once.new.st c.args.f c.part_near-end.result.0 _ all c.requires.field
     (c.if-end-max.true ∙ c.max-max.ensures ∙ ap (λ ms. get_or ms c.args.f 0) (sym (grows_on _ _ _ c.loop-parts.invariant.grows c.map_once.ensures.grows).maxes)))
 
 pub map_parts-returns-then-end-max-clause-ok : goal.map_parts-returns-then-end-max-clause-ok
 map_parts-returns-then-end-max-clause-ok g t c = λ v pk w.
-    let all = turned_push (λ pk. pk) (g.M.LeafMap.mapped c.args.m.now) c.args.st.now c.loop-parts.st c.map_once.new.st c.args.f c.args.d c.loop-parts.from c.loop-parts.parts c.part_at-end.result c.in_ok-to.to c.loop-parts.invariant.built c.loop-parts.invariant.grows c.map_once.ensures.grows c.requires.id c.requires.split c.part_at-end.ensures c.in_ok-to.ensures.ok c.in_ok-to.ensures.later in
+    let all = turned_push (λ pk. pk) (g.M.LeafMap.mapped c.args.m.now) c.args.st.now c.loop-parts.st c.map_once.new.st c.args.f c.args.d c.loop-parts.from c.loop-parts.parts c.part_near-end.result c.in_ok-to.to c.loop-parts.invariant.built c.loop-parts.invariant.grows c.map_once.ensures.grows c.requires.id c.requires.split c.part_near-end.ensures c.in_ok-to.ensures.ok c.in_ok-to.ensures.later in
     ap (λ ps. look c.map_once.new.st (child_at 0 ps v) pk) c.in_ok-push.ensures.ok
-    ∙ built_leaf (turned (λ pk. pk) (g.M.LeafMap.mapped c.args.m.now) c.args.st.now c.args.f c.args.d) c.map_once.new.st c.args.f c.part_at-end.result.0 _ all
-    (turned_past (λ pk. pk) (g.M.LeafMap.mapped c.args.m.now) c.args.st.now c.args.f c.args.d c.part_at-end.result.0 c.requires.split (c.if-end-max.true ∙ c.max-max.ensures)) v pk w
+    ∙ built_leaf (turned (λ pk. pk) (g.M.LeafMap.mapped c.args.m.now) c.args.st.now c.args.f c.args.d) c.map_once.new.st c.args.f c.part_near-end.result.0 _ all
+    (turned_past (λ pk. pk) (g.M.LeafMap.mapped c.args.m.now) c.args.st.now c.args.f c.args.d c.part_near-end.result.0 c.requires.split (c.if-end-max.true ∙ c.max-max.ensures)) v pk w
 
 pub map_parts-loop-parts-preserved : goal.map_parts-loop-parts-preserved
 map_parts-loop-parts-preserved g t c =
-    let all = turned_push (λ pk. pk) (g.M.LeafMap.mapped c.args.m.now) c.args.st.now c.loop-parts.st c.map_once.new.st c.args.f c.args.d c.loop-parts.from c.loop-parts.parts c.part_at-end.result c.in_ok-to.to c.loop-parts.invariant.built c.loop-parts.invariant.grows c.map_once.ensures.grows c.requires.id c.requires.split c.part_at-end.ensures c.in_ok-to.ensures.ok c.in_ok-to.ensures.later in
+    let all = turned_push (λ pk. pk) (g.M.LeafMap.mapped c.args.m.now) c.args.st.now c.loop-parts.st c.map_once.new.st c.args.f c.args.d c.loop-parts.from c.loop-parts.parts c.part_near-end.result c.in_ok-to.to c.loop-parts.invariant.built c.loop-parts.invariant.grows c.map_once.ensures.grows c.requires.id c.requires.split c.part_near-end.ensures c.in_ok-to.ensures.ok c.in_ok-to.ensures.later in
     record {
       grows = grows_on _ _ _ c.loop-parts.invariant.grows c.map_once.ensures.grows;
       seen = c.in_ok-to.ensures.seen;
-      within = set_within c.args.st.now c.loop-parts.st c.args.f c.args.d c.loop-parts.from c.max-max.result c.part_at-end.result c.part_at-end.ensures c.loop-parts.invariant.grows c.max-max.ensures c.if-end-max.false;
-      built = subst (Built (turned (λ pk. pk) (g.M.LeafMap.mapped c.args.m.now) c.args.st.now c.args.f c.args.d) c.map_once.new.st c.args.f (c.part_at-end.result.0 + 1)) (sym c.in_ok-push.ensures.ok) all;
+      within = set_within c.args.st.now c.loop-parts.st c.args.f c.args.d c.loop-parts.from c.max-max.result c.part_near-end.result c.part_near-end.ensures c.loop-parts.invariant.grows c.max-max.ensures c.if-end-max.false;
+      built = subst (Built (turned (λ pk. pk) (g.M.LeafMap.mapped c.args.m.now) c.args.st.now c.args.f c.args.d) c.map_once.new.st c.args.f (c.part_near-end.result.0 + 1)) (sym c.in_ok-push.ensures.ok) all;
     }

@@ -34,24 +34,24 @@ restrict_node-returns-clause-seen t c =
 
 pub restrict_parts-returns-then-end-max-clause-parts : goal.restrict_parts-returns-then-end-max-clause-parts
 restrict_parts-returns-then-end-max-clause-parts t c =
-    let all = turned_push (at c.args.f c.args.n) same c.args.st.now c.loop-parts.st c.restrict_once.new.st c.args.g c.args.d c.loop-parts.from c.loop-parts.parts c.part_at-end.result c.in_ok-to.to c.loop-parts.invariant.built c.loop-parts.invariant.grows c.restrict_once.ensures.grows c.requires.id c.requires.split c.part_at-end.ensures c.in_ok-to.ensures.ok c.in_ok-to.ensures.later in
+    let all = turned_push (at c.args.f c.args.n) same c.args.st.now c.loop-parts.st c.restrict_once.new.st c.args.g c.args.d c.loop-parts.from c.loop-parts.parts c.part_near-end.result c.in_ok-to.to c.loop-parts.invariant.built c.loop-parts.invariant.grows c.restrict_once.ensures.grows c.requires.id c.requires.split c.part_near-end.ensures c.in_ok-to.ensures.ok c.in_ok-to.ensures.later in
     subst (AreParts c.restrict_once.new.st c.args.g) (sym c.in_ok-push.ensures.ok)
-    (built_parts (turned (at c.args.f c.args.n) same c.args.st.now c.args.g c.args.d) c.restrict_once.new.st c.args.g c.part_at-end.result.0 _ all (omega (arith, c.requires.before, c.requires.field))
+    (built_parts (turned (at c.args.f c.args.n) same c.args.st.now c.args.g c.args.d) c.restrict_once.new.st c.args.g c.part_near-end.result.0 _ all (omega (arith, c.requires.before, c.requires.field))
     (c.if-end-max.true ∙ c.max-max.ensures ∙ ap (λ ms. get_or ms c.args.g 0) (sym (grows_on _ _ _ c.loop-parts.invariant.grows c.restrict_once.ensures.grows).maxes)))
 
 pub restrict_parts-returns-then-end-max-clause-ok : goal.restrict_parts-returns-then-end-max-clause-ok
 restrict_parts-returns-then-end-max-clause-ok t c = λ v pk w.
-    let all = turned_push (at c.args.f c.args.n) same c.args.st.now c.loop-parts.st c.restrict_once.new.st c.args.g c.args.d c.loop-parts.from c.loop-parts.parts c.part_at-end.result c.in_ok-to.to c.loop-parts.invariant.built c.loop-parts.invariant.grows c.restrict_once.ensures.grows c.requires.id c.requires.split c.part_at-end.ensures c.in_ok-to.ensures.ok c.in_ok-to.ensures.later in
+    let all = turned_push (at c.args.f c.args.n) same c.args.st.now c.loop-parts.st c.restrict_once.new.st c.args.g c.args.d c.loop-parts.from c.loop-parts.parts c.part_near-end.result c.in_ok-to.to c.loop-parts.invariant.built c.loop-parts.invariant.grows c.restrict_once.ensures.grows c.requires.id c.requires.split c.part_near-end.ensures c.in_ok-to.ensures.ok c.in_ok-to.ensures.later in
     ap (λ ps. look c.restrict_once.new.st (child_at 0 ps v) pk) c.in_ok-push.ensures.ok
-    ∙ built_leaf (turned (at c.args.f c.args.n) same c.args.st.now c.args.g c.args.d) c.restrict_once.new.st c.args.g c.part_at-end.result.0 _ all
-    (turned_past (at c.args.f c.args.n) same c.args.st.now c.args.g c.args.d c.part_at-end.result.0 c.requires.split (c.if-end-max.true ∙ c.max-max.ensures)) v pk w
+    ∙ built_leaf (turned (at c.args.f c.args.n) same c.args.st.now c.args.g c.args.d) c.restrict_once.new.st c.args.g c.part_near-end.result.0 _ all
+    (turned_past (at c.args.f c.args.n) same c.args.st.now c.args.g c.args.d c.part_near-end.result.0 c.requires.split (c.if-end-max.true ∙ c.max-max.ensures)) v pk w
 
 pub restrict_parts-loop-parts-preserved : goal.restrict_parts-loop-parts-preserved
 restrict_parts-loop-parts-preserved t c =
-    let all = turned_push (at c.args.f c.args.n) same c.args.st.now c.loop-parts.st c.restrict_once.new.st c.args.g c.args.d c.loop-parts.from c.loop-parts.parts c.part_at-end.result c.in_ok-to.to c.loop-parts.invariant.built c.loop-parts.invariant.grows c.restrict_once.ensures.grows c.requires.id c.requires.split c.part_at-end.ensures c.in_ok-to.ensures.ok c.in_ok-to.ensures.later in
+    let all = turned_push (at c.args.f c.args.n) same c.args.st.now c.loop-parts.st c.restrict_once.new.st c.args.g c.args.d c.loop-parts.from c.loop-parts.parts c.part_near-end.result c.in_ok-to.to c.loop-parts.invariant.built c.loop-parts.invariant.grows c.restrict_once.ensures.grows c.requires.id c.requires.split c.part_near-end.ensures c.in_ok-to.ensures.ok c.in_ok-to.ensures.later in
     record {
       grows = grows_on _ _ _ c.loop-parts.invariant.grows c.restrict_once.ensures.grows;
       seen = c.in_ok-to.ensures.seen;
-      within = set_within c.args.st.now c.loop-parts.st c.args.g c.args.d c.loop-parts.from c.max-max.result c.part_at-end.result c.part_at-end.ensures c.loop-parts.invariant.grows c.max-max.ensures c.if-end-max.false;
-      built = subst (Built (turned (at c.args.f c.args.n) same c.args.st.now c.args.g c.args.d) c.restrict_once.new.st c.args.g (c.part_at-end.result.0 + 1)) (sym c.in_ok-push.ensures.ok) all;
+      within = set_within c.args.st.now c.loop-parts.st c.args.g c.args.d c.loop-parts.from c.max-max.result c.part_near-end.result c.part_near-end.ensures c.loop-parts.invariant.grows c.max-max.ensures c.if-end-max.false;
+      built = subst (Built (turned (at c.args.f c.args.n) same c.args.st.now c.args.g c.args.d) c.restrict_once.new.st c.args.g (c.part_near-end.result.0 + 1)) (sym c.in_ok-push.ensures.ok) all;
     }

@@ -16,27 +16,27 @@ seq_case-returns-clause-ok t c = IfOk-weaker c.choose.result _ _
 
 pub seq_parts-returns-then-end-max-clause-parts : goal.seq_parts-returns-then-end-max-clause-parts
 seq_parts-returns-then-end-max-clause-parts t c =
-    let all = value_push (λ pk x. seq_leaf x (look c.args.st.now c.args.b) pk) c.args.st.now c.loop-parts.st c.sequence.new.st c.args.f c.args.a c.loop-parts.from c.loop-parts.parts c.part_at-end.result c.in_ok-made.made
-    c.loop-parts.invariant.made c.loop-parts.invariant.grows c.sequence.ensures.grows c.requires.left c.requires.split c.part_at-end.ensures
-    (seq_made c.args.st.now c.loop-parts.st c.sequence.new.st c.args.b c.part_at-end.result.1 c.in_ok-made.made c.loop-parts.invariant.grows c.requires.right c.in_ok-made.ensures.ok) in
+    let all = value_push (λ pk x. seq_leaf x (look c.args.st.now c.args.b) pk) c.args.st.now c.loop-parts.st c.sequence.new.st c.args.f c.args.a c.loop-parts.from c.loop-parts.parts c.part_near-end.result c.in_ok-made.made
+    c.loop-parts.invariant.made c.loop-parts.invariant.grows c.sequence.ensures.grows c.requires.left c.requires.split c.part_near-end.ensures
+    (seq_made c.args.st.now c.loop-parts.st c.sequence.new.st c.args.b c.part_near-end.result.1 c.in_ok-made.made c.loop-parts.invariant.grows c.requires.right c.in_ok-made.ensures.ok) in
     subst (AreChoices c.sequence.new.st c.args.f) (sym c.in_ok-push.ensures.ok)
-    (value_choices (value_leaf (λ pk x. seq_leaf x (look c.args.st.now c.args.b) pk) c.args.st.now c.args.f c.args.a) c.args.st.now c.sequence.new.st c.args.f c.part_at-end.result.0 _ (grows_on _ _ _ c.loop-parts.invariant.grows c.sequence.ensures.grows) all c.requires.field (c.if-end-max.true ∙ c.max-max.ensures))
+    (value_choices (value_leaf (λ pk x. seq_leaf x (look c.args.st.now c.args.b) pk) c.args.st.now c.args.f c.args.a) c.args.st.now c.sequence.new.st c.args.f c.part_near-end.result.0 _ (grows_on _ _ _ c.loop-parts.invariant.grows c.sequence.ensures.grows) all c.requires.field (c.if-end-max.true ∙ c.max-max.ensures))
 
 pub seq_parts-returns-then-end-max-clause-ok : goal.seq_parts-returns-then-end-max-clause-ok
 seq_parts-returns-then-end-max-clause-ok t c = λ v pk w.
-    let all = value_push (λ pk x. seq_leaf x (look c.args.st.now c.args.b) pk) c.args.st.now c.loop-parts.st c.sequence.new.st c.args.f c.args.a c.loop-parts.from c.loop-parts.parts c.part_at-end.result c.in_ok-made.made
-    c.loop-parts.invariant.made c.loop-parts.invariant.grows c.sequence.ensures.grows c.requires.left c.requires.split c.part_at-end.ensures
-    (seq_made c.args.st.now c.loop-parts.st c.sequence.new.st c.args.b c.part_at-end.result.1 c.in_ok-made.made c.loop-parts.invariant.grows c.requires.right c.in_ok-made.ensures.ok) in
+    let all = value_push (λ pk x. seq_leaf x (look c.args.st.now c.args.b) pk) c.args.st.now c.loop-parts.st c.sequence.new.st c.args.f c.args.a c.loop-parts.from c.loop-parts.parts c.part_near-end.result c.in_ok-made.made
+    c.loop-parts.invariant.made c.loop-parts.invariant.grows c.sequence.ensures.grows c.requires.left c.requires.split c.part_near-end.ensures
+    (seq_made c.args.st.now c.loop-parts.st c.sequence.new.st c.args.b c.part_near-end.result.1 c.in_ok-made.made c.loop-parts.invariant.grows c.requires.right c.in_ok-made.ensures.ok) in
     ap (λ ps. look c.sequence.new.st (child_at 0 ps v) pk) c.in_ok-push.ensures.ok
-    ∙ value_all (λ pk x. seq_leaf x (look c.args.st.now c.args.b) pk) c.args.st.now c.sequence.new.st c.args.f c.args.a c.part_at-end.result.0 _ all c.requires.split (c.if-end-max.true ∙ c.max-max.ensures) v pk w
+    ∙ value_all (λ pk x. seq_leaf x (look c.args.st.now c.args.b) pk) c.args.st.now c.sequence.new.st c.args.f c.args.a c.part_near-end.result.0 _ all c.requires.split (c.if-end-max.true ∙ c.max-max.ensures) v pk w
 
 pub seq_parts-loop-parts-preserved : goal.seq_parts-loop-parts-preserved
 seq_parts-loop-parts-preserved t c =
-    let all = value_push (λ pk x. seq_leaf x (look c.args.st.now c.args.b) pk) c.args.st.now c.loop-parts.st c.sequence.new.st c.args.f c.args.a c.loop-parts.from c.loop-parts.parts c.part_at-end.result c.in_ok-made.made
-    c.loop-parts.invariant.made c.loop-parts.invariant.grows c.sequence.ensures.grows c.requires.left c.requires.split c.part_at-end.ensures
-    (seq_made c.args.st.now c.loop-parts.st c.sequence.new.st c.args.b c.part_at-end.result.1 c.in_ok-made.made c.loop-parts.invariant.grows c.requires.right c.in_ok-made.ensures.ok) in
+    let all = value_push (λ pk x. seq_leaf x (look c.args.st.now c.args.b) pk) c.args.st.now c.loop-parts.st c.sequence.new.st c.args.f c.args.a c.loop-parts.from c.loop-parts.parts c.part_near-end.result c.in_ok-made.made
+    c.loop-parts.invariant.made c.loop-parts.invariant.grows c.sequence.ensures.grows c.requires.left c.requires.split c.part_near-end.ensures
+    (seq_made c.args.st.now c.loop-parts.st c.sequence.new.st c.args.b c.part_near-end.result.1 c.in_ok-made.made c.loop-parts.invariant.grows c.requires.right c.in_ok-made.ensures.ok) in
     record {
       grows = grows_on _ _ _ c.loop-parts.invariant.grows c.sequence.ensures.grows;
-      within = set_within c.args.st.now c.loop-parts.st c.args.f c.args.a c.loop-parts.from c.max-max.result c.part_at-end.result c.part_at-end.ensures c.loop-parts.invariant.grows c.max-max.ensures c.if-end-max.false;
-      made = subst (Serving (value_leaf (λ pk x. seq_leaf x (look c.args.st.now c.args.b) pk) c.args.st.now c.args.f c.args.a) c.sequence.new.st c.args.f (c.part_at-end.result.0 + 1)) (sym c.in_ok-push.ensures.ok) all;
+      within = set_within c.args.st.now c.loop-parts.st c.args.f c.args.a c.loop-parts.from c.max-max.result c.part_near-end.result c.part_near-end.ensures c.loop-parts.invariant.grows c.max-max.ensures c.if-end-max.false;
+      made = subst (Serving (value_leaf (λ pk x. seq_leaf x (look c.args.st.now c.args.b) pk) c.args.st.now c.args.f c.args.a) c.sequence.new.st c.args.f (c.part_near-end.result.0 + 1)) (sym c.in_ok-push.ensures.ok) all;
     }

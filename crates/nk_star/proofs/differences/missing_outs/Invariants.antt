@@ -1,5 +1,5 @@
 use Rattle.std.proofs.Common.{◌≡◌, ◌++◌, drop}
-use Rattle.nk_star.specs.Lacking.{lacking}
+use Rattle.nk_store.specs.Operations.{lacking}
 use Rattle.nk_star.proofs.differences.missing_outs.Given as goal
 
 abbrev pub invariant-loop-o : goal.invariant-loop-o

@@ -1,6 +1,6 @@
 use Rattle.std.proofs.lemmas.Result.{IfOk-weaker}
-use Rattle.nk_algebra.proofs.Chosen.{chosen_all}
-use Rattle.nk_algebra.proofs.choices.choose_all.Goals as goal
+use Rattle.nk_algebra.proofs.Halved.{chosen_all}
+use Rattle.nk_algebra.proofs.halves.choose_all.Goals as goal
 
 pub returns-clause-ok : goal.returns-clause-ok
 returns-clause-ok c = IfOk-weaker c.choose_some.result _ _

@@ -1,7 +1,7 @@
 use Rattle.std.proofs.Common.{◌≡◌, ℕ, ◌-◌, ◌+◌, ◌≤◌, suc, ◌∙◌, sym, ap, arith, get_or}
-use Rattle.nk_algebra.specs.Choices.{start}
-use Rattle.nk_algebra.proofs.Chosen.{start_next, end_within}
-use Rattle.nk_algebra.proofs.choices.first_value.Goals as goal
+use Rattle.nk_algebra.specs.Halves.{start}
+use Rattle.nk_algebra.proofs.Halved.{start_next, end_within}
+use Rattle.nk_algebra.proofs.halves.first_value.Goals as goal
 
 starts : (c : goal.After-at) → c.at.result.now.0 + 1 ≡ start 0 c.args.parts.now c.args.k
 starts c =

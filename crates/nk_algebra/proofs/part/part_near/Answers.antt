@@ -4,10 +4,10 @@ use Rattle.nk_store.specs.Nodes.{node_top, Rises}
 use Rattle.nk_store.specs.Held.{top}
 use Rattle.nk_algebra.specs.Subs.{IsPart, found_in}
 use Rattle.nk_algebra.proofs.Parts.{case_part, whole_part, view_case, whole_other, whole_leaf, top_node}
-use Rattle.nk_algebra.proofs.part.part_at.Goals as goal
+use Rattle.nk_algebra.proofs.part.part_near.Goals as goal
 
-pub found-requires : goal.found-requires
-found-requires c =
+pub found_near-requires : goal.found_near-requires
+found_near-requires c =
     let st = c.args.st.now in
     let same : c.in-Case.g ≡ c.args.f = grind (arith, nat_tests, c.eq.ensures, c.if-eq.true) in
     let known = view_case st c.args.d c.args.f c.in-Case.g c.view.result.now c.in-Case.parts c.view.ensures.node c.view.ensures.means c.in-Case.is same in
@@ -21,7 +21,7 @@ returns-then-eq c =
     let st = c.args.st.now in
     let same : c.in-Case.g ≡ c.args.f = grind (arith, nat_tests, c.eq.ensures, c.if-eq.true) in
     let known = view_case st c.args.d c.args.f c.in-Case.g c.view.result.now c.in-Case.parts c.view.ensures.node c.view.ensures.means c.in-Case.is same in
-    subst (IsPart st c.args.f c.args.d c.args.v) (sym (c.found.ensures ∙ ap (λ ps. found_in (0, 0) ps c.args.v) c.as_slice.ensures))
+    subst (IsPart st c.args.f c.args.d c.args.v) (sym (c.found_near.ensures.found ∙ ap (λ ps. found_in (0, 0) ps c.args.v) c.as_slice.ensures))
     (case_part st c.args.f c.args.d c.args.v c.in-Case.parts known.0 known.1 c.requires.within)
 
 pub returns-else-eq : goal.returns-else-eq

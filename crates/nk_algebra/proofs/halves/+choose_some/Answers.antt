@@ -1,9 +1,9 @@
 use Rattle.std.proofs.Common.{◌+◌, ◌-◌, ◌/◌, ◌≤◌, ◌≡◌, subst, arith}
 use Rattle.std.proofs.lemmas.Result.{IfOk-weaker}
 use Rattle.nk_store.specs.Held.{HasLeaves}
-use Rattle.nk_algebra.specs.Choices.{chosen}
-use Rattle.nk_algebra.proofs.Chosen.{chosen_halves}
-use Rattle.nk_algebra.proofs.choices.+choose_some.Goals as goal
+use Rattle.nk_algebra.specs.Halves.{chosen}
+use Rattle.nk_algebra.proofs.Halved.{chosen_halves}
+use Rattle.nk_algebra.proofs.halves.+choose_some.Goals as goal
 
 pub returns-then-to-from-eq1-clause-ok : goal.returns-then-to-from-eq1-clause-ok
 returns-then-to-from-eq1-clause-ok t c =

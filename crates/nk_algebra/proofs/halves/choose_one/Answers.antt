@@ -1,8 +1,9 @@
 use Rattle.std.proofs.Common.{ℕ, sym, subst, ap, arith, get_or}
 use Rattle.std.proofs.lemmas.Result.{IfOk-weaker}
 use Rattle.nk_store.specs.Held.{IsId}
-use Rattle.nk_algebra.proofs.Chosen.{each_place, end_within, chosen_one}
-use Rattle.nk_algebra.proofs.choices.choose_one.Goals as goal
+use Rattle.nk_algebra.proofs.Chosen.{each_place}
+use Rattle.nk_algebra.proofs.Halved.{end_within, chosen_one}
+use Rattle.nk_algebra.proofs.halves.choose_one.Goals as goal
 
 pub range-requires-clause-order : goal.range-requires-clause-order
 range-requires-clause-order c =
