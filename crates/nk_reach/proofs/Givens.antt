@@ -2,16 +2,14 @@
 use Rattle.std.proofs.Common.{◌≡◌, ℕ, ◌<◌, ◌≤◌, ◌+◌, ◌-◌, ◌⊎◌, inl, inr, refl, sym, ◌∙◌, ap, subst, arith, List, [], ◌∷◌, ◌++◌, length, length-append, get_or}
 use Rattle.std.proofs.lemmas.Bool.Decides.{eqb_tells}
 use Rattle.std.proofs.lemmas.List.{get_or_append_left, get_or-append_right, get_or_default}
-use Rattle.std.proofs.lemmas.List.Sorted.{Contains-permutation, IsPermutation-sym}
-use Rattle.std.specs.List.Sorted.{IsPermutation}
 use Rattle.nk_store.specs.declared.node.Out.{Out}
 use Rattle.nk_store.specs.Leaves.{Suits}
-use Rattle.nk_store.specs.Held.{Held, Grows}
+use Rattle.nk_store.specs.Held.{Held, Grows, top}
 use Rattle.nk_algebra.specs.Seqs.{no_out}
 use Rattle.nk_sets.specs.PacketSets.{IsSet}
 use Rattle.nk_sets.proofs.SetLemmas.{set_grows}
 use Rattle.nk_reach.specs.declared.outs.Given.{Given}
-use Rattle.nk_reach.specs.Outs.{given, entry, IsGiven, AreGiven, Gives, GivesAny}
+use Rattle.nk_reach.specs.Outs.{given, entry, IsGiven, AreGiven, AreLater, Gives, GivesAny}
 use Rattle.nk_reach.proofs.Kept.{Has, has_on, has_back}
 
 -- an entry stays one as the store grows
@@ -103,16 +101,15 @@ any_back st es e x o w = elim (eqb_tells w.0 (length es)) [
       inl (w.0, w.1, m, subst (λ (z : Given). z.out ≡ o) at w.3, subst (λ (z : Given). Has st z.packets x) at w.4)
 ]
 
--- entries in another order are entries
-pub given_moved : (st : Held) (es fs : List Given) → IsPermutation es fs → AreGiven st es → AreGiven st fs
-given_moved st es fs p k i l =
-    let c = Contains-permutation fs es (entry fs i) (IsPermutation-sym es fs p) (i, l, get_or_default fs i (entry fs i) (given 0 no_out) l) in
-    subst (IsGiven st) (get_or_default es c.0 (given 0 no_out) (entry fs i) c.1 ∙ c.2) (k c.0 c.1)
+-- what no set tests it doesn't test in a grown store
+pub later_on : (a b : Held) (f : ℕ) (es : List Given) → Grows a b → AreGiven a es → AreLater a f es → AreLater b f es
+later_on a b f es g k later i l = let e : top b (entry es i).packets ≡ top a (entry es i).packets = g.tops (entry es i).packets (k i l).packets.id in omega (arith, e, later i l)
 
--- entries in another order give the same
-pub gives_moved : (st : Held) (es fs : List Given) (x : List ℕ) (o : Out) → IsPermutation es fs → GivesAny st es x o → GivesAny st fs x o
-gives_moved st es fs x o p w =
-    let e : Given = entry es w.0 in
-    let c = Contains-permutation es fs e p (w.0, w.2, get_or_default es w.0 e (given 0 no_out) w.2) in
-    let at : e ≡ entry fs c.0 = sym (get_or_default fs c.0 (given 0 no_out) e c.1 ∙ c.2) in
-    (c.0, omega arith, c.1, subst (λ (z : Given). z.out ≡ o) at w.3, subst (λ (z : Given). Has st z.packets x) at w.4)
+-- one entry more, whose set doesn't test it
+pub later_push : (st : Held) (f : ℕ) (es : List Given) (e : Given) → AreLater st f es → f ≤ top st e.packets → AreLater st f (es ++ e ∷ [])
+later_push st f es e later h i l = elim (eqb_tells i (length es)) [
+  | inl same ↦ subst (λ (z : Given). f ≤ top st z.packets) (sym (ap (λ j. entry (es ++ e ∷ []) j) same.1 ∙ push_new es e)) h
+  | inr other ↦
+      let m : i < length es = omega (arith, l, length-append es (e ∷ []), other.1) in
+      subst (λ (z : Given). f ≤ top st z.packets) (sym (push_old es e i m)) (later i m)
+]

@@ -12,7 +12,9 @@ pub mod Adding
 pub mod Nexts
 pub mod Following
 pub mod Givens
+pub mod Stretches
 pub mod ByOut
+pub mod Running
 pub mod Grouping
 pub mod Cutting
 pub mod Sending

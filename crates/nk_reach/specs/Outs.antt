@@ -1,11 +1,14 @@
 -- Which packets of a diagram have which out.
-use Rattle.std.specs.Prelude.{◌≡◌, ℕ, ◌+◌, ◌<◌, ◌≤◌, ◌⊎◌, eqb, true, List, Some, length, slice_index, slice_index_or, Contains}
+use Rattle.std.specs.Prelude.{◌≡◌, ℕ, ◌-◌, ◌<◌, ◌≤◌, cond, eqb, leb, true, List, [], ◌∷◌, ◌++◌, Option, Some, None, map, length, slice_index, slice_index_or, Contains}
 use Rattle.std.specs.Map.{lookup}
 use Rattle.nk_store.specs.declared.node.Out.{Out}
 use Rattle.nk_store.specs.Leaves.{Suits}
-use Rattle.nk_store.specs.Held.{Held, IsId, IsPacket, look}
+use Rattle.nk_store.specs.Nodes.{child_at, Each}
+use Rattle.nk_store.specs.Held.{Held, IsId, IsWhole, IsPacket, IsChild, HasLeaves, AreParts, look, top}
 use Rattle.nk_algebra.specs.Seqs.{no_out}
+use Rattle.nk_algebra.specs.Predicates.{IsPredicate}
 use Rattle.nk_sets.specs.PacketSets.{is_in, IsSet}
+use Rattle.nk_reach.specs.declared.groups.Stretch.{Stretch}
 use Rattle.nk_reach.specs.declared.outs.Given.{Given}
 
 -- the out for these packets
@@ -25,6 +28,10 @@ pub record IsGiven (st : Held) (e : Given) : Type 0 where
 abbrev pub AreGiven : Held → List Given → Type 0
 AreGiven st es = (k : ℕ) → k < length es → IsGiven st (entry es k)
 
+-- no entry's set tests a field before f
+abbrev pub AreLater : Held → ℕ → List Given → Type 0
+AreLater st f es = (k : ℕ) → k < length es → f ≤ top st (entry es k).packets
+
 -- an entry at one of these places has the out, and its set has the packet
 abbrev pub Gives : Held → List Given → ℕ → ℕ → List ℕ → Out → Type 0
 Gives st es from to x o = (k : ℕ) × (from ≤ k) × (k < to) × ((entry es k).out ≡ o) × (is_in st (entry es k).packets x ≡ true)
@@ -37,6 +44,7 @@ GivesAny st es x o = Gives st es 0 (length es) x o
 pub record IsByOut (st : Held) (d : ℕ) (es : List Given) : Type 0 where
   pub id : IsId st d
   pub given : AreGiven st es
+  pub later : AreLater st (top st d) es
   pub goes : (x : List ℕ) (o : Out) → IsPacket st x → GivesAny st es x o → Contains (look st d x) o
   pub comes : (x : List ℕ) (o : Out) → IsPacket st x → Contains (look st d x) o → GivesAny st es x o
 
@@ -44,30 +52,93 @@ pub record IsByOut (st : Held) (d : ℕ) (es : List Given) : Type 0 where
 abbrev pub AreByOut : Held → List (ℕ × List Given) → Type 0
 AreByOut st rows = (d : ℕ) (es : List Given) → lookup (eqb d) rows ≡ Some es → IsByOut st d es
 
--- behind all stand the first n of es, each with those of its packets alone that are in the set
-pub record IsGuarded (st : Held) (here : ℕ) (es : List Given) (n : ℕ) (all : List Given) (new : Held) (made : List Given) : Type 0 where
+-- the entry for the values of an interval
+abbrev pub stretch : ℕ → ℕ → Given → Stretch
+stretch from end e = record { out = e.out; from = from; end = end; packets = e.packets }
+
+-- the entries for the values of an interval, where there are entries
+abbrev pub stretches : ℕ → ℕ → Option (List Given) → List Stretch
+stretches from end None = []
+stretches from end (Some es) = map (stretch from end) es
+
+-- what stands at a place, or nothing
+abbrev pub piece : List Stretch → ℕ → Stretch
+piece ss k = slice_index_or ss k (stretch 0 0 (given 0 no_out))
+
+-- the out suits the store, the packets are a set of fields after f, and the interval has values of f
+pub record IsStretch (st : Held) (f : ℕ) (s : Stretch) : Type 0 where
+  pub suits : Suits st.maxes s.out
+  pub child : IsChild st f s.packets
+  pub predicate : IsPredicate st s.packets
+  pub order : s.from ≤ s.end
+  pub within : s.end ≤ slice_index st.maxes f
+
+-- each one is so
+abbrev pub AreStretches : Held → ℕ → List Stretch → Type 0
+AreStretches st f ss = (k : ℕ) → k < length ss → IsStretch st f (piece ss k)
+
+-- one at these places has the out and the value, and its set has the packet
+abbrev pub HasAt : Held → List Stretch → ℕ → ℕ → ℕ → List ℕ → Out → Type 0
+HasAt st ss from to v x o = (k : ℕ) × (from ≤ k) × (k < to) × ((piece ss k).out ≡ o) × ((piece ss k).from ≤ v) × (v ≤ (piece ss k).end) × (is_in st (piece ss k).packets x ≡ true)
+
+-- the same of all places, at the packet's own value of f
+abbrev pub HasAny : Held → ℕ → List Stretch → List ℕ → Out → Type 0
+HasAny st f ss x o = HasAt st ss 0 (length ss) (slice_index x f) x o
+
+-- they are those of the diagram at the packets whose value of the field is below a bound
+pub record IsUpTo (old : Held) (d f bound : ℕ) (new : Held) (ss : List Stretch) : Type 0 where
+  pub given : AreStretches new f ss
+  pub goes : (x : List ℕ) (o : Out) → IsPacket old x → HasAny new f ss x o → Contains (look old d x) o
+  pub comes : (x : List ℕ) (o : Out) → IsPacket old x → slice_index x f < bound → Contains (look old d x) o → HasAny new f ss x o
+
+-- they have for each out of a diagram that tests f first exactly the packets with that out
+pub record AreOfDiagram (st : Held) (f d : ℕ) (ss : List Stretch) : Type 0 where
+  pub id : IsId st d
+  pub first : top st d ≡ f
+  pub given : AreStretches st f ss
+  pub goes : (x : List ℕ) (o : Out) → IsPacket st x → HasAny st f ss x o → Contains (look st d x) o
+  pub comes : (x : List ℕ) (o : Out) → IsPacket st x → Contains (look st d x) o → HasAny st f ss x o
+
+-- the first n of them and the entries made of them have the same packets for each out
+pub record AreUnited (old : Held) (f : ℕ) (ss : List Stretch) (n : ℕ) (new : Held) (made : List Given) : Type 0 where
   pub given : AreGiven new made
-  pub from : (x : List ℕ) (o : Out) → IsPacket st x → GivesAny new made x o → GivesAny st all x o ⊎ ((is_in st here x ≡ true) × Gives st es 0 n x o)
-  pub old : (x : List ℕ) (o : Out) → IsPacket st x → GivesAny st all x o → GivesAny new made x o
-  pub more : (x : List ℕ) (o : Out) → IsPacket st x → is_in st here x ≡ true → Gives st es 0 n x o → GivesAny new made x o
+  pub later : AreLater new f made
+  pub from : (x : List ℕ) (o : Out) → IsPacket old x → GivesAny new made x o → HasAt old ss 0 n (slice_index x f) x o
+  pub more : (x : List ℕ) (o : Out) → IsPacket old x → HasAt old ss 0 n (slice_index x f) x o → GivesAny new made x o
 
--- the entries are those of the diagram at the packets whose value of the field is below a bound
-pub record IsUpTo (old : Held) (d f bound : ℕ) (new : Held) (es : List Given) : Type 0 where
-  pub given : AreGiven new es
-  pub goes : (x : List ℕ) (o : Out) → IsPacket old x → GivesAny new es x o → Contains (look old d x) o
-  pub comes : (x : List ℕ) (o : Out) → IsPacket old x → slice_index x f < bound → Contains (look old d x) o → GivesAny new es x o
+-- the set of no packets, which tests no field
+pub record IsNone (st : Held) (d : ℕ) : Type 0 where
+  pub leaves : HasLeaves st d (λ pk. [])
+  pub later : top st d ≡ 18
 
--- the first n entries and those made of them have the same packets for each out
-pub record AreUnited (old : Held) (es : List Given) (n : ℕ) (new : Held) (made : List Given) : Type 0 where
-  pub given : AreGiven new made
-  pub from : (x : List ℕ) (o : Out) → IsPacket old x → GivesAny new made x o → Gives old es 0 n x o
-  pub more : (x : List ℕ) (o : Out) → IsPacket old x → Gives old es 0 n x o → GivesAny new made x o
+-- the parts, with one of no packets for the values from next up to a value
+abbrev pub with_gap : ℕ → ℕ → ℕ → List (ℕ × ℕ) → List (ℕ × ℕ)
+with_gap next none from parts = cond (leb from next) parts (parts ++ (from - 1, none) ∷ [])
 
--- the entries at these places have the out of the first one
-abbrev pub IsRun : List Given → ℕ → ℕ → Type 0
-IsRun es from to = (k : ℕ) → from ≤ k → k < to → (entry es k).out ≡ (entry es from).out
+-- the parts, with the stretch's one behind them, and what is between of no packets
+abbrev pub with_part : ℕ → ℕ → Stretch → List (ℕ × ℕ) → List (ℕ × ℕ)
+with_part next none s parts = with_gap next none s.from parts ++ (s.end, s.packets) ∷ []
 
--- the packets of the entries at these places
-pub record ArePacketsOf (es : List Given) (from to : ℕ) (ds : List ℕ) : Type 0 where
-  pub count : from + length ds ≡ to
-  pub each : (k : ℕ) → k < length ds → slice_index ds k ≡ (entry es (from + k)).packets
+-- those at these places have the out of the first one
+abbrev pub AreAlike : List Stretch → ℕ → ℕ → Type 0
+AreAlike ss from to = (k : ℕ) → from ≤ k → k < to → (piece ss k).out ≡ (piece ss from).out
+
+-- those at these places have one out, and at each value of f the parts have their packets
+pub record HaveRun (st : Held) (f : ℕ) (ss : List Stretch) (from to : ℕ) (parts : List (ℕ × ℕ)) : Type 0 where
+  pub later : from < to
+  pub within : to ≤ length ss
+  pub alike : AreAlike ss from to
+  pub parts_ok : AreParts st f parts
+  pub sets : Each (IsPredicate st) parts
+  pub goes : (v : ℕ) (x : List ℕ) → IsWhole x → v ≤ slice_index st.maxes f → is_in st (child_at 0 parts v) x ≡ true → HasAt st ss from to v x (piece ss from).out
+  pub comes : (v : ℕ) (x : List ℕ) (o : Out) → IsWhole x → v ≤ slice_index st.maxes f → HasAt st ss from to v x o → is_in st (child_at 0 parts v) x ≡ true
+
+-- those at these places have one out, and the set has their packets
+pub record IsRunOf (old : Held) (f : ℕ) (ss : List Stretch) (from to : ℕ) (new : Held) (p : ℕ) : Type 0 where
+  pub later : from < to
+  pub within : to ≤ length ss
+  pub alike : AreAlike ss from to
+  pub packets : IsSet new p
+  pub first : f ≤ top new p
+  pub goes : (x : List ℕ) → IsPacket old x → is_in new p x ≡ true → HasAt old ss from to (slice_index x f) x (piece ss from).out
+  pub comes : (x : List ℕ) (o : Out) → IsPacket old x → HasAt old ss from to (slice_index x f) x o → is_in new p x ≡ true

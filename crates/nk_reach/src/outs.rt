@@ -1,36 +1,22 @@
 //! Which packets of a diagram have which out.
-ghost use Rattle.std.specs.Prelude.{◌≡◌, ◌<◌, ◌≤◌, eqb, map, IfOk, OnOk, length, slice_index};
+ghost use Rattle.std.specs.Prelude.{◌≡◌, ◌++◌, ◌<◌, true, eqb, map, IfOk, OnOk, IsSome};
 ghost use Rattle.std.specs.Map.{lookup};
 ghost use Rattle.nk_store.specs.Held.{IsId, Grows, top};
 ghost use Rattle.nk_algebra.specs.Subs.{IsSplit};
-ghost use Rattle.nk_sets.specs.PacketSets.{IsSet};
-ghost use Rattle.nk_reach.specs.Outs.{AreGiven, IsByOut, AreByOut, IsGuarded, given, entry};
+ghost use Rattle.nk_reach.specs.Outs.{IsByOut, AreByOut, AreOfDiagram, given, stretch, stretches};
 
-use crate::groups::grouped;
-use nk_algebra::{both, identity, part_at, range, tested};
+use crate::groups::{Stretch, grouped};
+use nk_algebra::{identity, part_near, tested};
 use nk_field::{Fid, List};
 use nk_store::{Id, Node, Out, Store};
 use std::alloc::{AllocError, Global};
 use std::collections::HashMap;
 
 /// An out with packets that have it.
-#[derive(PartialEq, Eq, PartialOrd, Ord, Drop)]
+#[derive(Drop)]
 pub(crate) struct Given {
     pub out: Out,
     pub packets: Id,
-}
-
-impl Given {
-    /// The same once more.
-    pub(crate) fn copy(&self) -> Result<Given, AllocError>
-        ensures { IfOk result (λ e. e ≡ self.now) }
-    {
-        let out = self.out.copy()?;
-        Ok(Given {
-            out,
-            packets: self.packets,
-        })
-    }
 }
 
 /// Which packets of a diagram have which out. Each node is visited once, its children before it.
@@ -40,50 +26,31 @@ pub(crate) fn by_out(st: &mut Store, d: Id) -> Result<List<Given>, AllocError>
     ensures ok { IfOk result (λ es. IsByOut st.new d es) }
 {
     let mut seen = HashMap::new(st.alloc());
-    outs_once(st, &mut seen, d)
+    outs_new(st, &mut seen, d)
 }
 
-/// Which packets have which out, looked up where it was found before.
+/// Puts which packets have which out into the table, where that isn't known yet.
 #[cycle(outs)]
-fn outs_once(
-    st: &mut Store,
-    seen: &mut HashMap<Id, List<Given>>,
-    d: Id,
-) -> Result<List<Given>, AllocError>
+fn visit(st: &mut Store, seen: &mut HashMap<Id, List<Given>>, d: Id) -> Result<(), AllocError>
     requires id { IsId st.old d }
     requires seen { AreByOut st.old seen.old.entries }
     ensures grows { Grows st.old st.new }
-    ensures ok { IfOk result (λ es. IsByOut st.new d es) }
     ensures seen { OnOk result (AreByOut st.new seen.new.entries) }
+    ensures found { OnOk result (IsSome (lookup (eqb d) seen.new.entries)) }
 {
-    if let Some(es) = known(seen, d)? {
-        return Ok(es);
+    if is_known(seen, d) {
+        return Ok(());
     }
     let made = outs_new(st, seen, d)?;
-    let kept = copied(made.as_slice(), st.alloc())?;
-    seen.insert(d, kept)?;
-    Ok(made)
+    seen.insert(d, made)?;
+    Ok(())
 }
 
-/// What the table has for a diagram.
-fn known(seen: &HashMap<Id, List<Given>>, d: Id) -> Result<Option<List<Given>>, AllocError>
-    ensures { IfOk result (λ o. o ≡ lookup (eqb d) seen.now.entries) }
+/// Whether the table has a diagram.
+fn is_known(seen: &HashMap<Id, List<Given>>, d: Id) -> bool
+    ensures { result ≡ true → IsSome (lookup (eqb d) seen.now.entries) }
 {
-    match seen.get(&d) {
-        Some(es) => Ok(Some(copied(es.as_slice(), es.alloc())?)),
-        None => Ok(None),
-    }
-}
-
-/// The same entries once more.
-fn copied(es: &[Given], alloc: Global) -> Result<List<Given>, AllocError>
-    ensures { IfOk result (λ r. r ≡ es.now) }
-{
-    let mut all = List::new(alloc);
-    for e in es {
-        all.push(e.copy()?)?;
-    }
-    Ok(all)
+    seen.get(&d).is_some()
 }
 
 /// Which packets have which out, found anew.
@@ -152,34 +119,34 @@ fn outs_of_case(
     ensures seen { OnOk result (AreByOut st.new seen.new.entries) }
 {
     let all = outs_of_parts(st, seen, f, d)?;
-    grouped(st, d, all)
+    grouped(st, f, d, all)
 }
 
-/// The outs of each part of a diagram, each for the part's packets that have it.
+/// The outs of each part of a diagram, each with its packets of the part.
 #[cycle(outs)]
 fn outs_of_parts(
     st: &mut Store,
     seen: &mut HashMap<Id, List<Given>>,
     f: Fid,
     d: Id,
-) -> Result<List<Given>, AllocError>
+) -> Result<List<Stretch>, AllocError>
     requires id { IsId st.old d }
     requires field { f < 18 }
     requires first { top st.old d ≡ f }
     requires split { IsSplit st.old f d }
     requires seen { AreByOut st.old seen.old.entries }
     ensures grows { Grows st.old st.new }
-    ensures ok { IfOk result (λ es. IsByOut st.new d es) }
+    ensures ok { IfOk result (λ ss. AreOfDiagram st.new f d ss) }
     ensures seen { OnOk result (AreByOut st.new seen.new.entries) }
 {
     let max = st.max(f);
     let mut all = List::new(st.alloc());
+    let mut near = 0;
     let mut from = 0;
     loop {
-        let (end, child) = part_at(st, d, f, from);
-        let es = outs_once(st, seen, child)?;
-        let here = range(st, f, from, end)?;
-        guard_all(st, here, es.as_slice(), &mut all)?;
+        let (end, child) = part_near(st, d, f, from, &mut near);
+        visit(st, seen, child)?;
+        put_known(seen, child, from, end, &mut all)?;
         if end == max {
             return Ok(all);
         }
@@ -187,33 +154,32 @@ fn outs_of_parts(
     }
 }
 
-/// The entry at a place once more.
-fn copy_at(es: &[Given], k: usize) -> Result<Given, AllocError>
-    requires { k < length es.now }
-    ensures { IfOk result (λ e. e ≡ entry es.now k) }
+/// Puts what the table has for a diagram behind others, for the values of an interval.
+fn put_known(
+    seen: &HashMap<Id, List<Given>>,
+    d: Id,
+    from: u64,
+    end: u64,
+    all: &mut List<Stretch>,
+) -> Result<(), AllocError>
+    ensures { OnOk result (all.new ≡ all.old ++ stretches from end (lookup (eqb d) seen.now.entries)) }
 {
-    es[k].copy()
+    match seen.get(&d) {
+        Some(es) => put_all(es.as_slice(), from, end, all),
+        None => Ok(()),
+    }
 }
 
-/// Puts entries behind others, with those of their packets alone that are in a set.
-fn guard_all(
-    st: &mut Store,
-    here: Id,
-    es: &[Given],
-    all: &mut List<Given>,
-) -> Result<(), AllocError>
-    requires here { IsId st.old here }
-    requires entries { AreGiven st.old es.now }
-    requires all { AreGiven st.old all.old }
-    ensures grows { Grows st.old st.new }
-    ensures ok { OnOk result (IsGuarded st.old here es.now (length es.now) all.old st.new all.new) }
+/// Puts entries behind others, for the values of an interval.
+fn put_all(es: &[Given], from: u64, end: u64, all: &mut List<Stretch>) -> Result<(), AllocError>
+    ensures { OnOk result (all.new ≡ all.old ++ map (stretch from end) es.now) }
 {
-    for i in 0..es.len() {
-        let e = copy_at(es, i)?;
-        let packets = both(st, here, e.packets)?;
-        all.push(Given {
-            out: e.out,
-            packets,
+    for e in es {
+        all.push(Stretch {
+            out: e.out.copy()?,
+            from,
+            end,
+            packets: e.packets,
         })?;
     }
     Ok(())

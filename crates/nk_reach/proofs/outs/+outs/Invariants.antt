@@ -3,8 +3,8 @@ use Rattle.nk_store.specs.Held.{Grows}
 use Rattle.nk_reach.specs.Outs.{AreByOut, IsUpTo}
 use Rattle.nk_reach.proofs.outs.+outs.Given as goal
 
-abbrev pub decreases-outs_once : goal.decreases-outs_once
-decreases-outs_once l = 4 * l.d + 3
+abbrev pub decreases-visit : goal.decreases-visit
+decreases-visit l = 4 * l.d + 3
 
 abbrev pub decreases-outs_new : goal.decreases-outs_new
 decreases-outs_new l = 4 * l.d + 2
