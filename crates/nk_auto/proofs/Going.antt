@@ -1,7 +1,7 @@
 -- Diagrams of policies that are continued by a diagram: growth, leaves, sequences and stars.
-use Rattle.std.proofs.Common.{◌≡◌, ℕ, ◌+◌, inl, inr, ⊎_elim, List, [], ◌∷◌, refl, sym, ap, subst, ◌∙◌}
+use Rattle.std.proofs.Common.{true, ◌≡◌, ℕ, ◌+◌, inl, inr, ⊎_elim, List, [], ◌∷◌, refl, sym, ap, subst, ◌∙◌}
 use Rattle.nk_field.specs.Act.{applied}
-use Rattle.nk_policy.specs.Policy.{Policy, Policies, test, assign, seq_of, not_of, star_of, dup, link, no_part, part}
+use Rattle.nk_policy.specs.Policy.{Policy, Policies, test, assign, seq_of, not_of, star_of, dup, link, no_part, part, is_predicate}
 use Rattle.nk_policy.specs.Progress.{RecordsAt}
 use Rattle.nk_store.specs.Held.{Held, IsId, IsWhole, IsPacket, look, Grows, HasLeaves, AreTidy}
 use Rattle.nk_store.specs.declared.node.Out.{Out}
@@ -13,7 +13,7 @@ use Rattle.nk_auto.specs.Plain.{Sends}
 use Rattle.nk_auto.specs.Continued.{IsFit, IsSilent, GoesOn, IsContinued}
 use Rattle.nk_auto.proofs.Sending.{out_of, sends_on, sends_back, seq_sends, sends_seq, union_sends, sends_left, sends_right}
 use Rattle.nk_auto.proofs.Silences.{fit_before, packet_before, out_sends, dup_gives_none}
-use Rattle.nk_auto.proofs.Ways.{gives_in_range, gives_cons, cons_gives, records_cons, cons_records, records_star, star_records}
+use Rattle.nk_auto.proofs.Ways.{predicate_records_none, gives_in_range, gives_cons, cons_gives, records_cons, cons_records, records_star, star_records}
 
 -- what goes on by a diagram goes on by it in a store that grew
 pub goes_on : (old new : Held) (p : Policy) (k : ℕ) (pk y : List ℕ) (t : ℕ) → Grows old new → IsId old k →
@@ -123,6 +123,12 @@ set_through st new d k r f n tidy g a ik h = through st new d k r (assign f n) t
 pub not_through : (st new : Held) (d k r : ℕ) (p : Policy) → Grows st new → IsSilent st d (not_of p) → IsPredicate st d → IsId st k →
     HasLeaves new r (λ pk. guarded (look st d pk) (look st k pk)) → IsContinued new r (not_of p) k
 not_through st new d k r p g a pred ik h = guarded_through st new d k r (not_of p) g a pred ik (λ pk y t e. e) h
+
+-- a predicate, continued
+pub predicate_through : (st new : Held) (d k r : ℕ) (p : Policy) → is_predicate p ≡ true → Grows st new → IsSilent st d p →
+    IsPredicate st d → IsId st k → HasLeaves new r (λ pk. guarded (look st d pk) (look st k pk)) → IsContinued new r p k
+predicate_through st new d k r p is g a pred ik h =
+    guarded_through st new d k r p g a pred ik (λ pk y t e. predicate_records_none p is pk [] y t e) h
 
 -- the packet itself, to the target of a dup
 pub dup_continued : (st : Held) (d l k : ℕ) → HasLeaves st d (λ pk. record { act = []; target = l } ∷ []) → IsId st k →

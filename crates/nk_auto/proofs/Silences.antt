@@ -273,3 +273,39 @@ star_silent st new d r p g a id ends leads = record {
             subst (λ u. Sends new r pk y u) (sym s.0) made,
       );
 }
+
+-- the complement of a predicate's complement is the predicate
+pub twice_silent : (st new : Held) (d r : ℕ) (p : Policy) → is_predicate p ≡ true → Grows st new → IsSilent st d p →
+    IsSilent new r (not_of (not_of p)) → IsSilent new r p
+twice_silent st new d r p pred g a b = record {
+  id = b.id;
+  ends = b.ends;
+  sends = λ fit pk y t range.
+      let before = packet_before st new pk g range in
+      let fit_p = fit_before st new p g fit in
+      let twice : IsFit new.maxes (not_of (not_of p)) = ((pred, (pred, fit.0)), tt) in (
+        λ s.
+            let k = (b.sends twice pk y t range).0 s in
+            (k.0, subst (λ x. Gives p pk [] x) (sym k.1.0.1) (given fit_p pk before k.1.1 (look st d pk) refl)),
+        λ s.
+            let kept = predicate_keeps (λ l y. y) p pred pk [] y s.1 in
+            (b.sends twice pk y t range).1 (s.0, ((refl, kept.1), λ never. never.1 (subst (λ x. Gives p pk [] x) kept.1 s.1))),
+      );
+}
+  where
+    given : IsFit st.maxes p → (pk : List ℕ) → IsPacket st pk → (Gives (not_of p) pk [] pk → ⊥) → (os : List Out) →
+        look st d pk ≡ os → Gives p pk [] pk
+    given fit pk before never [] e =
+        absurd
+        (never (
+          (refl, refl),
+          λ gives.
+              let sent = (a.sends fit pk pk 0 before).1 (refl, gives) in
+              let k : Has [] (out_of sent.0 0) = subst (λ os. Has os (out_of sent.0 0)) e (contains_has _ _ sent.1) in
+              k,
+        ))
+    given fit pk before never (o ∷ os) e =
+        let sent : Sends st d pk (applied o.act pk) o.target = (o.act, has_contains _ _ (subst (λ xs. Has xs o) (sym e) (inl refl)), refl) in
+        let made = (a.sends fit pk (applied o.act pk) o.target before).0 sent in
+        let same = predicate_keeps (λ l y. y) p pred pk [] (applied o.act pk) made.1 in
+        subst (λ x. Gives p pk [] x) same.1 made.1

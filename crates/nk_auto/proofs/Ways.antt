@@ -3,7 +3,7 @@ use Rattle.std.proofs.Common.{◌≡◌, ℕ, suc, ◌≤◌, ◌⊎◌, inl, in
 use Rattle.std.specs.Prelude.{slice_index}
 use Rattle.nk_policy.specs.Policy.{Policy, Policies, test, assign, sum_of, seq_of, not_of, star_of, dup, link, no_part, part, is_predicate, are_predicates}
 use Rattle.nk_policy.specs.Meaning.{Gives, way_of, rounds}
-use Rattle.nk_policy.specs.Progress.{Marked, numbered, RecordsAt, AllRecordAt}
+use Rattle.nk_policy.specs.Progress.{Marked, numbered, RecordsAt, SomeRecordsAt, AllRecordAt}
 use Rattle.nk_policy.specs.After.{has_dup, some_has_dup}
 use Rattle.nk_policy.proofs.Kept
 use Rattle.nk_policy.proofs.ListParts.{map_empty, none_left, none_right}
@@ -120,3 +120,32 @@ mutual
       (λ e. predicate_holds_none p l b.0 e)
       (λ e. predicates_hold_none ps l b.1 e)
       (or_cases (has_dup p l) (some_has_dup ps l) k)
+
+mutual
+  -- a predicate records nothing
+  pub predicate_records_none : (p : Policy) → is_predicate p ≡ true → (pk : List ℕ) (u : Marked) (x : List ℕ)
+      (l : ℕ) → RecordsAt p pk u x l → ⊥
+  predicate_records_none (test f n) h pk u x l r = absurd r
+  predicate_records_none (assign f n) h pk u x l r = absurd r
+  predicate_records_none (sum_of ps) h pk u x l r = predicates_record_none ps h pk u x l r
+  predicate_records_none (seq_of ps) h pk u x l r = predicates_never_record ps h pk u x l r
+  predicate_records_none (not_of p) h pk u x l r = absurd r
+  predicate_records_none (star_of p) h pk u x l r = cc
+  predicate_records_none (dup k) h pk u x l r = cc
+  predicate_records_none (link a m b n k) h pk u x l r = cc
+
+  -- nor does one of several
+  predicates_record_none : (ps : Policies) → are_predicates ps ≡ true → (pk : List ℕ) (u : Marked) (x : List ℕ)
+      (l : ℕ) → SomeRecordsAt ps pk u x l → ⊥
+  predicates_record_none no_part h pk u x l r = absurd r
+  predicates_record_none (part p ps) h pk u x l r =
+      let b = both_true (is_predicate p) (are_predicates ps) h in
+      ⊎_elim (λ s. predicate_records_none p b.0 pk u x l s) (λ s. predicates_record_none ps b.1 pk u x l s) r
+
+  -- nor do several in turn
+  predicates_never_record : (ps : Policies) → are_predicates ps ≡ true → (pk : List ℕ) (u : Marked) (x : List ℕ)
+      (l : ℕ) → AllRecordAt ps pk u x l → ⊥
+  predicates_never_record no_part h pk u x l r = absurd r
+  predicates_never_record (part p ps) h pk u x l r =
+      let b = both_true (is_predicate p) (are_predicates ps) h in
+      ⊎_elim (λ s. predicate_records_none p b.0 pk u x l s) (λ s. predicates_never_record ps b.1 s.2 s.1 x l s.5) r

@@ -2,7 +2,7 @@
 use Rattle.std.proofs.Common.{◌≡◌, ◌≢◌, ℕ, zero, suc, ◌+◌, ◌-◌, ◌<◌, ◌≤◌, inl, inr, ⊎_elim, Bool, true, false, List, [], ◌∷◌, length, refl, sym, ap, subst, ◌∙◌, arith, length-set, get_or-set_other, get_or-set_same}
 use Rattle.std.specs.Prelude.{slice_index, slice_set, ◌==◌, ◌||◌, if◌then◌else◌}
 use Rattle.std.proofs.lemmas.Bool.Decides.{leb_tells}
-use Rattle.nk_policy.specs.Policy.{Policy, Policies, test, assign, sum_of, seq_of, not_of, star_of, dup, link, no_part, part}
+use Rattle.nk_policy.specs.Policy.{Policy, Policies, test, assign, sum_of, seq_of, not_of, star_of, dup, link, no_part, part, is_predicate}
 use Rattle.nk_policy.specs.After.{id_policy, drop_policy, has_dup, some_has_dup, after, after_some, after_all, after_dup, after_link}
 use Rattle.nk_policy.proofs.Tests.{false_true, or_cases, both_false, same_number, same_from, next_number}
 use Rattle.nk_store.specs.Held.{Held, IsId, Grows}
@@ -36,6 +36,10 @@ set_written st rows base f n k = none_written st rows base (assign f n) k (λ fi
 
 pub not_written : (st : Held) (rows : List ℕ) (base : ℕ) (p : Policy) (k : ℕ) → AreWritten st rows rows base (not_of p) k
 not_written st rows base p k = none_written st rows base (not_of p) k (λ fit l has. predicate_holds_none p l fit.0 has)
+
+pub predicate_written : (st : Held) (rows : List ℕ) (base : ℕ) (p : Policy) (k : ℕ) → is_predicate p ≡ true →
+    AreWritten st rows rows base p k
+predicate_written st rows base p k h = none_written st rows base p k (λ fit l has. predicate_holds_none p l h has)
 
 pub empty_sum_written : (st : Held) (rows : List ℕ) (base k : ℕ) → AreWritten st rows rows base (sum_of no_part) k
 empty_sum_written st rows base k = none_written st rows base (sum_of no_part) k (λ fit l has. false_true has)

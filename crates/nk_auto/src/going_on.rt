@@ -1,20 +1,20 @@
 //! What a policy does up to its first record, continued by a diagram.
-ghost use Rattle.std.specs.Prelude.{◌≡◌, ℕ, ◌+◌, ◌∷◌, [], IfOk};
-ghost use Rattle.nk_policy.specs.Policy.{test, assign, sum_of, seq_of, not_of, star_of, link, dup, part, no_part};
+ghost use Rattle.std.specs.Prelude.{◌≡◌, ℕ, ◌+◌, ◌∷◌, [], true, IfOk};
+ghost use Rattle.nk_policy.specs.Policy.{test, assign, sum_of, seq_of, not_of, star_of, link, dup, part, no_part, is_predicate as is_predicate_tree};
 ghost use Rattle.nk_policy.specs.Tree.{tree_of, trees_of};
 ghost use Rattle.nk_store.specs.Held.{IsId, Grows, HasLeaves};
 ghost use Rattle.nk_auto.specs.Continued.{IsContinued};
 
-use crate::silence::{silent_not, silent_set, silent_star, silent_test};
+use crate::silence::{silent_not, silent_predicate, silent_set, silent_star, silent_test};
 use nk_algebra::{aim, both, empty, identity, seq, union, union_all};
 use nk_field::{Fid, List};
-use nk_policy::Pol;
+use nk_policy::{Pol, is_predicate};
 use nk_store::{Id, Store};
 use std::alloc::AllocError;
 
 /// The diagram of a policy up to its first record, continued by a diagram: where the policy ends without a record the
 /// diagram says what comes next, and where it records at its dup l the packet is sent to target l. The only error is
-/// that memory ran out.
+/// that memory ran out. A sum of predicates is one predicate, which guards the diagram once.
 #[cycle(continued)]
 #[tactic(auto, using(nk_policy::proofs::Trees::tree_of_sum, nk_policy::proofs::Trees::tree_of_seq))]
 pub fn continued(st: &mut Store, p: &Pol, next: Id) -> Result<Id, AllocError>
@@ -22,6 +22,9 @@ pub fn continued(st: &mut Store, p: &Pol, next: Id) -> Result<Id, AllocError>
     ensures grows { Grows st.old st.new }
     ensures ok { IfOk result (λ d. IsContinued st.new d (tree_of p.now) next) }
 {
+    if is_predicate_sum(p) {
+        return after_predicate(st, p, next);
+    }
     match p {
         Pol::Test(f, n) => after_test(st, *f, *n, next),
         Pol::Set(f, n) => after_set(st, *f, *n, next),
@@ -64,6 +67,28 @@ pub fn after_not(st: &mut Store, q: &Pol, next: Id) -> Result<Id, AllocError>
     ensures ok { IfOk result (λ d. IsContinued st.new d (not_of (tree_of q.now)) next) }
 {
     let d = silent_not(st, q)?;
+    let r = both(st, d, next)?;
+    Ok(r)
+}
+
+/// Whether a policy is a sum of predicates.
+pub fn is_predicate_sum(p: &Pol) -> bool
+    ensures { result ≡ true → is_predicate_tree (tree_of p.now) ≡ true }
+{
+    match p {
+        Pol::Sum(_) => is_predicate(p),
+        _ => false,
+    }
+}
+
+/// A predicate, continued by a diagram.
+pub fn after_predicate(st: &mut Store, p: &Pol, next: Id) -> Result<Id, AllocError>
+    requires next { IsId st.old next }
+    requires predicate { is_predicate_tree (tree_of p.now) ≡ true }
+    ensures grows { Grows st.old st.new }
+    ensures ok { IfOk result (λ d. IsContinued st.new d (tree_of p.now) next) }
+{
+    let d = silent_predicate(st, p)?;
     let r = both(st, d, next)?;
     Ok(r)
 }

@@ -6,7 +6,8 @@ ghost use Rattle.nk_store.specs.Held.{IsId, Grows};
 ghost use Rattle.nk_auto.specs.Continued.{IsContinued, AreWritten, IsPut};
 
 use crate::going_on::{
-    after_not, after_set, after_test, before_dup, continued_star, link_rest, link_start,
+    after_not, after_predicate, after_set, after_test, before_dup, continued_star,
+    is_predicate_sum, link_rest, link_start,
 };
 use nk_algebra::union_all;
 use nk_field::List;
@@ -32,6 +33,9 @@ pub fn continued_with_rows(
     ensures ok { IfOk result (λ d. IsContinued st.new d (tree_of p.now) next) }
     ensures written { OnOk result (AreWritten st.new rows.old rows.new base (tree_of p.now) next) }
 {
+    if is_predicate_sum(p) {
+        return after_predicate(st, p, next);
+    }
     match p {
         Pol::Test(f, n) => after_test(st, *f, *n, next),
         Pol::Set(f, n) => after_set(st, *f, *n, next),

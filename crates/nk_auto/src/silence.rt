@@ -1,6 +1,6 @@
 //! What a policy does without a record.
-ghost use Rattle.std.specs.Prelude.{◌≡◌, ℕ, ◌∷◌, [], IfOk};
-ghost use Rattle.nk_policy.specs.Policy.{test, assign, sum_of, seq_of, not_of, star_of, dup, link};
+ghost use Rattle.std.specs.Prelude.{◌≡◌, ℕ, ◌∷◌, [], true, IfOk};
+ghost use Rattle.nk_policy.specs.Policy.{test, assign, sum_of, seq_of, not_of, star_of, dup, link, is_predicate};
 ghost use Rattle.nk_policy.specs.Tree.{tree_of, trees_of};
 ghost use Rattle.nk_store.specs.Held.{Grows};
 ghost use Rattle.nk_algebra.specs.Predicates.{IsPredicate};
@@ -42,6 +42,19 @@ pub fn silent_not(st: &mut Store, q: &Pol) -> Result<Id, AllocError>
 {
     let d = silent(st, q)?;
     negate(st, d)
+}
+
+/// The diagram of a predicate: a predicate diagram.
+pub fn silent_predicate(st: &mut Store, p: &Pol) -> Result<Id, AllocError>
+    requires { is_predicate (tree_of p.now) ≡ true }
+    ensures grows { Grows st.old st.new }
+    ensures ok { IfOk result (λ d. IsSilent st.new d (tree_of p.now)) }
+    ensures predicate { IfOk result (λ d. IsPredicate st.new d) }
+{
+    let d = silent(st, p)?;
+    let others = negate(st, d)?;
+    let r = negate(st, others)?;
+    Ok(r)
 }
 
 /// The diagram of a star.

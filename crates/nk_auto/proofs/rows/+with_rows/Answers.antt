@@ -7,7 +7,8 @@ use Rattle.nk_store.proofs.Stores.{grows_on}
 use Rattle.nk_auto.specs.Continued.{IsContinued, AreWritten}
 use Rattle.nk_auto.proofs.Parts.{trees_before}
 use Rattle.nk_auto.proofs.Going.{continued_grow, cons_continued}
-use Rattle.nk_auto.proofs.Writing.{seq_written, sum_written, star_written, not_written, written_grow}
+use Rattle.nk_algebra.proofs.MadeOf.{on_any}
+use Rattle.nk_auto.proofs.Writing.{seq_written, sum_written, star_written, not_written, predicate_written, written_grow}
 use Rattle.nk_auto.proofs.Sums.{AreOf, IsOnward, one_more_of, ids_of, sum_continued}
 use Rattle.nk_auto.proofs.rows.+with_rows.Goals as goal
 
@@ -70,3 +71,8 @@ continued_with_rows-returns-in-Not-clause-written t c =
     IfOk-weaker c.after_not.result _ _
     (λ r h. subst (λ p. AreWritten c.after_not.new.st c.args.rows.now c.args.rows.now c.args.base (tree_of p) c.args.next) (sym c.in-Not.is) (not_written c.after_not.new.st c.args.rows.now c.args.base (tree_of c.in-Not.q.value) c.args.next))
     c.after_not.ensures.ok
+
+pub continued_with_rows-returns-then-is_predicate_sum-clause-written :
+    goal.continued_with_rows-returns-then-is_predicate_sum-clause-written
+continued_with_rows-returns-then-is_predicate_sum-clause-written t c =
+    on_any c.after_predicate.result _ (predicate_written c.after_predicate.new.st c.args.rows.now c.args.base (tree_of c.args.p.now) c.args.next (c.is_predicate_sum.ensures c.if-is_predicate_sum.true))
