@@ -24,3 +24,7 @@ module _ (ss : List (List ℕ)) (start s t x : ℕ) (a : start < length ss) (b :
 
   pub entries : (ls : List (List (ℕ × ℕ))) → ls ≡ ((start, x) ∷ []) ∷ ((s, x) ∷ (t, x) ∷ []) ∷ [] → AreEntries ss ls
   entries ls is = subst (λ l. AreEntries ss l) (sym is) each
+
+-- no levels are levels of entries
+pub no_entries : (ss : List (List ℕ)) (ls : List (List (ℕ × ℕ))) → ls ≡ [] → AreEntries ss ls
+no_entries ss ls is = subst (λ l. AreEntries ss l) (sym is) (λ i lt. absurd (omega (arith, lt)))

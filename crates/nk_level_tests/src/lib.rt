@@ -2,4 +2,28 @@
 #![tactic(auto)]
 
 #[cfg(test)]
+mod automata;
+#[cfg(test)]
+mod cases;
+#[cfg(test)]
+mod compare;
+#[cfg(test)]
+mod draws;
+#[cfg(test)]
+mod packets;
+#[cfg(test)]
+mod policies;
+#[cfg(test)]
+mod reads;
+#[cfg(test)]
+mod ring;
+#[cfg(test)]
+mod runs;
+#[cfg(test)]
+mod sides;
+#[cfg(test)]
+mod stars;
+#[cfg(test)]
+mod stores;
+#[cfg(test)]
 mod tags;

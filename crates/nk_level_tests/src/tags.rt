@@ -1,9 +1,11 @@
 //! Numbers of the sets at odd levels.
 ghost use Rattle.std.specs.Prelude.{◌≡◌, ◌≢◌, ◌+◌, ◌<◌, ◌^◌, [], ◌∷◌, false, IfOk, length};
 
+use crate::cases::{Case, holds};
+use crate::reads::is_one_too_many;
 use nk_algebra::identity;
 use nk_determ::{SetId, Sets};
-use nk_field::{Fields, List};
+use nk_field::List;
 use nk_reach::Levels;
 use nk_store::{Id, Store};
 use nk_tag::{NumberError, number};
@@ -15,13 +17,6 @@ fn set_of(alloc: Global, ss: &mut Sets, l: u64) -> Result<SetId, AllocError> {
     let mut labels = List::new(alloc);
     labels.push(l)?;
     ss.intern(labels)
-}
-
-/// The packets of all sets: each packet.
-fn each_packet(alloc: Global) -> Result<Id, Fail> {
-    let fields = Fields::new(alloc)?;
-    let mut st = Store::new(alloc, &fields)?;
-    Ok(identity(&mut st)?)
 }
 
 /// A level of one set.
@@ -77,24 +72,28 @@ fn numbers_of(
     number(ss, &lv, max)
 }
 
-/// Two sets of one level are numbered by their members, and two are more than one.
+/// Whether two sets of one level are numbered by their members, and two are more than one.
+pub fn has_two(alloc: Global, st: &mut Store, ss: &mut Sets) -> Result<bool, NumberError> {
+    let x = identity(st)?;
+    let start = set_of(alloc, ss, 0)?;
+    let s = set_of(alloc, ss, 7)?;
+    let t = set_of(alloc, ss, 3)?;
+    let count = ss.len();
+    if start.place() >= count
+        || s.place() >= count
+        || t.place() >= count
+        || s.place() == t.place()
+    {
+        return Ok(false);
+    }
+    let ids = numbers_of(alloc, ss, start, s, t, x, 2)?;
+    let many = numbers_of(alloc, ss, start, s, t, x, 1);
+    Ok(ids.len() == 2 && *ids.at(0) == t && *ids.at(1) == s && is_one_too_many(many))
+}
+
+/// Two sets of one level have numbers.
 #[test]
 fn sets_are_numbered_by_their_members(rt: HostRuntime) -> Result<(), Fail> {
-    let alloc = rt.alloc();
-    let x = each_packet(alloc)?;
-    let mut ss = Sets::new(alloc);
-    let start = set_of(alloc, &mut ss, 0)?;
-    let s = set_of(alloc, &mut ss, 7)?;
-    let t = set_of(alloc, &mut ss, 3)?;
-    assert!(rt; start.place() < ss.len());
-    assert!(rt; s.place() < ss.len());
-    assert!(rt; t.place() < ss.len());
-    assert!(rt; s.place() != t.place());
-    let r = numbers_of(alloc, &ss, start, s, t, x, 2)?;
-    assert_eq!(rt; r.len(), 2);
-    assert!(rt; *r.at(0) == t);
-    assert!(rt; *r.at(1) == s);
-    let many = numbers_of(alloc, &ss, start, s, t, x, 1).err();
-    assert!(rt; many == Some(NumberError::TooManyTags { found: 2 }));
+    assert!(rt; holds(rt.alloc(), Case::Numbers)?);
     Ok(())
 }

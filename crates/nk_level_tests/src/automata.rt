@@ -1,0 +1,164 @@
+//! The automata of policies, and their levels from the start.
+ghost use Rattle.std.specs.Prelude.{◌≡◌, ◌≤◌, ◌<◌, ◌+◌, ◌^◌, [], ◌∷◌, true, refl, IfOk, OnOk, length};
+ghost use Rattle.nk_policy.specs.Policy.{marked_from, dups_of};
+ghost use Rattle.nk_policy.specs.Tree.{tree_of, trees_of};
+ghost use Rattle.nk_store.specs.Held.{Held, Grows};
+ghost use Rattle.nk_sets.specs.PacketSets.{IsSet};
+ghost use Rattle.nk_auto.specs.Continued.{IsFit, AreFit};
+ghost use Rattle.nk_determ.specs.Sets.{IsSetOf};
+ghost use Rattle.nk_reach.specs.Pairs.{AreRows};
+ghost use Rattle.nk_tag.specs.Numbers.{AreEntries};
+
+use nk_algebra::empty;
+use nk_auto::automaton;
+use nk_determ::{SetId, Sets};
+use nk_field::{Fid, List};
+use nk_policy::{Pol, dups, is_predicate, marked};
+use nk_reach::{Goal, Levels, levels};
+use nk_store::{Id, Store};
+use std::alloc::{AllocError, Global};
+
+/// The most dups of a policy whose automaton is made.
+pub const MOST_DUPS: u64 = 1_000_000;
+
+/// The same policy with its dups numbered in text order, from 1 on.
+#[tactic(auto, using(nk_policy::proofs::Remade::marked_again, nk_policy::proofs::Remade::marked_dups))]
+pub fn numbered(alloc: Global, raw: &Pol) -> Result<Pol, AllocError>
+    requires { dups_of (tree_of raw.now) ≤ 1000000 }
+    ensures numbered { IfOk result (λ p. marked_from (tree_of p) 1 ≡ tree_of p) }
+    ensures few { IfOk result (λ p. 1 + dups_of (tree_of p) ≤ 2 ^ 32) }
+{
+    let p = marked(alloc, raw, 1)?;
+    Ok(p)
+}
+
+/// Whether each complement is over a predicate, and each assignment is to a value in range.
+#[cycle(fits)]
+#[tactic(auto, using(nk_policy::proofs::Trees::tree_of_sum, nk_policy::proofs::Trees::tree_of_seq))]
+fn fits(st: &Store, p: &Pol) -> bool
+    ensures { result ≡ true → IsFit st.now.maxes (tree_of p.now) }
+{
+    match p {
+        Pol::Test(_, _) | Pol::Dup(_) => true,
+        Pol::Set(f, n) => *n <= st.max(*f),
+        Pol::Sum(ps) => all_fit(st, ps.as_slice()),
+        Pol::Seq(ps) => all_fit(st, ps.as_slice()),
+        Pol::Not(q) => is_predicate(q) && fits(st, q),
+        Pol::Star(q) => fits(st, q),
+        Pol::Link(_, _, a, n, _) => {
+            u64::from(*a) <= st.max(Fid::SWITCH) && u64::from(*n) <= st.max(Fid::PORT)
+        }
+    }
+}
+
+/// Whether that holds of each part.
+#[cycle(fits)]
+fn all_fit(st: &Store, ps: &[Pol]) -> bool
+    ensures { result ≡ true → AreFit st.now.maxes (trees_of ps.now) }
+{
+    for q in ps {
+        if !fits(st, q) {
+            return false;
+        }
+    }
+    true
+}
+
+/// The automaton of a policy.
+#[tactic(auto, using(nk_runs::proofs::Stands::are_rows))]
+fn drawn(st: &mut Store, p: &Pol) -> Result<List<Id>, AllocError>
+    requires fit { IsFit st.old.maxes (tree_of p.now) }
+    requires numbered { marked_from (tree_of p.now) 1 ≡ tree_of p.now }
+    requires few { 1 + dups_of (tree_of p.now) ≤ 2 ^ 32 }
+    ensures grows { Grows st.old st.new }
+    ensures rows { IfOk result (λ rows. AreRows st.new rows) }
+{
+    let rows = automaton(st, p, 1)?;
+    Ok(rows)
+}
+
+/// The rows of the automaton of a policy, its dups numbered from 1 on; no rows where the policy has none.
+#[tactic(auto, using(crate::proofs::Rows::no_rows))]
+pub fn rows_of(st: &mut Store, raw: &Pol) -> Result<List<Id>, AllocError>
+    ensures grows { Grows st.old st.new }
+    ensures rows { IfOk result (λ rows. AreRows st.new rows) }
+{
+    let alloc = st.alloc();
+    if dups(raw) > MOST_DUPS {
+        return Ok(List::new(alloc));
+    }
+    let p = numbered(alloc, raw)?;
+    if !fits(st, &p) {
+        return Ok(List::new(alloc));
+    }
+    drawn(st, &p)
+}
+
+/// The start alone.
+fn start_set(alloc: Global, ss: &mut Sets) -> Result<SetId, AllocError>
+    ensures set { IfOk result (λ s. IsSetOf ss.new s (0 ∷ [])) }
+{
+    let mut labels = List::new(alloc);
+    labels.push(0)?;
+    ss.intern(labels)
+}
+
+/// The levels of some rows from the start at some packets.
+pub fn from_start<G: Goal>(
+    st: &mut Store,
+    ss: &mut Sets,
+    rows: &[Id],
+    start: Id,
+    g: &mut G,
+) -> Result<Levels, AllocError>
+    requires fits { G.fits g.old st.old }
+    requires labels { length rows.now ≤ G.labels g.old }
+    requires rows { AreRows st.old rows.now }
+    requires some { 0 < length rows.now }
+    requires packets { IsSet st.old start }
+    ensures grows { Grows st.old st.new }
+    ensures entries { IfOk result (λ l. AreEntries ss.new l.levels) }
+{
+    let s = start_set(st.alloc(), ss)?;
+    levels(st, ss, rows, s, start, g)
+}
+
+/// The goal for which nothing is bad.
+#[derive(Drop)]
+pub struct NothingBad {
+    /// How many labels there are.
+    pub labels: usize,
+}
+
+impl Goal for NothingBad {
+    ghost fits = { λ g st. Unit {0} };
+
+    ghost labels = { λ g. g.labels };
+
+    ghost bad_of = { λ g st set pk. [] };
+
+    ghost fits_on = { λ g old new fits grows. tt };
+
+    ghost bad_on = { λ g old new set pk fits grows places. refl };
+
+    fn bad(&mut self, st: &mut Store, ss: &Sets, s: SetId) -> Result<Id, AllocError> {
+        empty(st)
+    }
+}
+
+/// The levels of some rows from the start at some packets, all of them: nothing is bad.
+pub fn levels_of(
+    st: &mut Store,
+    ss: &mut Sets,
+    rows: &[Id],
+    start: Id,
+) -> Result<Levels, AllocError>
+    requires rows { AreRows st.old rows.now }
+    requires some { 0 < length rows.now }
+    requires packets { IsSet st.old start }
+    ensures grows { Grows st.old st.new }
+    ensures entries { IfOk result (λ l. AreEntries ss.new l.levels) }
+{
+    let mut g = NothingBad { labels: rows.len() };
+    from_start(st, ss, rows, start, &mut g)
+}

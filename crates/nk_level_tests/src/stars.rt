@@ -1,0 +1,55 @@
+//! The levels of a star of a dup behind a dup.
+
+use crate::automata::{levels_of, rows_of};
+use crate::cases::{Case, holds};
+use crate::packets::each;
+use crate::policies::{in_turn, star};
+use crate::reads::is_level_of;
+use nk_determ::Sets;
+use nk_field::List;
+use nk_policy::Pol;
+use nk_reach::Levels;
+use nk_store::Store;
+use std::alloc::{AllocError, Global};
+use std::test::Fail;
+
+/// `dup;dup*`.
+fn dups_on(alloc: Global) -> Result<Pol, AllocError> {
+    let more = star(alloc, Pol::Dup(0))?;
+    in_turn(alloc, Pol::Dup(0), more)
+}
+
+/// The levels of the policy from its start at each packet; none unless it has three rows.
+#[tactic(auto, using(nk_sets::proofs::SetLemmas::set_grows))]
+fn levels_of_dups(alloc: Global, st: &mut Store, ss: &mut Sets) -> Result<Levels, AllocError> {
+    let all = each(st)?;
+    let rows = rows_of(st, &dups_on(alloc)?)?;
+    if rows.len() != 3 {
+        return Ok(Levels {
+            levels: List::new(alloc),
+            broken: false,
+        });
+    }
+    levels_of(st, ss, rows.as_slice(), all)
+}
+
+/// Whether each level has one dup at each packet.
+pub fn are_met_once(alloc: Global, st: &mut Store, ss: &mut Sets) -> Result<bool, AllocError> {
+    let lv = levels_of_dups(alloc, st, ss)?;
+    let all = each(st)?;
+    Ok(
+        !lv.broken
+            && lv.levels.len() == 3
+            && is_level_of(ss, &lv, 0, &[0], all)
+            && is_level_of(ss, &lv, 1, &[1], all)
+            && is_level_of(ss, &lv, 2, &[2], all),
+    )
+}
+
+/// Each packet is met at the start, behind the first dup and behind the second. The second is met again by each further
+/// record, and then nothing is new.
+#[test]
+fn a_dup_is_met_once(rt: HostRuntime) -> Result<(), Fail> {
+    assert!(rt; holds(rt.alloc(), Case::Star)?);
+    Ok(())
+}
