@@ -56,7 +56,7 @@ leaf_has sets outs s all g = by (labels_of g outs) refl
         subst (λ a. IsThere sets (labels_of a outs)) c.2 (subst (λ ts. IsThere sets (labels ts)) (branches_are outs s c.0 c.1) (all c.0 c.1))
 
 -- the child at a value is one of the parts' children
-child_place : (ps : List (ℕ × ℕ)) (d v : ℕ) → 0 < length ps → (k : ℕ) × (k < length ps) × (child_at d ps v ≡ (get_or ps k (0, 0)).1)
+pub child_place : (ps : List (ℕ × ℕ)) (d v : ℕ) → 0 < length ps → (k : ℕ) × (k < length ps) × (child_at d ps v ≡ (get_or ps k (0, 0)).1)
 child_place [] d v l = absurd (omega arith)
 child_place (p ∷ []) d v l = by (leb v p.0)
   where

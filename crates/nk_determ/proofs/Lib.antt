@@ -8,3 +8,10 @@ pub mod HaveSets
 pub mod Together
 pub mod Regrouped
 pub mod Followed
+pub mod Below
+pub mod Withouts
+pub mod Collected
+pub mod Changings
+pub mod Pieces
+pub mod Cut
+pub mod Fields

@@ -1,16 +1,10 @@
 -- Acts that assign exactly the fields that they change.
 pub use Rattle.nk_store.specs.Operations.{exact, exact_out, split_leaf}
-use Rattle.std.specs.Prelude.{◌≡◌, ℕ, List, [], ◌∷◌, slice_index, slice_index_or}
+use Rattle.std.specs.Prelude.{◌≡◌, ℕ, List, [], ◌∷◌, slice_index}
 use Rattle.std.specs.List.{Contains}
 use Rattle.nk_field.specs.Act.{applied}
-use Rattle.nk_store.specs.declared.node.Out.{Out}
 use Rattle.nk_store.specs.Leaves.{Every}
 use Rattle.nk_store.specs.Held.{Held, IsPacket, look}
-use Rattle.nk_algebra.specs.Seqs.{no_out}
-
--- the out at a place with those assignments of its act that change the packet
-abbrev pub out_split : List ℕ → List Out → List ℕ → ℕ → List Out
-out_split maxes outs pk k = exact_out maxes pk (slice_index_or outs k no_out) ∷ []
 
 -- each assignment changes the packet
 abbrev pub IsExact : List ℕ → List (ℕ × ℕ) → Type 0

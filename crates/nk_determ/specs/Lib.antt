@@ -3,3 +3,4 @@ pub mod Targets
 pub mod Sets
 pub mod Branches
 pub mod States
+pub mod Unchanged

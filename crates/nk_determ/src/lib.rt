@@ -2,7 +2,9 @@
 //! one diagram, which leads from each packet to the set of all labels that record it next.
 #![tactic(auto)]
 
+mod assigned;
 mod branches;
+mod changing;
 mod sets;
 mod splits;
 mod states;

@@ -1,0 +1,37 @@
+-- A diagram made exact field by field.
+use Rattle.std.proofs.Common.{ℕ, ◌+◌, sym, ◌∙◌, ap}
+use Rattle.nk_store.specs.Held.{Held, IsId, look, Grows, HasLeaves, AreTidy}
+use Rattle.nk_determ.specs.Exact.{split_leaf}
+use Rattle.nk_determ.specs.Unchanged.{leaf_changing, split_below}
+use Rattle.nk_determ.proofs.Below.{split_none, split_step, split_all}
+
+-- before the first field
+pub fields_start : (st : Held) (d : ℕ) → IsId st d → AreTidy st →
+    HasLeaves st d (λ pk. split_below 0 st.maxes pk (look st d pk))
+fields_start st d i tidy = record {
+  id = i;
+  leaf = λ pk w. sym (split_none st.maxes pk (look st d pk) ((tidy d).sorted pk) ((tidy d).suits pk));
+}
+
+-- one field more
+pub fields_step : (old st new : Held) (k d r q : ℕ) → Grows old st → AreTidy old →
+    HasLeaves st r (λ pk. split_below k old.maxes pk (look old d pk)) →
+    HasLeaves new q (λ pk. leaf_changing st.maxes k pk (look st r pk)) →
+    HasLeaves new q (λ pk. split_below (k + 1) old.maxes pk (look old d pk))
+fields_step old st new k d r q g tidy before h = record {
+  id = h.id;
+  leaf = λ pk w.
+      h.leaf pk w
+      ∙ ap (λ ms. leaf_changing ms k pk (look st r pk)) g.maxes
+      ∙ ap (λ os. leaf_changing old.maxes k pk os) (before.leaf pk w)
+      ∙ split_step old.maxes pk k (look old d pk) ((tidy d).suits pk);
+}
+
+-- behind the last field
+pub fields_all : (old st : Held) (d r : ℕ) → AreTidy old →
+    HasLeaves st r (λ pk. split_below 18 old.maxes pk (look old d pk)) →
+    HasLeaves st r (λ pk. split_leaf old.maxes pk (look old d pk))
+fields_all old st d r tidy h = record {
+  id = h.id;
+  leaf = λ pk w. h.leaf pk w ∙ split_all old.maxes pk (look old d pk) ((tidy d).suits pk);
+}

@@ -1,0 +1,75 @@
+-- Acts without the assignments to one field that don't change the packet.
+use Rattle.std.specs.Prelude.{◌≡◌, ℕ, ◌≤◌, min, Bool, true, cond, eqb, ltb, ◌&&◌, List, [], ◌∷◌, Some, slice_index}
+use Rattle.std.specs.List.{Contains, flat_map, list_any}
+use Rattle.std.specs.Map.{lookup}
+use Rattle.nk_field.specs.Act.{left_without}
+use Rattle.nk_store.specs.declared.node.Out.{Out}
+use Rattle.nk_store.specs.Operations.{gathered}
+use Rattle.nk_store.specs.Held.{Held, IsId, look, top, HasLeaves}
+
+-- whether the act assigns the value n to the field f
+abbrev pub assigns : ℕ → ℕ → List (ℕ × ℕ) → Bool
+assigns f n act = list_any (λ s. eqb s.0 f && eqb s.1 n) act
+
+-- the act without the assignment to the field f, where that is of the value n
+abbrev pub act_without : ℕ → ℕ → List (ℕ × ℕ) → List (ℕ × ℕ)
+act_without f n act = cond (assigns f n act) (left_without f act) act
+
+-- the out with its act without that assignment
+abbrev pub out_without : ℕ → ℕ → Out → Out
+out_without f n o = record { act = act_without f n o.act; target = o.target }
+
+-- the outs with their acts without that assignment
+abbrev pub leaf_without : ℕ → ℕ → List Out → List Out
+leaf_without f n os = gathered (λ o. out_without f n o ∷ []) os
+
+-- the outs with their acts without the assignment to the field f that doesn't change the packet; a value past the
+-- highest counts as the highest
+abbrev pub leaf_changing : List ℕ → ℕ → List ℕ → List Out → List Out
+leaf_changing maxes f pk os = leaf_without f (min (slice_index pk f) (slice_index maxes f)) os
+
+-- the assignments to fields from k on, and those to fields before k that change the packet
+abbrev pub exact_below : ℕ → List ℕ → List ℕ → List (ℕ × ℕ) → List (ℕ × ℕ)
+exact_below k maxes pk [] = []
+exact_below k maxes pk (s ∷ ss) =
+    cond (ltb s.0 k && eqb (min (slice_index pk s.0) (slice_index maxes s.0)) s.1) (exact_below k maxes pk ss)
+    (s ∷ exact_below k maxes pk ss)
+
+-- the out with those assignments
+abbrev pub out_below : ℕ → List ℕ → List ℕ → Out → Out
+out_below k maxes pk o = record { act = exact_below k maxes pk o.act; target = o.target }
+
+-- the outs with those assignments
+abbrev pub split_below : ℕ → List ℕ → List ℕ → List Out → List Out
+split_below k maxes pk os = gathered (λ o. out_below k maxes pk o ∷ []) os
+
+-- what the act assigns to the field f
+abbrev pub act_values : ℕ → List (ℕ × ℕ) → List ℕ
+act_values f act = flat_map (λ s. cond (eqb s.0 f) (s.1 ∷ []) []) act
+
+-- what the acts of a leaf assign to the field f
+abbrev pub leaf_values : ℕ → List Out → List ℕ
+leaf_values f os = flat_map (λ o. act_values f o.act) os
+
+-- each item of the first list is one of the second
+abbrev pub AreAmong : List ℕ → List ℕ → Type 0
+AreAmong xs ys = (v : ℕ) → Contains xs v → Contains ys v
+
+-- what the acts of the diagram assign to the field f is among the values
+abbrev pub HasValues : ℕ → List ℕ → Held → ℕ → Type 0
+HasValues f vs st d = (pk : List ℕ) → AreAmong (leaf_values f (look st d pk)) vs
+
+-- that is so of each of these diagrams
+abbrev pub AllHaveValues : ℕ → List ℕ → Held → List ℕ → Type 0
+AllHaveValues f vs st ds = (d : ℕ) → list_any (eqb d) ds ≡ true → HasValues f vs st d
+
+-- r has the leaves of d with their acts without the assignments to f that don't change the packet; it tests no field
+-- before f and those of d
+pub record IsChanging (f : ℕ) (st : Held) (d r : ℕ) : Type 0 where
+  pub id : IsId st d
+  pub leaves : HasLeaves st r (λ pk. leaf_changing st.maxes f pk (look st d pk))
+  pub later : min f (top st d) ≤ top st r
+
+-- each row leads from a diagram to that one
+abbrev pub AreChanging : ℕ → Held → List (ℕ × ℕ) → Type 0
+AreChanging f st rows = (d r : ℕ) → lookup (eqb d) rows ≡ Some r → IsChanging f st d r
