@@ -50,13 +50,13 @@ sign_apart s (Lexeme.numeral m ∷ ys) h = refl
 sign_apart s (Lexeme.sign t ∷ ys) h = ap (λ b. b && begins_with_equal t) h
 
 -- a space may stand before anything
-space_apart : (r : List Lexeme) → IsApart Lexeme.space r
+pub space_apart : (r : List Lexeme) → IsApart Lexeme.space r
 space_apart [] = tt
 space_apart (y ∷ ys) = refl
 
 module _ (line : ℕ) where
   mutual
-    pol_apart : (p : Pol) (r : List Lexeme) → IsPolOn line p → EndsPolicy r → AreApart r → AreApart (lexemes_of_pol p ++ r)
+    pub pol_apart : (p : Pol) (r : List Lexeme) → IsPolOn line p → EndsPolicy r → AreApart r → AreApart (lexemes_of_pol p ++ r)
     pol_apart (one_term t) r on e a = term_apart t r on e a
     pol_apart (plus p t) r on e a =
         subst AreApart (sym (append_assoc (lexemes_of_pol p) (Lexeme.space ∷ Lexeme.sign Sign.plus ∷ Lexeme.space ∷ lexemes_of_term t) r))
@@ -97,7 +97,7 @@ module _ (line : ℕ) where
 -- ---- their tokens are the spelling
 
 -- the terminals of lexemes, the first one on this line
-abbrev terminals_on : ℕ → List Lexeme → List Terminal
+abbrev pub terminals_on : ℕ → List Lexeme → List Terminal
 terminals_on line [] = []
 terminals_on line (Lexeme.space ∷ xs) = terminals_on line xs
 terminals_on line (Lexeme.line_feed ∷ xs) = terminals_on (line + 1) xs
@@ -105,7 +105,7 @@ terminals_on line (Lexeme.word w ∷ xs) = terminal_from (kind_of_name w) line 0
 terminals_on line (Lexeme.numeral n ∷ xs) = terminal_from kind.Number line n [] ∷ terminals_on line xs
 terminals_on line (Lexeme.sign s ∷ xs) = terminal_from (sign_kind s) line 0 [] ∷ terminals_on line xs
 
-of_tokens : (xs : List Lexeme) (line at : ℕ) → terminals (tokens_from line at xs) ≡ terminals_on line xs
+pub of_tokens : (xs : List Lexeme) (line at : ℕ) → terminals (tokens_from line at xs) ≡ terminals_on line xs
 of_tokens [] line at = refl
 of_tokens (Lexeme.space ∷ xs) line at = of_tokens xs line (at + 1)
 of_tokens (Lexeme.line_feed ∷ xs) line at = of_tokens xs (line + 1) (at + 1)
@@ -119,16 +119,16 @@ name_terminal line w on =
     ap (λ k. terminal_from k line 0 w.text) on.0.1 ∙ ap (λ l. name (record { text = w.text; line = l })) (sym on.1)
 
 -- a number's terminal
-number_terminal : (line : ℕ) (n : Number) → IsNumberOn line n → terminal_from kind.Number line n.value [] ≡ number n
+pub number_terminal : (line : ℕ) (n : Number) → IsNumberOn line n → terminal_from kind.Number line n.value [] ≡ number n
 number_terminal line n on = ap (λ l. number (record { value = n.value; line = l })) (sym on.1)
 
 -- terminals one behind the other
-put : (x y : Terminal) (xs ys : List Terminal) → x ≡ y → xs ≡ ys → x ∷ xs ≡ y ∷ ys
+pub put : (x y : Terminal) (xs ys : List Terminal) → x ≡ y → xs ≡ ys → x ∷ xs ≡ y ∷ ys
 put x y xs ys e f = ap (λ z. z ∷ xs) e ∙ ap (λ l. y ∷ l) f
 
 module _ (line : ℕ) where
   mutual
-    pol_spelled : (p : Pol) (r : List Lexeme) → IsPolOn line p
+    pub pol_spelled : (p : Pol) (r : List Lexeme) → IsPolOn line p
         → terminals_on line (lexemes_of_pol p ++ r) ≡ spell_pol p ++ terminals_on line r
     pol_spelled (one_term t) r on = term_spelled t r on
     pol_spelled (plus p t) r on =

@@ -9,3 +9,12 @@ pub mod Written
 pub mod Nested
 pub mod LetTexts
 pub mod FieldsOfTexts
+pub mod Certificates
+pub mod CertifiedTexts
+pub mod CertifiedAnswering
+pub mod WrittenRows
+pub mod Moves
+pub mod Carried
+pub mod Together
+pub mod NestedRows
+pub mod CertificateTexts

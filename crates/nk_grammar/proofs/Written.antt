@@ -1,6 +1,6 @@
 -- What is read from tokens of a text: names of fields are text, and their numbers those of a text.
-use Rattle.std.proofs.Common.{◌≡◌, ◌≤◌, ◌<◌, ℕ, subst, List, [], ◌∷◌, ◌++◌, refl, sym, ap, arith}
-use Rattle.std.proofs.lemmas.List.Elements.{All-nil, All-cons, All-tail, All-map, All-contains}
+use Rattle.std.proofs.Common.{◌≡◌, ◌≤◌, ℕ, subst, List, [], ◌∷◌, ◌++◌, sym, arith}
+use Rattle.std.proofs.lemmas.List.Elements.{All-nil, All-cons, All-tail}
 use Rattle.std.specs.Prelude.{Ok, map, All, ⊤, IsUtf8}
 use Rattle.nk_lex.specs.declared.kind.Kind.{Kind}
 use Rattle.nk_lex.specs.declared.kind.Kind.TheVariants as kind
@@ -13,7 +13,7 @@ use Rattle.nk_grammar.specs.Answer.{terminals, IsAnswer}
 use Rattle.nk_grammar.proofs.Answering.{answers}
 
 -- a name is text, and a number is one of a text
-abbrev IsText : Terminal → Type 0
+abbrev pub IsText : Terminal → Type 0
 IsText (name w) = IsUtf8 w.text
 IsText (number n) = n.value ≤ largest
 IsText t = ⊤
@@ -25,7 +25,7 @@ text_from kind.Number line value text u v = v
 text_from k line value text u v = tt
 
 -- the terminals of such tokens
-are_text : (ts : List Token) → All (λ t. IsUtf8 t.text) ts → All (λ t. t.value ≤ largest) ts
+pub are_text : (ts : List Token) → All (λ t. IsUtf8 t.text) ts → All (λ t. t.value ≤ largest) ts
     → All IsText (terminals ts)
 are_text [] u v = All-nil IsText
 are_text (t ∷ ts) u v =
@@ -33,7 +33,7 @@ are_text (t ∷ ts) u v =
     (are_text ts (All-tail (λ x. IsUtf8 x.text) t ts u) (All-tail (λ x. x.value ≤ largest) t ts v))
 
 -- what stands behind
-all_behind : (xs ys : List Terminal) → All IsText (xs ++ ys) → All IsText ys
+pub all_behind : (xs ys : List Terminal) → All IsText (xs ++ ys) → All IsText ys
 all_behind [] ys h = h
 all_behind (x ∷ xs) ys h = all_behind xs ys (All-tail IsText x (xs ++ ys) h)
 
@@ -45,7 +45,7 @@ written_one (written_switch n p ps) rest h = tt
 written_one (written_declared_link a m b n) rest h = tt
 written_one (written_let line w p) rest h = tt
 
-written_all : (ws : List Written) → All IsText (spell_file ws) → All IsWritten (map declared ws)
+pub written_all : (ws : List Written) → All IsText (spell_file ws) → All IsWritten (map declared ws)
 written_all [] h = All-nil IsWritten
 written_all (w ∷ ws) h =
     All-cons IsWritten (declared w) (map declared ws) (written_one w (spell_file ws) h)

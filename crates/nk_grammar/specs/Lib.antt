@@ -10,3 +10,9 @@ pub mod Answer
 pub mod Nesting
 pub mod Text
 pub mod Fields
+pub mod Certified
+pub mod CertifiedMachine
+pub mod CertifiedReader
+pub mod CertifiedAnswer
+pub mod Moved
+pub mod CertifiedText

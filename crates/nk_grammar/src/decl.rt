@@ -23,11 +23,24 @@ pub enum Decl {
     Let(Word, Ast, u64),
 }
 
-/// The declarations of a text, in order.
+/// A row of a certificate, with the line of the word `row`.
+#[derive(Drop)]
+pub struct CertRow {
+    /// The positions: none in the start row, else at least one.
+    pub positions: List<u64>,
+    /// What is written as the row's predicate.
+    pub pred: Ast,
+    /// The line of the word `row`.
+    pub line: u64,
+}
+
+/// The declarations of a text, in order, and the rows of its certificate.
 #[derive(Drop)]
 pub struct File {
     /// The declarations.
     pub decls: List<Decl>,
+    /// The certificate's rows, the start row first; none where the text has no certificate.
+    pub rows: List<CertRow>,
 }
 
 /// What stands before the next token of a text.

@@ -7,11 +7,21 @@ ghost use Rattle.nk_grammar.specs.Machine.{
 };
 ghost use Rattle.nk_grammar.specs.FileMachine.{ReadsTexts};
 ghost use Rattle.nk_grammar.specs.Answer.{AnswersTexts, IsUnique};
+ghost use Rattle.nk_grammar.specs.CertifiedAnswer.{AnswersCertifiedTexts, IsUniqueCertified};
+ghost use Rattle.nk_grammar.specs.CertifiedText.{ReadsCertificateTexts};
 ghost use Rattle.nk_grammar.specs.Fields.{DeclaresFields};
+ghost use Rattle.nk_grammar.specs.Moved.{
+  CertificatesMove,
+  ReadsCertificates,
+  ReadsTogether,
+  StaysInFront,
+};
 ghost use Rattle.nk_grammar.specs.Nesting.{ReadsLets};
 ghost use Rattle.nk_grammar.specs.Text.{ReadsLetTexts};
 
-use nk_lex::{a_name_is_one, a_text_of_lexemes_is_cut_into_them, values_are_small};
+use nk_lex::{
+    a_name_is_one, a_text_of_lexemes_is_cut_into_them, texts_are_joined, values_are_small,
+};
 
 /// The tokens of a policy give its syntax tree.
 pub fn policies_are_read()
@@ -47,6 +57,47 @@ pub fn texts_are_answered()
 pub fn a_text_has_one_tree()
     ensures { IsUnique }
 {}
+
+/// What reading the tokens of a text with a certificate answers is its declarations and rows, or its first fault.
+pub fn certified_texts_are_answered()
+    ensures { AnswersCertifiedTexts }
+{}
+
+/// No two texts with a certificate have the same tokens.
+pub fn a_certified_text_has_one_tree()
+    ensures { IsUniqueCertified }
+{}
+
+/// The tokens of a certificate in which at most 256 parentheses and `~` are open at once give its rows.
+pub fn certificates_are_read()
+    ensures { ReadsCertificates }
+{}
+
+/// The text of a certificate, each row on a line of its own, in which no more than 256 are open at once in a row, is cut into
+/// tokens that give its rows.
+pub fn certificate_texts_are_read()
+    ensures { ReadsCertificateTexts }
+{
+    a_text_of_lexemes_is_cut_into_them();
+}
+
+/// The tokens of a program are that program in front of the tokens of a certificate.
+pub fn a_program_stays_in_front_of_its_certificate()
+    ensures { StaysInFront }
+{}
+
+/// The tokens of a certificate on later lines are those of the same rows on later lines.
+pub fn certificates_are_moved()
+    ensures { CertificatesMove }
+{}
+
+/// The text of a program, a line feed and the text of a certificate are the text of that program with that
+/// certificate, its lines moved on by those of the program's text.
+pub fn a_program_and_a_certificate_are_read_together()
+    ensures { ReadsTogether }
+{
+    texts_are_joined();
+}
 
 /// The tokens of a `let` in which at most 256 parentheses and `~` are open at once give its declaration.
 pub fn lets_are_read()

@@ -1,18 +1,23 @@
-//! The grammar of program texts: declarations and policies, read token by token.
+//! The grammar of program texts: declarations and policies, and certificates behind them, read token by token.
 //!
 //! ```text
 //! file    : decl*
+//!         | decl* certificate start more*
 //! decl    : field NAME NUMBER
 //!         | tag NAME
 //!         | switch NUMBER ports NUMBER { , NUMBER }
 //!         | link NUMBER : NUMBER -> NUMBER : NUMBER
 //!         | let NAME = pol
+//! start   : row start : pol
+//! more    : row NUMBER { NUMBER } : pol
 //! pol     : term { + term }
 //! term    : factor { ; factor }
 //! factor  : atom { * }
 //! atom    : ~ atom | id | drop | dup | NAME | NAME = NUMBER | NAME := NUMBER
 //!         | NUMBER : NUMBER => NUMBER : NUMBER | ( pol )
 //! ```
+//!
+//! `file` reads texts without a certificate, `file_with_certificate` those with one.
 //!
 //! One term alone is that term, several are one sum, and the same of factors and sequences. A run of
 //! `*` behind one atom is one star. Parentheses leave no trace of their own. `(` and `~` are open until
@@ -21,6 +26,7 @@
 
 mod ast;
 mod build;
+mod certified;
 mod decl;
 mod frame;
 mod laws;
@@ -30,10 +36,14 @@ mod reader;
 mod text;
 
 pub use ast::{Ast, Asts, Number, Word};
-pub use decl::{Decl, File, GrammarError};
+pub use certified::file_with_certificate;
+pub use decl::{CertRow, Decl, File, GrammarError};
 pub use laws::{
-    a_text_has_one_tree, fields_of_texts_have_names, let_texts_are_read, lets_are_read,
-    policies_are_read, texts_are_answered, texts_are_read, what_is_read_is_a_policy,
-    what_is_refused_goes_nowhere, what_is_taken_goes_on,
+    a_certified_text_has_one_tree, a_program_and_a_certificate_are_read_together,
+    a_program_stays_in_front_of_its_certificate, a_text_has_one_tree, certificate_texts_are_read,
+    certificates_are_moved, certificates_are_read, certified_texts_are_answered,
+    fields_of_texts_have_names, let_texts_are_read, lets_are_read, policies_are_read,
+    texts_are_answered, texts_are_read, what_is_read_is_a_policy, what_is_refused_goes_nowhere,
+    what_is_taken_goes_on,
 };
 pub use text::file;

@@ -318,6 +318,13 @@ impl Reader {
         }
     }
 
+    /// The declarations that are done.
+    pub fn into_decls(self) -> Vec<Decl>
+        ensures { result ≡ self.decls }
+    {
+        self.decls
+    }
+
     /// The end, `line` being the last token's.
     pub fn end(&mut self, alloc: Global, line: u64) -> Result<(), GrammarError>
         ensures { Returns (λ _. declarations_in self.new) result
@@ -340,7 +347,8 @@ impl Reader {
 
 /// The declarations of a text's tokens, or the first fault.
 fn read_file(alloc: Global, tokens: &[Token]) -> Result<File, GrammarError>
-    ensures { Returns (λ f. map declaration_of f.decls) result (file_of tokens.now) }
+    ensures decls { Returns (λ f. map declaration_of f.decls) result (file_of tokens.now) }
+    ensures rows { IfOk result (λ f. f.rows ≡ []) }
 {
     let mut reader = Reader::new(alloc);
     let mut line = 1;
@@ -351,10 +359,11 @@ fn read_file(alloc: Global, tokens: &[Token]) -> Result<File, GrammarError>
     reader.end(alloc, line)?;
     Ok(File {
         decls: List::from_vec(reader.decls),
+        rows: List::from_vec(Vec::new(alloc)),
     })
 }
 
-/// The declarations of a text's tokens, in order. `Unexpected` is answered at the first token that no
+/// The declarations of a text's tokens, in order, and no row. `Unexpected` is answered at the first token that no
 /// text goes on with, or at the end of tokens that are the front of a text and no text, with the line
 /// of the last token, or 1; `TooDeep` at the first token that opens one parenthesis or `~` more than
 /// 256, where a text goes on with it.
@@ -364,6 +373,7 @@ pub fn file(alloc: Global, tokens: &[Token]) -> Result<File, GrammarError>
     // From the tokens of a text come names that are text, and numbers of a text.
     ensures written { All (λ t. IsUtf8 t.text) tokens.now → All (λ t. t.value ≤ largest) tokens.now
         → IfOk result (λ f. All IsWritten (map declaration_of f.decls)) }
+    ensures rows { IfOk result (λ f. f.rows ≡ []) }
 {
     match read_file(alloc, tokens) {
         Ok(file) => Ok(file),

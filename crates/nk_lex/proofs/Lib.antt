@@ -4,3 +4,4 @@ pub mod Names
 pub mod Digits
 pub mod Cutting
 pub mod Named
+pub mod Joining

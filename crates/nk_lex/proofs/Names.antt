@@ -15,8 +15,8 @@ use Rattle.nk_lex.specs.declared.kind.Kind.{Kind}
 use Rattle.nk_lex.specs.declared.kind.Kind.TheVariants as kind
 use Rattle.nk_lex.specs.declared.front.Front.{Front}
 use Rattle.nk_lex.specs.declared.front.Front.TheVariants as front
-use Rattle.nk_lex.specs.Classes.{is_digit, is_name_byte, is_name_start, is_white, not_line_feed}
-use Rattle.nk_lex.specs.Lex.{Scanned, after, cut, front_of, go_on, largest, line_after, number_of, one_byte, scan, single_of, starts_with_byte, symbol_of, token, value_of, with_length}
+use Rattle.nk_lex.specs.Classes.{is_digit, is_name_byte, is_name_start, is_white}
+use Rattle.nk_lex.specs.Lex.{Scanned, after, cut, front_of, go_on, largest, line_after, one_byte, scan, single_of, starts_with_byte, token, value_of, with_length}
 use Rattle.nk_lex.specs.Spans.{tokens_before_fault}
 use Rattle.nk_lex.proofs.Standing.{all_cons, of_both, run_length}
 

@@ -73,7 +73,7 @@ run_fits p (x ∷ xs) = by_test (p x) (run_fits p xs)
     by_test false h = omega arith
 
 -- the line feeds of two texts, one behind the other
-feeds_append : (xs ys : List ℕ) → line_feeds (xs ++ ys) ≡ line_feeds xs + line_feeds ys
+pub feeds_append : (xs ys : List ℕ) → line_feeds (xs ++ ys) ≡ line_feeds xs + line_feeds ys
 feeds_append xs ys = sum_by-append (λ b. cond (b == 10) 1 0) xs ys
 
 -- a byte that is no line feed adds none
@@ -342,7 +342,7 @@ record Behind (text pre xs : List ℕ) (skip line at : ℕ) : Type 0 where
   fits : skip ≤ length xs
   lines : line ≡ 1 + line_feeds (pre ++ take skip xs)
 
-line_feed_counts : (line b : ℕ) → line_after line b ≡ line + line_feeds (b ∷ [])
+pub line_feed_counts : (line b : ℕ) → line_after line b ≡ line + line_feeds (b ∷ [])
 line_feed_counts line b = by_test (b == 10)
   where
     by_test : (t : Bool) → cond t (line + 1) line ≡ line + (0 + cond t 1 0)

@@ -3,3 +3,4 @@ pub mod Kinds
 pub mod Lex
 pub mod Spans
 pub mod Spelling
+pub mod Joined

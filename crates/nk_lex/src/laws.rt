@@ -1,4 +1,5 @@
 //! What holds of every token that a text gives, also of those before a fault.
+ghost use Rattle.nk_lex.specs.Joined.{JoinsTexts, MovesLexemes};
 ghost use Rattle.nk_lex.specs.Spelling.{CutsLexemes, NamesAreNames};
 ghost use Rattle.nk_lex.specs.Spans.{
   LinesCount,
@@ -41,4 +42,15 @@ pub fn a_text_of_lexemes_is_cut_into_them()
 /// What a text has as a name is one: a letter or `_`, then letters, digits and `_`, and no keyword.
 pub fn a_name_is_one()
     ensures { NamesAreNames }
+{}
+
+/// The tokens of a text, a line feed and a second text are those of the first, and behind them those of the second, their
+/// lines moved on by the first text's lines and their places by its bytes and one; or the first fault of both.
+pub fn texts_are_joined()
+    ensures { JoinsTexts }
+{}
+
+/// The tokens of lexemes, moved on by lines and places, are those of the lexemes from a later line and place on.
+pub fn lexemes_are_moved()
+    ensures { MovesLexemes }
 {}

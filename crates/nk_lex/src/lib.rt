@@ -18,8 +18,8 @@ pub use bytes::Bytes;
 pub use kind::Kind;
 pub use laws::{
     a_line_is_one_more_than_the_line_feeds_before, a_name_is_one, a_name_is_what_stands_there,
-    a_number_has_the_value_of_its_digits, a_text_of_lexemes_is_cut_into_them, spans_ascend,
-    values_are_small,
+    a_number_has_the_value_of_its_digits, a_text_of_lexemes_is_cut_into_them, lexemes_are_moved,
+    spans_ascend, texts_are_joined, values_are_small,
 };
 pub use lexemes::tokens;
 pub use token::{LARGEST, LexError, Token};

@@ -1,0 +1,91 @@
+-- What is read from tokens of a text with a certificate: its declarations and positions are those of a text.
+use Rattle.std.proofs.Common.{◌≡◌, ◌≤◌, ℕ, subst, List, [], ◌∷◌, ◌++◌, sym, ap, arith}
+use Rattle.std.proofs.lemmas.List.Elements.{All-nil, All-cons, All-tail}
+use Rattle.std.specs.Prelude.{Ok, map, All, ⊤, IsUtf8}
+use Rattle.nk_lex.specs.declared.kind.Kind.{Kind}
+use Rattle.nk_lex.specs.declared.kind.Kind.TheVariants as kind
+use Rattle.nk_lex.specs.declared.token.Token.{Token}
+use Rattle.nk_lex.specs.Lex.{largest}
+use Rattle.nk_grammar.specs.declared.ast.Number.{Number}
+use Rattle.nk_grammar.specs.Terminal.{Terminal, number, opening, colon, outside, certificate_word, row_word, start_word, terminal_from, terminal_of}
+use Rattle.nk_grammar.specs.Grammar.{spell_pol, pol_tree}
+use Rattle.nk_grammar.specs.File.{Declaration, IsWritten, spell_file}
+use Rattle.nk_grammar.specs.Certified.{Row, row, IsWrittenRow, WrittenRow, written_row, spell_numbers, spell_row, spell_rows, value_of, row_of, spell_certificate, certified}
+use Rattle.nk_grammar.specs.CertifiedMachine.{certified_of}
+use Rattle.nk_grammar.specs.Answer.{terminals}
+use Rattle.nk_grammar.specs.CertifiedAnswer.{IsCertifiedAnswer}
+use Rattle.nk_grammar.proofs.CertifiedAnswering.{answers}
+use Rattle.nk_grammar.proofs.Written.{IsText, are_text, written_all}
+
+-- a number is one of a text
+abbrev IsSmall : Terminal → Type 0
+IsSmall (number n) = n.value ≤ largest
+IsSmall t = ⊤
+
+small_from : (k : Kind) (line value : ℕ) (text : List ℕ) → value ≤ largest → IsSmall (terminal_from k line value text)
+small_from kind.Number line value text v = v
+small_from k line value text v = tt
+
+-- the terminals of tokens with such values
+are_small : (ts : List Token) → All (λ t. t.value ≤ largest) ts → All IsSmall (terminals ts)
+are_small [] v = All-nil IsSmall
+are_small (t ∷ ts) v =
+    All-cons IsSmall (terminal_of t) (terminals ts) (small_from t.kind t.line t.value t.text (v 0 t (omega arith)))
+    (are_small ts (All-tail (λ x. x.value ≤ largest) t ts v))
+
+-- what stands in front
+all_before : (P : Terminal → Type 0) (xs ys : List Terminal) → All P (xs ++ ys) → All P xs
+all_before P [] ys h = All-nil P
+all_before P (x ∷ xs) ys h = All-cons P x xs (h 0 opening (omega arith)) (all_before P xs ys (All-tail P x (xs ++ ys) h))
+
+-- what stands behind
+all_after : (P : Terminal → Type 0) (xs ys : List Terminal) → All P (xs ++ ys) → All P ys
+all_after P [] ys h = h
+all_after P (x ∷ xs) ys h = all_after P xs ys (All-tail P x (xs ++ ys) h)
+
+-- numbers that are spelled
+numbers_small : (ns : List Number) → All IsSmall (spell_numbers ns) → All (λ n. n ≤ largest) (map value_of ns)
+numbers_small [] h = All-nil (λ n. n ≤ largest)
+numbers_small (n ∷ ns) h =
+    All-cons (λ n. n ≤ largest) n.value (map value_of ns) (h 0 opening (omega arith))
+    (numbers_small ns (All-tail IsSmall (number n) (spell_numbers ns) h))
+
+-- a row that is spelled
+row_small : (w : WrittenRow) → All IsSmall (spell_row w) → IsWrittenRow (row_of w)
+row_small (written_row line n ns p) h =
+    let numbers : List Terminal = spell_numbers ns ++ colon ∷ spell_pol p in
+    let rest : All IsSmall numbers = All-tail IsSmall (number n) numbers (All-tail IsSmall (outside (row_word line)) (number n ∷ numbers) h) in
+    All-cons (λ n. n ≤ largest) n.value (map value_of ns) (h 1 opening (omega arith))
+    (numbers_small ns (all_before IsSmall (spell_numbers ns) (colon ∷ spell_pol p) rest))
+
+-- rows that are spelled
+rows_small : (ws : List WrittenRow) → All IsSmall (spell_rows ws) → All IsWrittenRow (map row_of ws)
+rows_small [] h = All-nil IsWrittenRow
+rows_small (w ∷ ws) h =
+    All-cons IsWrittenRow (row_of w) (map row_of ws) (row_small w (all_before IsSmall (spell_row w) (spell_rows ws) h))
+    (rows_small ws (all_after IsSmall (spell_row w) (spell_rows ws) h))
+
+-- the declarations that are read
+pub declarations_written : (ts : List Token) (ds : List Declaration) (rs : List Row) → certified_of ts ≡ Ok (certified ds rs)
+    → All (λ t. IsUtf8 t.text) ts → All (λ t. t.value ≤ largest) ts → All IsWritten ds
+declarations_written ts ds rs e u v =
+    let answer : IsCertifiedAnswer ts (Ok (certified ds rs)) = subst (IsCertifiedAnswer ts) e (answers ts) in
+    let h = answer.0 in
+    let behind : List Terminal = outside certificate_word ∷ spell_certificate h.line h.pred h.others in
+    let spelled : All IsText (spell_file h.decls ++ behind) = subst (All IsText) h.tokens (are_text ts u v) in
+    subst (All IsWritten) (sym (ap (λ c. c.declarations) h.value))
+    (written_all h.decls (all_before IsText (spell_file h.decls) behind spelled))
+
+-- the rows that are read
+pub rows_written : (ts : List Token) (ds : List Declaration) (rs : List Row) → certified_of ts ≡ Ok (certified ds rs)
+    → All (λ t. t.value ≤ largest) ts → All IsWrittenRow rs
+rows_written ts ds rs e v =
+    let answer : IsCertifiedAnswer ts (Ok (certified ds rs)) = subst (IsCertifiedAnswer ts) e (answers ts) in
+    let h = answer.0 in
+    let front : List Terminal = outside certificate_word ∷ outside (row_word h.line) ∷ outside start_word ∷ colon ∷ [] in
+    let behind : List Terminal = spell_pol h.pred ++ spell_rows h.others in
+    let spelled : All IsSmall (spell_file h.decls ++ (front ++ behind)) = subst (All IsSmall) h.tokens (are_small ts v) in
+    let certificate : All IsSmall behind = all_after IsSmall front behind (all_after IsSmall (spell_file h.decls) (front ++ behind) spelled) in
+    subst (All IsWrittenRow) (sym (ap (λ c. c.rows) h.value))
+    (All-cons IsWrittenRow (row [] (pol_tree h.pred) h.line) (map row_of h.others) (All-nil (λ n. n ≤ largest))
+    (rows_small h.others (all_after IsSmall (spell_pol h.pred) (spell_rows h.others) certificate)))

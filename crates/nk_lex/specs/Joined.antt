@@ -1,0 +1,52 @@
+-- Two texts with a line feed between them: the tokens of the second stand behind those of the first, on later lines and at
+-- later places.
+use Rattle.std.specs.Prelude.{◌≡◌, ◌+◌, ℕ, List, ◌∷◌, ◌++◌, Ok, Err, map, length}
+use Rattle.std.specs.declared.result.Result.{Result}
+use Rattle.nk_lex.specs.declared.token.Token.{Token}
+use Rattle.nk_lex.specs.declared.token.LexError.{LexError}
+use Rattle.nk_lex.specs.declared.token.LexError.TheVariants as error
+use Rattle.nk_lex.specs.Lex.{tokens_of}
+use Rattle.nk_lex.specs.Spans.{line_feeds}
+use Rattle.nk_lex.specs.Spelling.{Lexeme, tokens_from}
+
+-- a text, a line feed and another text
+abbrev pub joined : List ℕ → List ℕ → List ℕ
+joined a b = a ++ 10 ∷ b
+
+-- a token so many lines and places further on
+abbrev pub token_moved : (lines places : ℕ) → Token → Token
+token_moved lines places t = record {
+  kind = t.kind;
+  start = t.start + places;
+  end = t.end + places;
+  line = t.line + lines;
+  value = t.value;
+  text = t.text;
+}
+
+-- a fault so many lines further on
+abbrev pub fault_moved : ℕ → LexError → LexError
+fault_moved lines error.NoMemory = error.NoMemory
+fault_moved lines (error.BadByte line) = error.BadByte (line + lines)
+fault_moved lines (error.NumberTooLarge line) = error.NumberTooLarge (line + lines)
+
+-- the tokens of a second text, so many lines and places further on, stand behind these; or its fault, on its line
+abbrev pub behind_tokens : List Token → (lines places : ℕ) → Result (List Token) LexError → Result (List Token) LexError
+behind_tokens ts lines places (Ok us) = Ok (ts ++ map (token_moved lines places) us)
+behind_tokens ts lines places (Err e) = Err (fault_moved lines e)
+
+-- the same behind what a first text gives, whose fault is the first of both
+abbrev pub behind : Result (List Token) LexError → (lines places : ℕ) → Result (List Token) LexError
+    → Result (List Token) LexError
+behind (Ok ts) lines places r = behind_tokens ts lines places r
+behind (Err e) lines places r = Err e
+
+-- the second text begins one line below the first one's last line, and one place behind its last byte
+abbrev pub JoinsTexts : Type 0
+JoinsTexts = (a b : List ℕ)
+    → tokens_of (joined a b) ≡ behind (tokens_of a) (line_feeds a + 1) (length a + 1) (tokens_of b)
+
+-- the tokens of lexemes further on are those of the lexemes from a later line and place on
+abbrev pub MovesLexemes : Type 0
+MovesLexemes = (xs : List Lexeme) (line at lines places : ℕ)
+    → map (token_moved lines places) (tokens_from line at xs) ≡ tokens_from (line + lines) (at + places) xs
