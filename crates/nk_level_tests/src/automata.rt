@@ -3,6 +3,7 @@ ghost use Rattle.std.specs.Prelude.{◌≡◌, ◌≤◌, ◌<◌, ◌+◌, ◌^
 ghost use Rattle.nk_policy.specs.Policy.{marked_from, dups_of};
 ghost use Rattle.nk_policy.specs.Tree.{tree_of, trees_of};
 ghost use Rattle.nk_store.specs.Held.{Held, Grows};
+ghost use Rattle.nk_algebra.proofs.Members.{contains_has};
 ghost use Rattle.nk_sets.specs.PacketSets.{IsSet};
 ghost use Rattle.nk_auto.specs.Continued.{IsFit, AreFit};
 ghost use Rattle.nk_determ.specs.Sets.{IsSetOf};
@@ -95,7 +96,7 @@ pub fn rows_of(st: &mut Store, raw: &Pol) -> Result<List<Id>, AllocError>
 }
 
 /// The start alone.
-fn start_set(alloc: Global, ss: &mut Sets) -> Result<SetId, AllocError>
+pub fn start_set(alloc: Global, ss: &mut Sets) -> Result<SetId, AllocError>
     ensures set { IfOk result (λ s. IsSetOf ss.new s (0 ∷ [])) }
 {
     let mut labels = List::new(alloc);
@@ -140,6 +141,8 @@ impl Goal for NothingBad {
     ghost fits_on = { λ g old new fits grows. tt };
 
     ghost bad_on = { λ g old new set pk fits grows places. refl };
+
+    ghost sided = { λ g st set pk o fits whole among. absurd (contains_has [] o among) };
 
     fn bad(&mut self, st: &mut Store, ss: &Sets, s: SetId) -> Result<Id, AllocError> {
         empty(st)

@@ -1,6 +1,6 @@
 //! What is tested, each case over a store and sets of its own.
 use crate::stores::store_of;
-use crate::{compare, ring, sides, stars, tags};
+use crate::{compare, least, ring, sides, stars, tags};
 use nk_determ::Sets;
 use nk_store::Store;
 use nk_tag::NumberError;
@@ -10,8 +10,8 @@ use std::test::Fail;
 /// What is tested.
 #[derive(Clone, Copy)]
 pub enum Case {
-    /// The numbers of two sets of one level.
-    Numbers,
+    /// The numbers of two sets of one level, met at these two values.
+    Numbers(u64, u64),
     /// The numbers of the sets of a ring.
     Ring,
     /// A star of a dup.
@@ -20,6 +20,8 @@ pub enum Case {
     TwoSides,
     /// Two policies of which the right one ends alone.
     OneSide,
+    /// The least history of the left side, or of the right one.
+    Least(bool),
     /// The random policy of a seed.
     Random(u64),
 }
@@ -28,8 +30,9 @@ impl Case {
     /// How many fields are declared, and their largest value.
     fn fields(self) -> (usize, u64) {
         match self {
-            Case::Numbers | Case::Star => (0, 0),
-            Case::Ring => (1, 7),
+            Case::Star => (0, 0),
+            Case::Numbers(_, _) => (1, 1),
+            Case::Ring | Case::Least(_) => (1, 7),
             Case::TwoSides | Case::OneSide => (1, 3),
             Case::Random(_) => (2, 1),
         }
@@ -38,11 +41,12 @@ impl Case {
     /// Whether it is as it should be, in a store over these fields.
     fn holds_in(self, alloc: Global, st: &mut Store, ss: &mut Sets) -> Result<bool, NumberError> {
         match self {
-            Case::Numbers => tags::has_two(alloc, st, ss),
+            Case::Numbers(n, m) => tags::has_two(alloc, st, ss, n, m),
             Case::Ring => ring::has_two(alloc, st, ss),
             Case::Star => Ok(stars::are_met_once(alloc, st, ss)?),
             Case::TwoSides => Ok(sides::end_together(alloc, st, ss)?),
             Case::OneSide => Ok(sides::right_ends_alone(alloc, st, ss)?),
+            Case::Least(right) => Ok(least::is_found(alloc, st, ss, right)?),
             Case::Random(seed) => Ok(compare::agree(alloc, st, ss, seed)?),
         }
     }

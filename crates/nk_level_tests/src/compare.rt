@@ -173,7 +173,7 @@ fn are_levels(
             return Ok(false);
         }
     }
-    Ok(!lv.broken)
+    Ok(!lv.broken())
 }
 
 /// What the runs of a policy from some packets meet.

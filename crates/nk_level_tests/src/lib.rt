@@ -10,6 +10,8 @@ mod compare;
 #[cfg(test)]
 mod draws;
 #[cfg(test)]
+mod least;
+#[cfg(test)]
 mod packets;
 #[cfg(test)]
 mod policies;

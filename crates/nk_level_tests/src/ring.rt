@@ -1,18 +1,18 @@
 //! The numbers of the sets of a ring of two switches.
-ghost use Rattle.std.specs.Prelude.{IfOk};
+ghost use Rattle.std.specs.Prelude.{IfOk, IfSome};
 ghost use Rattle.nk_tag.specs.Numbers.{AreEntries};
 
 use crate::automata::{levels_of, rows_of};
 use crate::cases::{Case, holds};
 use crate::packets::set_of;
 use crate::policies::{either, in_turn, star};
-use crate::reads::{has_labels, is_one_too_many};
-use nk_determ::{SetId, Sets};
-use nk_field::{Fid, List, Packet};
+use crate::tags::are_two;
+use nk_determ::Sets;
+use nk_field::{Fid, Packet};
 use nk_policy::Pol;
 use nk_reach::Levels;
 use nk_store::Store;
-use nk_tag::{NumberError, number};
+use nk_tag::NumberError;
 use std::alloc::{AllocError, Global};
 use std::test::Fail;
 
@@ -43,35 +43,26 @@ fn located(alloc: Global) -> Result<Vec<Packet>, AllocError> {
 }
 
 /// The levels of the ring from the located packets; none unless it has five rows.
-#[tactic(auto, using(nk_sets::proofs::SetLemmas::set_grows, crate::proofs::Entries::no_entries))]
-fn levels_around(alloc: Global, st: &mut Store, ss: &mut Sets) -> Result<Levels, AllocError>
-    ensures entries { IfOk result (λ l. AreEntries ss.new l.levels) }
+#[tactic(auto, using(nk_sets::proofs::SetLemmas::set_grows))]
+fn levels_around(alloc: Global, st: &mut Store, ss: &mut Sets) -> Result<Option<Levels>, AllocError>
+    ensures entries { IfOk result (λ o. IfSome o (λ l. AreEntries ss.new l.levels)) }
 {
     let start = set_of(st, located(alloc)?.as_slice())?;
     let rows = rows_of(st, &around(alloc)?)?;
     if rows.len() != 5 {
-        return Ok(Levels {
-            levels: List::new(alloc),
-            broken: false,
-        });
+        return Ok(None);
     }
-    levels_of(st, ss, rows.as_slice(), start)
-}
-
-/// Whether two sets have numbers: the first one has the label 1 alone, and the second one the label 3.
-fn are_two(ss: &Sets, ids: &[SetId]) -> bool {
-    ids.len() == 2 && has_labels(ss, ids[0], &[1]) && has_labels(ss, ids[1], &[3])
+    let lv = levels_of(st, ss, rows.as_slice(), start)?;
+    Ok(Some(lv))
 }
 
 /// Whether the sets of the ring have these two numbers, and two are more than one. Packets at switch 1 record at the first
 /// link's source, those at switch 2 at the second's: in one level, so the set of the first label is the first one.
 pub fn has_two(alloc: Global, st: &mut Store, ss: &mut Sets) -> Result<bool, NumberError> {
-    let lv = levels_around(alloc, st, ss)?;
-    if lv.broken {
-        return Ok(false);
+    match levels_around(alloc, st, ss)? {
+        Some(lv) => are_two(ss, &lv, 1, 3),
+        None => Ok(false),
     }
-    let ids = number(ss, &lv, 7)?;
-    Ok(are_two(ss, ids.as_slice()) && is_one_too_many(number(ss, &lv, 1)))
 }
 
 /// The sets of a ring have numbers.

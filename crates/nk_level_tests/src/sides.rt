@@ -10,7 +10,7 @@ use crate::policies::{either, in_turn};
 use crate::reads::is_level_of;
 use crate::stores::FIRST;
 use nk_determ::Sets;
-use nk_field::{Fid, List};
+use nk_field::Fid;
 use nk_policy::Pol;
 use nk_reach::{Levels, OneSide};
 use nk_store::{Id, Store};
@@ -46,39 +46,47 @@ fn levels_of_both(
     st: &mut Store,
     ss: &mut Sets,
     n: u64,
-) -> Result<Levels, AllocError> {
+) -> Result<Option<Levels>, AllocError> {
     let all = each(st)?;
     let rows = rows_of(st, &both_sides(alloc, n)?)?;
     if rows.len() != 5 {
-        return Ok(Levels {
-            levels: List::new(alloc),
-            broken: false,
-        });
+        return Ok(None);
     }
-    compared(st, ss, rows.as_slice(), all)
+    let lv = compared(st, ss, rows.as_slice(), all)?;
+    Ok(Some(lv))
+}
+
+/// Whether both sides are met together at each of three levels, the first at exactly the packets of one set and the others
+/// at those of another, and none ends alone.
+fn are_together(ss: &Sets, lv: &Levels, all: Id, one: Id) -> bool {
+    !lv.broken()
+        && lv.levels.len() == 3
+        && is_level_of(ss, lv, 0, &[0], all)
+        && is_level_of(ss, lv, 1, &[1, 3], one)
+        && is_level_of(ss, lv, 2, &[2, 4], one)
 }
 
 /// Whether both sides are met together at each level, behind the first record at exactly the packets with `dst` 1, and none
 /// ends alone.
 pub fn end_together(alloc: Global, st: &mut Store, ss: &mut Sets) -> Result<bool, AllocError> {
-    let lv = levels_of_both(alloc, st, ss, 1)?;
+    let found = levels_of_both(alloc, st, ss, 1)?;
     let all = each(st)?;
     let one = narrowed(st, all, Fid::new(FIRST), 1)?;
-    Ok(
-        !lv.broken
-            && lv.levels.len() == 3
-            && is_level_of(ss, &lv, 0, &[0], all)
-            && is_level_of(ss, &lv, 1, &[1, 3], one)
-            && is_level_of(ss, &lv, 2, &[2, 4], one),
-    )
+    match found {
+        Some(lv) => Ok(are_together(ss, &lv, all, one)),
+        None => Ok(false),
+    }
 }
 
 /// Whether the right side is met alone at the last level, at exactly the packets with `dst` 1, and ends there.
 pub fn right_ends_alone(alloc: Global, st: &mut Store, ss: &mut Sets) -> Result<bool, AllocError> {
-    let lv = levels_of_both(alloc, st, ss, 2)?;
+    let found = levels_of_both(alloc, st, ss, 2)?;
     let all = each(st)?;
     let one = narrowed(st, all, Fid::new(FIRST), 1)?;
-    Ok(lv.broken && lv.levels.len() == 3 && is_level_of(ss, &lv, 2, &[4], one))
+    match found {
+        Some(lv) => Ok(lv.broken() && lv.levels.len() == 3 && is_level_of(ss, &lv, 2, &[4], one)),
+        None => Ok(false),
+    }
 }
 
 /// Behind the first record both sides are met together, and they end together.

@@ -6,10 +6,9 @@ use crate::packets::each;
 use crate::policies::{in_turn, star};
 use crate::reads::is_level_of;
 use nk_determ::Sets;
-use nk_field::List;
 use nk_policy::Pol;
 use nk_reach::Levels;
-use nk_store::Store;
+use nk_store::{Id, Store};
 use std::alloc::{AllocError, Global};
 use std::test::Fail;
 
@@ -21,29 +20,37 @@ fn dups_on(alloc: Global) -> Result<Pol, AllocError> {
 
 /// The levels of the policy from its start at each packet; none unless it has three rows.
 #[tactic(auto, using(nk_sets::proofs::SetLemmas::set_grows))]
-fn levels_of_dups(alloc: Global, st: &mut Store, ss: &mut Sets) -> Result<Levels, AllocError> {
+fn levels_of_dups(
+    alloc: Global,
+    st: &mut Store,
+    ss: &mut Sets,
+) -> Result<Option<Levels>, AllocError> {
     let all = each(st)?;
     let rows = rows_of(st, &dups_on(alloc)?)?;
     if rows.len() != 3 {
-        return Ok(Levels {
-            levels: List::new(alloc),
-            broken: false,
-        });
+        return Ok(None);
     }
-    levels_of(st, ss, rows.as_slice(), all)
+    let lv = levels_of(st, ss, rows.as_slice(), all)?;
+    Ok(Some(lv))
+}
+
+/// Whether there are three levels, none broken, and each has one dup at exactly these packets.
+fn are_three(ss: &Sets, lv: &Levels, all: Id) -> bool {
+    !lv.broken()
+        && lv.levels.len() == 3
+        && is_level_of(ss, lv, 0, &[0], all)
+        && is_level_of(ss, lv, 1, &[1], all)
+        && is_level_of(ss, lv, 2, &[2], all)
 }
 
 /// Whether each level has one dup at each packet.
 pub fn are_met_once(alloc: Global, st: &mut Store, ss: &mut Sets) -> Result<bool, AllocError> {
-    let lv = levels_of_dups(alloc, st, ss)?;
+    let found = levels_of_dups(alloc, st, ss)?;
     let all = each(st)?;
-    Ok(
-        !lv.broken
-            && lv.levels.len() == 3
-            && is_level_of(ss, &lv, 0, &[0], all)
-            && is_level_of(ss, &lv, 1, &[1], all)
-            && is_level_of(ss, &lv, 2, &[2], all),
-    )
+    match found {
+        Some(lv) => Ok(are_three(ss, &lv, all)),
+        None => Ok(false),
+    }
 }
 
 /// Each packet is met at the start, behind the first dup and behind the second. The second is met again by each further

@@ -5,3 +5,5 @@ pub mod Goals
 pub mod Outs
 pub mod Rounds
 pub mod Sides
+pub mod Local
+pub mod Breaks

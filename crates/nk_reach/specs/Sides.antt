@@ -1,9 +1,9 @@
 -- What one of two sides alone ends at. Each label has a diagram of marked ends: an out has target 1 where the left side
 -- ends and 2 where the right side does, and its act assigns exactly the fields that it changes, so that equal packets come
 -- of equal acts.
-use Rattle.std.specs.Prelude.{◌≡◌, ℕ, ◌<◌, ◌⊎◌, ◌↔◌, nat_lt, eqb, cond, List, [], ◌∷◌, Some, length, slice_index, Contains}
+use Rattle.std.specs.Prelude.{◌≡◌, ℕ, ◌<◌, ◌⊎◌, ◌↔◌, Bool, true, false, nat_lt, eqb, cond, List, [], ◌∷◌, Some, length, slice_index, Contains}
 use Rattle.std.specs.List.{list_any}
-use Rattle.std.proofs.Common.{refl, ap, ◌∙◌}
+use Rattle.std.proofs.Common.{inl, inr, refl, sym, ap, ◌∙◌}
 use Rattle.std.proofs.lemmas.List.Elements.{All-head, All-tail}
 use Rattle.nk_field.specs.Act.{applied}
 use Rattle.nk_store.specs.declared.node.Out.{Out}
@@ -11,6 +11,7 @@ use Rattle.nk_store.specs.contracts.node.OutPartialEq.TheImpl.{ghosts}
 use Rattle.nk_store.specs.Held.{Held, look, Grows, HasLeaves}
 use Rattle.nk_algebra.specs.Leaves.{merged, gathered}
 use Rattle.nk_algebra.specs.Unions.{AreIds}
+use Rattle.nk_algebra.proofs.Members.{Has, contains_has, has_gathered}
 use Rattle.nk_determ.specs.Exact.{split_leaf, Sends}
 use Rattle.nk_determ.specs.Targets.{retargeted}
 use Rattle.nk_reach.specs.Pairs.{HavePlaces}
@@ -26,6 +27,25 @@ alone_out outs o = cond (list_any (λ p. ghosts.eq p (twin o)) outs) [] (record 
 -- the ends that one side alone has
 abbrev pub alone : List Out → List Out
 alone outs = gathered (alone_out outs) outs
+
+-- such an end has target 0 or 1
+end_sided : (outs : List Out) (p o : Out) → Has (alone_out outs p) o → (o.target ≡ 0) ⊎ (o.target ≡ 1)
+end_sided outs p o h = kept (list_any (λ q. ghosts.eq q (twin p)) outs) h
+  where
+    marks : (b : Bool) (t : ℕ) → t ≡ cond b 0 1 → (t ≡ 0) ⊎ (t ≡ 1)
+    marks true t e = inl e
+    marks false t e = inr e
+
+    kept : (b : Bool) → Has (cond b [] (record { act = p.act; target = cond (eqb p.target 1) 0 1 } ∷ [])) o → (o.target ≡ 0) ⊎ (o.target ≡ 1)
+    kept true k = absurd k
+    kept false (inl e) = marks (eqb p.target 1) o.target (sym (ap (λ (x : Out). x.target) e))
+    kept false (inr k) = absurd k
+
+-- and so has each of those that one side alone has
+pub alone_sided : (outs : List Out) (o : Out) → Contains (alone outs) o → (o.target ≡ 0) ⊎ (o.target ≡ 1)
+alone_sided outs o c =
+    let r = has_gathered (alone_out outs) outs o (contains_has (alone outs) o c) in
+    end_sided outs r.0 o r.2
 
 -- the marked ends of a set of labels
 abbrev pub ends_of : Held → List ℕ → List ℕ → List ℕ → List Out

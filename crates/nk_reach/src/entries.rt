@@ -15,14 +15,14 @@ use nk_store::{Id, Store};
 use std::alloc::{AllocError, Global};
 
 /// The packets under a set.
-fn under(pairs: &IndexMap<SetId, Id>, t: SetId) -> Option<Id>
+pub fn under(pairs: &IndexMap<SetId, Id>, t: SetId) -> Option<Id>
     ensures { result ≡ lookup (eqb t) pairs.now.entries }
 {
     pairs.get(&t).copied()
 }
 
-/// More packets under a set.
-pub(crate) fn add(
+/// More packets under a set. The only error is that memory ran out.
+pub fn add(
     st: &mut Store,
     pairs: &mut IndexMap<SetId, Id>,
     t: SetId,
@@ -78,8 +78,8 @@ pub(crate) fn unmet(
     }
 }
 
-/// The packets met, with those of one level more.
-pub(crate) fn merge(
+/// The packets met, with those of one level more. The only error is that memory ran out.
+pub fn merge(
     st: &mut Store,
     met: &mut IndexMap<SetId, Id>,
     level: &List<(SetId, Id)>,

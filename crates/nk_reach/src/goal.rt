@@ -1,7 +1,7 @@
 //! What ends the levels.
-ghost use Rattle.std.specs.Prelude.{◌≡◌, ℕ, ◌<◌, [], IfOk, OnOk, true, false, length, slice_index_or, List as Items};
+ghost use Rattle.std.specs.Prelude.{◌≡◌, ◌⊎◌, ℕ, ◌<◌, [], IfOk, OnOk, true, false, length, slice_index_or, Contains, List as Items};
 ghost use Rattle.nk_store.specs.declared.node.Out.{Out};
-ghost use Rattle.nk_store.specs.Held.{Held, Grows, HasLeaves};
+ghost use Rattle.nk_store.specs.Held.{Held, IsWhole, Grows, HasLeaves};
 ghost use Rattle.nk_sets.specs.PacketSets.{IsSet};
 ghost use Rattle.nk_reach.specs.Pairs.{HavePlaces, ArePairs};
 ghost use Rattle.nk_reach.specs.Goals.{MeetsBad, MeetsNone, PairBad, PairNone};
@@ -13,7 +13,8 @@ use nk_store::{Id, Store};
 use std::alloc::AllocError;
 
 /// Finals of a set state that must not be: for each set of labels and each packet some outs, which are decided by the
-/// members of the set alone.
+/// members of the set alone. The target of each is 0 where there is one side or it is the left side's, and 1 where it is the
+/// right side's.
 pub trait Goal {
     /// The goal is for this store; it stays so while the store grows.
     ghost fits: { Self → Held → Type 0 };
@@ -39,10 +40,13 @@ pub trait Goal {
 
     ghost bad_on: { (g : Self) (old new : Held) (set pk : Items ℕ) → fits g old → Grows old new →
         HavePlaces (labels g) set → bad_of g new set pk ≡ bad_of g old set pk };
+
+    ghost sided: { (g : Self) (st : Held) (set pk : Items ℕ) (o : Out) → fits g st → IsWhole pk →
+        Contains (bad_of g st set pk) o → (o.target ≡ 0) ⊎ (o.target ≡ 1) };
 }
 
-/// Whether a level has a bad final.
-pub(crate) fn any_bad<G: Goal>(
+/// Whether a level has a bad final. The only error is that memory ran out.
+pub fn any_bad<G: Goal>(
     st: &mut Store,
     ss: &Sets,
     level: &List<(SetId, Id)>,

@@ -14,8 +14,9 @@ use nk_sets::is_empty;
 use nk_store::{Id, Store};
 use std::alloc::AllocError;
 
-/// What the last level leads to and was not met.
-pub(crate) fn next_level(
+/// What the last level leads to and was not met. The spare diagrams are as many as the rows and are written over. The only
+/// error is that memory ran out.
+pub fn next_level(
     st: &mut Store,
     ss: &mut Sets,
     rows: &[Id],

@@ -5,7 +5,7 @@ ghost use Rattle.nk_store.specs.Held.{IsId, IsPacket, Grows, HasLeaves};
 ghost use Rattle.nk_algebra.specs.Unions.{AreIds};
 ghost use Rattle.nk_algebra.specs.Leaves.{merged};
 ghost use Rattle.nk_reach.specs.Pairs.{HavePlaces};
-ghost use Rattle.nk_reach.specs.Sides.{alone_out, alone, ends_of, ends_same, twin, marked, mark_of, AreMarked, AreOneSided};
+ghost use Rattle.nk_reach.specs.Sides.{alone_out, alone, ends_of, ends_same, alone_sided, twin, marked, mark_of, AreMarked, AreOneSided};
 
 use crate::goal::Goal;
 use nk_algebra::{LeafMap, map_leaves, union, union_all};
@@ -32,6 +32,8 @@ impl Goal for OneSide {
     ghost fits_on = { λ g old new fits grows i l. grows.ids (slice_index g.ends i) (fits i l) };
 
     ghost bad_on = { λ g old new set pk fits grows places. ap alone (ends_same old new g.ends set pk grows fits places) };
+
+    ghost sided = { λ g st set pk o fits whole among. alone_sided (ends_of st g.ends set pk) o among };
 
     fn bad(&mut self, st: &mut Store, ss: &Sets, s: SetId) -> Result<Id, AllocError> {
         let ds = ends_at(st.alloc(), self.ends.as_slice(), ss.members(s))?;
