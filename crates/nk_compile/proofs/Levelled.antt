@@ -1,22 +1,22 @@
 -- What the levels say of the policy: whether all its histories end at edge ports, and which its tag sets are.
-use Rattle.std.proofs.Common.{◌≡◌, ℕ, zero, suc, ◌+◌, ◌*◌, ◌<◌, ◌≤◌, ◌↔◌, inl, inr, Bool, true, false, List, [], ◌∷◌, length, get_or, refl, sym, ap, subst, ◌∙◌, arith, Some}
-use Rattle.std.specs.Prelude.{All, IsTrue, not, map, slice_index}
+use Rattle.std.proofs.Common.{◌≡◌, ℕ, zero, suc, ◌+◌, ◌*◌, ◌<◌, ◌≤◌, ◌↔◌, inl, inr, Bool, true, false, List, [], ◌∷◌, length, get_or, refl, sym, ap, subst, ◌∙◌, arith}
+use Rattle.std.specs.Prelude.{All, IsTrue, not, slice_index}
 use Rattle.std.proofs.lemmas.List.{length-map}
 use Rattle.std.proofs.lemmas.Bool.Decides.{leb_tells}
 use Rattle.nk_field.proofs.Lists.{In, contains_from_in}
 use Rattle.nk_field.specs.Packet.{FieldTable}
 use Rattle.nk_field.specs.declared.packet.Packet.{Packet}
+use Rattle.nk_field.specs.Order.{Found, IsLeast}
 use Rattle.nk_field.proofs.Ascending.{all_from_members}
 use Rattle.nk_topo.specs.Topology.{Topology, is_edge}
-use Rattle.nk_policy.specs.Policy.{Policy, marked_from}
+use Rattle.nk_policy.specs.Policy.{Policy}
 use Rattle.nk_policy.specs.Meaning.{Gives}
 use Rattle.nk_policy.specs.Distinct.{HasDistinct}
-use Rattle.nk_policy.specs.Labels.{IsLabelSet, IsTagSet, AtMost, AtLeast}
+use Rattle.nk_policy.specs.Labels.{IsTagSet, AtMost, AtLeast}
 use Rattle.nk_policy.specs.Tags.{AreTags, IsShortest, IsTagBefore}
 use Rattle.nk_policy.proofs.Numbering.{numbered_distinct}
 use Rattle.nk_names.specs.Accepted.{IsStart, most_tags}
 use Rattle.nk_store.specs.declared.node.Out.{Out}
-use Rattle.nk_store.specs.Nodes.{InRange}
 use Rattle.nk_store.specs.Held.{Held, Grows, IsOver, HasFields, IsPacket}
 use Rattle.nk_store.proofs.Stores.{grows_on}
 use Rattle.nk_store.proofs.InRange.{packet_in_range, over_grown}
@@ -25,14 +25,17 @@ use Rattle.nk_table.specs.declared.Table.{Table}
 use Rattle.nk_table.specs.declared.Tables.{Tables}
 use Rattle.nk_auto.specs.Automaton.{IsAutomaton}
 use Rattle.nk_tag.specs.Numbers.{IsAtOdd, AreEntries, AreNumbers}
-use Rattle.nk_runs.specs.Labels.{IsAmong, members}
+use Rattle.nk_runs.specs.Labels.{IsAmong}
 use Rattle.nk_reach.specs.Levels.{AreLevels}
 use Rattle.nk_reach.specs.Pairs.{EachPair, IsPair, Named}
+use Rattle.nk_reach.specs.Breaks.{Breaks}
 use Rattle.nk_runs.proofs.Stands.{stands}
-use Rattle.nk_runs.proofs.Ends.{none_ends, some_ends}
+use Rattle.nk_runs.proofs.Ends.{none_ends}
+use Rattle.nk_runs.proofs.Breaking.{is_alert, breaks_given}
 use Rattle.nk_runs.proofs.TagSets.{are_tags, many_tags}
 use Rattle.nk_compile.specs.Edges.{is_start, is_no_edge}
-use Rattle.nk_compile.specs.Levelled.{IsLevelled}
+use Rattle.nk_compile.specs.Levelled.{IsLevelled, IsLeastOff}
+use Rattle.nk_compile.specs.PacketSets.{IsSetOf}
 use Rattle.nk_compile.specs.OffEdge.{EndsOffEdge}
 use Rattle.nk_compile.specs.Ready.{sets_of, IsClear, IsReady}
 use Rattle.nk_compile.specs.Answers.{AreMade}
@@ -67,44 +70,72 @@ holds_unless : (b : Bool) → (not b ≡ true → ⊥) → b ≡ true
 holds_unless true h = refl
 holds_unless false h = absurd (h refl)
 
+-- a test that doesn't hold fails
+fails_unless : (b : Bool) → (IsTrue b → ⊥) → not b ≡ true
+fails_unless true h = absurd (h refl)
+fails_unless false h = refl
+
+module _ (fields : FieldTable) (topo : Topology) (tag : ℕ) (p : Policy) (old first : Held) (start : ℕ) (clear : IsClear fields topo tag p) (over : IsOver fields old) (grew : Grows old first)
+    (start_is : IsSetOf first start (is_start topo tag)) where
+  setup : IsSetUp fields first.maxes tag
+  setup = set_up fields first tag clear.table (over_grown fields old first over grew) clear.tag_is
+
+  -- the packets of the set are those that start
+  pub among_is : (pk : Packet) → IsAmong first start pk → IsStart fields topo pk
+  among_is pk h = start_of fields topo tag first.maxes setup pk h.0 (sym (start_is.at pk h.0) ∙ h.1)
+
+  pub is_among : (pk : Packet) → IsStart fields topo pk → IsAmong first start pk
+  is_among pk h =
+      let r : IsPacket first pk = packet_in_range fields first pk (over_grown fields old first over grew) h.packet in
+      (r, start_is.at pk r ∙ test_of fields topo tag first.maxes setup pk h)
+
+module _ (fields : FieldTable) (topo : Topology) (tag : ℕ) (p : Policy) (old : Held) (rows : List ℕ) (clear : IsClear fields topo tag p) (over : IsOver fields old) (auto : IsAutomaton old rows 1 p) (f : Found)
+    (k : IsLeastOff topo tag old rows f) where
+  -- what breaks the goal is a history off each edge port, and the other way round
+  breaks : (g : Found) → Breaks k.first rows (0 ∷ []) k.start k.bad g ↔ (IsAmong k.first k.start g.start × Gives p g.start g.records g.last × (is_no_edge topo g.last ≡ true))
+  breaks g =
+      breaks_given k.first rows (λ y. is_no_edge topo y ≡ true) k.bad k.wrong k.start p (stands old k.first rows 1 p auto k.grew) (numbered_distinct p 1 clear.numbered) k.tidy g
+
+  off_of : (g : Found) → Breaks k.first rows (0 ∷ []) k.start k.bad g → EndsOffEdge fields topo p g
+  off_of g b =
+      let h = (breaks g).0 b in
+      record {
+        starts = among_is fields topo tag p old k.first k.start clear over k.grew k.start_is g.start h.0;
+        gives = h.1;
+        off = not_both (is_edge topo (slice_index g.last 0) (slice_index g.last 1)) h.2;
+      }
+
+  of_off : (g : Found) → EndsOffEdge fields topo p g → Breaks k.first rows (0 ∷ []) k.start k.bad g
+  of_off g e =
+      (breaks g).1 (
+        is_among fields topo tag p old k.first k.start clear over k.grew k.start_is g.start e.starts,
+        e.gives,
+        fails_unless (is_edge topo (slice_index g.last 0) (slice_index g.last 1)) e.off,
+      )
+
+  -- so the least is the least
+  pub least_off : IsLeast (EndsOffEdge fields topo p) f
+  least_off = (off_of f k.least.0, λ g e. k.least.1 g (of_off g e))
+
 module _ (fields : FieldTable) (topo : Topology) (tag : ℕ) (p : Policy) (old : Held) (rows : List ℕ) (new : Held) (ss : List (List ℕ)) (ls : List (List (ℕ × ℕ))) (broken : Bool)
     (clear : IsClear fields topo tag p) (over : IsOver fields old) (auto : IsAutomaton old rows 1 p) (lv : IsLevelled topo tag old rows new ss ls broken) where
-  setup : IsSetUp fields lv.first.maxes tag
-  setup = set_up fields lv.first tag clear.table (over_grown fields old lv.first over lv.grew) clear.tag_is
-
   -- the automaton in the store where the levels began
   pub auto_then : IsAutomaton lv.first rows 1 p
   auto_then = stands old lv.first rows 1 p auto lv.grew
 
   -- the packets of the first level are those that start
   pub among_start : (pk : Packet) → IsAmong lv.first lv.start pk → IsStart fields topo pk
-  among_start pk h = start_of fields topo tag lv.first.maxes setup pk h.0 (sym (lv.start_is.at pk h.0) ∙ h.1)
+  among_start = among_is fields topo tag p old lv.first lv.start clear over lv.grew lv.start_is
 
   pub start_among : (pk : Packet) → IsStart fields topo pk → IsAmong lv.first lv.start pk
-  start_among pk h =
-      let r : IsPacket lv.first pk = packet_in_range fields lv.first pk (over_grown fields old lv.first over lv.grew) h.packet in
-      (r, lv.start_is.at pk r ∙ test_of fields topo tag lv.first.maxes setup pk h)
-
-  -- broken levels have a history that ends off each edge port
-  pub off_edge : broken ≡ true → EndsOffEdge fields topo p
-  off_edge e =
-      let w = some_ends lv.first new ss rows lv.set lv.start lv.bad ls p (λ y. is_no_edge topo y ≡ true) auto_then (numbered_distinct p 1 clear.numbered) lv.tidy lv.set_is lv.right
-      (subst (AreLevels lv.first new ss rows lv.set lv.start lv.bad ls) e lv.are) in
-      record {
-        start = w.0;
-        records = w.1;
-        last = w.2;
-        starts = among_start w.0 w.3;
-        gives = w.4;
-        off = not_both (is_edge topo (slice_index w.2 0) (slice_index w.2 1)) w.5;
-      }
+  start_among = is_among fields topo tag p old lv.first lv.start clear over lv.grew lv.start_is
 
   -- where they are not, all histories end at edge ports
   pub all_end : broken ≡ false → (pk : Packet) (w : List Packet) (last : Packet) → IsStart fields topo pk → Gives p pk w last →
       IsTrue (is_edge topo (slice_index last 0) (slice_index last 1))
   all_end e pk w last start gives =
       holds_unless (is_edge topo (slice_index last 0) (slice_index last 1)) (λ off.
-      none_ends lv.first new ss rows lv.set lv.start lv.bad ls p (λ y. is_no_edge topo y ≡ true) auto_then (numbered_distinct p 1 clear.numbered) lv.tidy lv.set_is lv.alert
+      none_ends lv.first new ss rows lv.set lv.start lv.bad ls p (λ y. is_no_edge topo y ≡ true) auto_then (numbered_distinct p 1 clear.numbered) lv.tidy lv.set_is (is_alert lv.first rows (λ y. is_no_edge topo y ≡ true) lv.bad lv.wrong)
       (subst (AreLevels lv.first new ss rows lv.set lv.start lv.bad ls) e lv.are)
       (pk, w, last, start_among pk start, gives, off))
 

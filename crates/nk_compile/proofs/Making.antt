@@ -1,21 +1,20 @@
 -- From what is seen of a policy, its levels and its tag sets to its tables or the reason of a refusal.
-use Rattle.std.proofs.Common.{◌≡◌, ℕ, ◌+◌, ◌≤◌, Bool, true, false, List, [], length, refl, sym, ap, subst, ◌∙◌, Some, None}
-use Rattle.std.specs.Prelude.{Option, Result, Ok, Err, IfErr, IsErrAnd, if◌then◌else◌, slice_index, All, map}
+use Rattle.std.proofs.Common.{◌≡◌, ℕ, ◌+◌, Bool, true, false, List, refl, sym, ap, subst, ◌∙◌, Some, None}
+use Rattle.std.specs.Prelude.{Option, Result, Ok, Err, IfErr, IsErrAnd, if◌then◌else◌, slice_index}
+use Rattle.nk_field.specs.Order.{Found, IsLeast}
 use Rattle.nk_field.specs.Packet.{FieldTable, IsFieldTable}
 use Rattle.nk_topo.specs.Topology.{Topology, IsTopology}
 use Rattle.nk_policy.specs.Policy.{Policy, marked_from}
 use Rattle.nk_policy.specs.Leaves.{has_leaf, is_on_field, is_dup, is_switch_assignment}
 use Rattle.nk_policy.specs.Labels.{IsTagSet, AtLeast}
 use Rattle.nk_names.specs.Accepted.{IsStart, IsCompilable, is_link_outside, most_tags}
-use Rattle.nk_table.specs.declared.Table.{Table}
-use Rattle.nk_table.specs.declared.Tables.{Tables}
+use Rattle.nk_store.specs.Held.{Held}
 use Rattle.nk_tag.specs.Numbers.{IsAtOdd}
-use Rattle.nk_compile.specs.Refusals.{seen_with, seen_for, seen, IsReason}
-use Rattle.nk_compile.specs.Answers.{AreMade, IsError}
-use Rattle.nk_compile.specs.Levelled.{IsTagFault}
+use Rattle.nk_compile.specs.Refusals.{seen_with, seen_for, seen, found_from, IsReason}
+use Rattle.nk_compile.specs.Answers.{IsError}
+use Rattle.nk_compile.specs.Levelled.{IsLeastOff, IsOffFault, IsTagFault}
 use Rattle.nk_compile.specs.OffEdge.{EndsOffEdge, EndsOnEdges}
 use Rattle.nk_compile.specs.Ready.{IsClear}
-use Rattle.nk_compile.specs.WholeTable.{IsTableOf}
 use Rattle.nk_compile.specs.declared.refusal.Refusal.{Refusal}
 use Rattle.nk_compile.specs.declared.refusal.Refusal.TheVariants.{NoPolicy, NoTag, TagUsed, LooseDup, SwitchSet, NoSuchLink, OffEdge, TooManyTags}
 use Rattle.nk_compile.specs.declared.refusal.CompileError.{CompileError}
@@ -59,7 +58,7 @@ all_fail false false false false h = (refl, refl, refl, refl)
 abbrev IsSeen : Refusal → Type 0
 IsSeen NoPolicy = ⊥
 IsSeen NoTag = ⊥
-IsSeen OffEdge = ⊥
+IsSeen (OffEdge start history) = ⊥
 IsSeen (TooManyTags found) = ⊥
 IsSeen r = Unit {0}
 
@@ -106,9 +105,18 @@ module _ (fields : FieldTable) (topo : Topology) (tag : ℕ) (p : Policy) (is : 
   none_seen : seen fields topo p ≡ None
   none_seen = ap (λ o. seen_for o topo p) is ∙ none
 
-  -- a history off each edge port is a reason
-  pub off_error : EndsOffEdge fields topo p → IsError fields topo p (Refused OffEdge)
-  off_error off = (none_seen, off)
+  -- the least history off each edge port is a reason
+  pub off_error : (old : Held) (rows : List ℕ) (e : CompileError) → ((f : Found) → IsLeastOff topo tag old rows f → IsLeast (EndsOffEdge fields topo p) f) →
+      IsOffFault topo tag old rows e → IsError fields topo p e
+  off_error old rows NoMemory to h = tt
+  off_error old rows (Refused (OffEdge start history)) to h = (none_seen, to (found_from start history) h)
+  off_error old rows (Refused NoPolicy) to h = absurd h
+  off_error old rows (Refused NoTag) to h = absurd h
+  off_error old rows (Refused TagUsed) to h = absurd h
+  off_error old rows (Refused LooseDup) to h = absurd h
+  off_error old rows (Refused SwitchSet) to h = absurd h
+  off_error old rows (Refused NoSuchLink) to h = absurd h
+  off_error old rows (Refused (TooManyTags found)) to h = absurd h
 
   -- so are too many sets
   pub many_error : (levels : List (List (ℕ × ℕ))) (max : ℕ) (e : CompileError) → EndsOnEdges fields topo p → max ≡ slice_index fields.maxima tag →
@@ -122,7 +130,7 @@ module _ (fields : FieldTable) (topo : Topology) (tag : ℕ) (p : Policy) (is : 
   many_error levels max (Refused LooseDup) ends most to h = absurd h
   many_error levels max (Refused SwitchSet) ends most to h = absurd h
   many_error levels max (Refused NoSuchLink) ends most to h = absurd h
-  many_error levels max (Refused OffEdge) ends most to h = absurd h
+  many_error levels max (Refused (OffEdge start history)) ends most to h = absurd h
 
 -- what is seen is the reason
 pub seen_reason : (fields : FieldTable) (topo : Topology) (p : Policy) (tag : ℕ) (r : Refusal) → fields.tag ≡ Some tag →
@@ -136,5 +144,5 @@ seen_reason fields topo p tag r is h = reason r (ap (λ o. seen_for o topo p) is
     reason LooseDup s w = s
     reason SwitchSet s w = s
     reason NoSuchLink s w = s
-    reason OffEdge s w = absurd w
+    reason (OffEdge start history) s w = absurd w
     reason (TooManyTags found) s w = absurd w

@@ -1,5 +1,5 @@
 -- From the answer for a policy to that for its name.
-use Rattle.std.proofs.Common.{◌≡◌, ℕ, zero, suc, ◌+◌, ◌*◌, ◌<◌, ◌≤◌, List, [], ◌∷◌, get_or, subst, arith, Some}
+use Rattle.std.proofs.Common.{◌≡◌, ℕ, zero, suc, ◌+◌, ◌<◌, ◌≤◌, List, [], ◌∷◌, get_or, subst, arith, Some}
 use Rattle.std.specs.Prelude.{Result, Ok, Err, IfOk, IfErr, All}
 use Rattle.nk_field.specs.Packet.{FieldTable}
 use Rattle.nk_names.proofs.Good.{few_dups}
@@ -37,7 +37,7 @@ reason_named program name p named TagUsed e = (p, named, e)
 reason_named program name p named LooseDup e = (p, named, e)
 reason_named program name p named SwitchSet e = (p, named, e)
 reason_named program name p named NoSuchLink e = (p, named, e)
-reason_named program name p named OffEdge e = (p, named, e)
+reason_named program name p named (OffEdge start history) e = (p, named, e)
 reason_named program name p named (TooManyTags found) e = (p, named, e)
 
 -- the answer for the policy is that for its name

@@ -1,45 +1,39 @@
 -- The tables that are made of an automaton's rows are the printed ones: where the rows of a tag lead with a tag is a result
 -- of that tag's states.
-use Rattle.std.proofs.Common.{◌≡◌, ◌≢◌, ℕ, zero, suc, ◌+◌, ◌<◌, ◌≤◌, ◌↔◌, true, false, ⊎_elim, inl, inr, Option, Some, None, List, [], ◌∷◌, length, get_or, take, refl, sym, ap, subst, ◌∙◌, arith}
-use Rattle.std.specs.Prelude.{All, map, Contains, slice_get, slice_index}
+use Rattle.std.proofs.Common.{◌≡◌, ℕ, zero, suc, ◌+◌, ◌<◌, ◌≤◌, ◌↔◌, true, ⊎_elim, inl, inr, Some, List, [], ◌∷◌, length, get_or, take, refl, sym, ap, subst, ◌∙◌, arith}
+use Rattle.std.specs.Prelude.{All, map, Contains, slice_get}
 use Rattle.std.specs.List.Sorted.{IsStrictlyIncreasing}
-use Rattle.nk_field.specs.Packet.{FieldTable, IsFieldTable, IsPacket}
+use Rattle.nk_field.specs.Packet.{FieldTable}
 use Rattle.nk_field.specs.declared.packet.Packet.{Packet}
 use Rattle.nk_field.proofs.Lists.{In, in_from_contains, contains_from_in, from_mapped, in_mapped}
 use Rattle.nk_field.proofs.Ascending.{all_from_members, members_from_all}
 use Rattle.nk_topo.specs.Topology.{Topology}
-use Rattle.nk_policy.specs.Policy.{Policy, marked_from, dups_of}
+use Rattle.nk_policy.specs.Policy.{Policy}
 use Rattle.nk_policy.specs.Meaning.{Gives}
 use Rattle.nk_policy.specs.Progress.{RecordsAt}
 use Rattle.nk_policy.specs.After.{after, has_dup}
 use Rattle.nk_policy.specs.PositionSets.{at_position}
 use Rattle.nk_policy.specs.Distinct.{HasDistinct}
-use Rattle.nk_policy.specs.Labels.{HasExactly, IsTagSet, IsLabelSet, IsAt}
-use Rattle.nk_policy.specs.Tags.{AreTags}
-use Rattle.nk_policy.specs.Literals.{Literal, HoldsLiteral}
 use Rattle.nk_policy.proofs.Numbering.{number_within, numbered_distinct}
 use Rattle.nk_policy.proofs.DupsOfRuns.{rest_dups}
 use Rattle.nk_policy.proofs.Splitting.{holds_dup}
 use Rattle.nk_policy.proofs.LinkStructure.{holds_second}
-use Rattle.nk_names.specs.Accepted.{IsStart}
-use Rattle.nk_store.specs.Nodes.{InRange}
 use Rattle.nk_store.specs.Diagram.{IsReduced, leaf_at}
-use Rattle.nk_store.specs.Held.{Held, IsOver, IsPacket as IsPacketOf}
-use Rattle.nk_store.proofs.InRange.{packet_in_range, packet_of_fields}
+use Rattle.nk_store.specs.Held.{Held, IsPacket as IsPacketOf}
+use Rattle.nk_store.proofs.InRange.{packet_in_range}
 use Rattle.nk_determ.specs.States.{RowLeads}
-use Rattle.nk_auto.specs.Automaton.{IsState as IsRow, IsAutomaton}
 use Rattle.nk_extract.specs.Buckets.{AreBuckets}
 use Rattle.nk_group.specs.Groups.{groups_of, rows_after}
 use Rattle.nk_table.specs.declared.Table.{Table}
 use Rattle.nk_switches.specs.declared.stop.Stop.{Stop}
 use Rattle.nk_switches.specs.Tagged.{set_of, members_of, LeadsWith}
-use Rattle.nk_switches.specs.Made.{TagTree, rows_of_trees, IsTagTree, IsTableAt, IsTagAt, IsStop}
-use Rattle.nk_compile.specs.PrintedTable.{IsState, StateRecords, IsResult, IsBucketList, IsTreeOf}
-use Rattle.nk_compile.specs.WholeTable.{HasRowsAt, IsSwitchTable, link_end}
+use Rattle.nk_switches.specs.Made.{TagTree, rows_of_trees, IsTagTree, IsTableAt, IsTagAt}
+use Rattle.nk_compile.specs.PrintedTable.{IsState, StateRecords, IsResult, IsTreeOf}
+use Rattle.nk_compile.specs.WholeTable.{HasRowsAt, IsSwitchTable}
 use Rattle.nk_compile.specs.Ready.{sets_of, IsClear, IsReady}
 use Rattle.nk_compile.proofs.Fitting.{set_up}
 use Rattle.nk_compile.proofs.Reached.{same_some}
-use Rattle.nk_compile.proofs.Standing.{at_later, row_state, row_ids, IsTagged, members_off, rows_stay}
+use Rattle.nk_compile.proofs.Standing.{at_later, row_state, IsTagged, members_off, rows_stay}
 
 -- the set at a place
 pub set_there : (ss : List (List ℕ)) (tags : List ℕ) (t : ℕ) → t < length tags → slice_get (sets_of ss tags) t ≡ Some (set_of ss tags t)

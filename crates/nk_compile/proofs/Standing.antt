@@ -1,15 +1,12 @@
 -- The rows of an automaton are the states of the policy's positions; those of a tag stay at their switch, and are alike
 -- whatever the tag.
-use Rattle.std.proofs.Common.{◌≡◌, ℕ, zero, suc, ◌+◌, ◌-◌, ◌<◌, ◌≤◌, ◌↔◌, true, false, ⊎_elim, inl, inr, List, [], ◌∷◌, length, get_or, refl, sym, ap, subst, ◌∙◌, arith, Some}
-use Rattle.std.specs.Prelude.{All, map, Contains, slice_get, slice_index, slice_index_or, slice_set}
-use Rattle.std.specs.List.{range_with_len}
-use Rattle.nk_field.specs.declared.packet.Packet.{Packet}
-use Rattle.nk_field.proofs.Lists.{In, in_from_contains, contains_from_in, from_mapped, in_mapped}
-use Rattle.nk_field.proofs.Ascending.{all_from_members}
-use Rattle.nk_policy.specs.Policy.{Policy, marked_from, dups_of, numbers_of}
+use Rattle.std.proofs.Common.{◌≡◌, ℕ, zero, suc, ◌+◌, ◌<◌, ◌≤◌, false, ⊎_elim, List, [], ◌∷◌, length, get_or, refl, sym, ap, subst, ◌∙◌, arith}
+use Rattle.std.specs.Prelude.{Contains, slice_index, slice_set}
+use Rattle.nk_field.proofs.Lists.{in_from_contains, contains_from_in, from_mapped}
+use Rattle.nk_policy.specs.Policy.{Policy}
 use Rattle.nk_policy.specs.Meaning.{Gives, Runs}
 use Rattle.nk_policy.specs.Progress.{RecordsAt}
-use Rattle.nk_policy.specs.After.{after, has_dup}
+use Rattle.nk_policy.specs.After.{after}
 use Rattle.nk_policy.specs.PositionSets.{at_position}
 use Rattle.nk_policy.specs.Distinct.{HasDistinct}
 use Rattle.nk_policy.specs.Leaves.{has_leaf, is_dup, is_switch_assignment, is_on_field}
@@ -18,7 +15,7 @@ use Rattle.nk_policy.specs.Crossings.{IsBetween}
 use Rattle.nk_policy.specs.Ranges.{UsesOnly}
 use Rattle.nk_policy.proofs.Untouched.{IsOther}
 use Rattle.nk_policy.proofs.Uses.{rest_uses}
-use Rattle.nk_policy.proofs.LinkStructure.{between, off_link, holds_second}
+use Rattle.nk_policy.proofs.LinkStructure.{between, off_link}
 use Rattle.nk_policy.proofs.LabelSteps.{gives_is_runs}
 use Rattle.nk_policy.proofs.Parity.{no_records}
 use Rattle.nk_store.specs.Held.{Held, IsPacket}

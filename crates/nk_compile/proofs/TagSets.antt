@@ -1,13 +1,12 @@
 -- Each tag set has the first dups of literals that all lead along one link, and is not empty.
-use Rattle.std.proofs.Common.{◌≡◌, ◌≢◌, ℕ, ◌+◌, ◌*◌, ◌<◌, false, List, [], ◌∷◌, ◌++◌, length, Some, sym, ap, subst, ◌∙◌}
-use Rattle.std.specs.Prelude.{Contains, ◌↔◌, slice_index}
-use Rattle.nk_field.specs.Packet.{FieldTable}
+use Rattle.std.proofs.Common.{◌≡◌, ◌≢◌, ℕ, false, List, [], ◌∷◌, ◌++◌, Some, sym, ap, ◌∙◌}
+use Rattle.std.specs.Prelude.{Contains, slice_index}
 use Rattle.nk_field.specs.declared.packet.Packet.{Packet}
 use Rattle.nk_topo.specs.Topology.{Topology, AreLinks, link_from}
 use Rattle.nk_policy.specs.Policy.{Policy}
 use Rattle.nk_policy.specs.Distinct.{HasDistinct}
 use Rattle.nk_policy.specs.Leaves.{has_leaf, is_dup}
-use Rattle.nk_policy.specs.Labels.{IsAt, IsLabelSet, IsTagSet}
+use Rattle.nk_policy.specs.Labels.{IsLabelSet, IsTagSet}
 use Rattle.nk_policy.specs.Literals.{Literal, HoldsLiteral, IsAtSource}
 use Rattle.nk_policy.proofs.ListParts.{last_is}
 use Rattle.nk_policy.proofs.Parity.{odd_at}

@@ -1,17 +1,15 @@
 -- The tables that are made of the rows and the tag sets of a policy are the printed ones.
-use Rattle.std.proofs.Common.{◌≡◌, ◌≢◌, ℕ, zero, suc, ◌+◌, ◌<◌, ◌≤◌, ◌↔◌, Option, Some, None, true, List, [], ◌∷◌, length, get_or, inl, refl, sym, ap, subst, ◌∙◌, arith}
-use Rattle.std.specs.Prelude.{All, map, Contains, slice_get}
+use Rattle.std.proofs.Common.{◌≡◌, ◌≢◌, ℕ, zero, suc, ◌<◌, ◌↔◌, Option, Some, None, true, List, [], ◌∷◌, length, get_or, inl, refl, sym, ap, subst, ◌∙◌}
+use Rattle.std.specs.Prelude.{All, map, Contains}
 use Rattle.nk_field.specs.Packet.{FieldTable}
-use Rattle.nk_field.specs.declared.packet.Packet.{Packet}
-use Rattle.nk_field.proofs.Lists.{In, contains_from_in}
+use Rattle.nk_field.proofs.Lists.{contains_from_in}
 use Rattle.nk_field.proofs.Ascending.{all_from_members, members_from_all}
-use Rattle.nk_topo.specs.Topology.{Topology, AreLinks, numbers_of}
+use Rattle.nk_topo.specs.Topology.{Topology, numbers_of}
 use Rattle.nk_policy.specs.Policy.{Policy}
 use Rattle.nk_policy.specs.After.{has_dup}
 use Rattle.nk_policy.specs.Distinct.{HasDistinct}
 use Rattle.nk_policy.specs.Labels.{IsTagSet}
 use Rattle.nk_policy.specs.Tags.{IsTagBefore}
-use Rattle.nk_policy.specs.Literals.{Literal, HoldsLiteral}
 use Rattle.nk_policy.proofs.Numbering.{numbered_distinct}
 use Rattle.nk_policy.proofs.LinkStructure.{holds_first}
 use Rattle.nk_names.specs.Accepted.{IsStart}

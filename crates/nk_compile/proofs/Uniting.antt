@@ -1,22 +1,16 @@
 -- The ends of rows in a set, of one row more and of many rows together.
-use Rattle.std.proofs.Common.{◌≡◌, ℕ, zero, suc, ◌+◌, ◌<◌, ◌≤◌, cond, eqb, inl, inr, ⊎_elim, Option, Some, None, List, [], ◌∷◌, ◌++◌, length, get_or, refl, sym, ap, subst, ◌∙◌, arith}
-use Rattle.std.specs.Prelude.{All, map, OnOk, Contains}
+use Rattle.std.proofs.Common.{◌≡◌, ℕ, suc, ◌+◌, ◌<◌, cond, eqb, inl, inr, ⊎_elim, Option, Some, None, List, [], ◌∷◌, ◌++◌, length, get_or, refl, sym, ap, subst, ◌∙◌, arith}
+use Rattle.std.specs.Prelude.{All, map}
 use Rattle.std.specs.Map.{lookup}
 use Rattle.std.proofs.lemmas.List.{get_or-map, length-map, get_or_default, get_or_append_left}
 use Rattle.std.proofs.Math.Seq.{get_or-append_seam}
 use Rattle.std.proofs.lemmas.Bool.Decides.{eqb_tells, leb_tells}
-use Rattle.nk_field.specs.Act.{applied}
-use Rattle.nk_field.proofs.Lists.{In, in_from_contains}
-use Rattle.nk_topo.specs.Topology.{Topology}
+use Rattle.nk_field.proofs.Lists.{In}
 use Rattle.nk_store.specs.declared.node.Out.{Out}
-use Rattle.nk_store.specs.Leaves.{IsActFrom, Suits}
-use Rattle.nk_store.specs.Nodes.{InRange}
-use Rattle.nk_store.specs.Held.{Held, IsId, IsWhole, IsPacket, look, Grows, HasLeaves, AreTidy}
+use Rattle.nk_store.specs.Held.{Held, IsId, IsWhole, look, Grows}
 use Rattle.nk_algebra.specs.Leaves.{merged}
-use Rattle.nk_algebra.specs.Seqs.{seq_leaf}
 use Rattle.nk_algebra.specs.Unions.{AreIds, unions}
 use Rattle.nk_algebra.proofs.Members.{Has, merged_left, merged_right, merged_has}
-use Rattle.nk_determ.specs.Targets.{retargeted}
 use Rattle.nk_compile.specs.WrongEnds.{end_leaf, wrong_leaf, IsEndOf, AreEndsOf, HaveEndsOf, end_on}
 
 -- and so does a table of them

@@ -1,25 +1,35 @@
 -- Bad finals off each edge port stand exactly where a member's row ends there.
-use Rattle.std.proofs.Common.{◌≡◌, ℕ, zero, suc, ◌+◌, Bool, true, false, inl, inr, ⊎_elim, Option, Some, None, List, [], ◌∷◌, get_or, refl, sym, ap, subst, ◌∙◌, arith, cond}
-use Rattle.std.specs.Prelude.{Contains}
-use Rattle.nk_field.specs.Act.{applied}
-use Rattle.nk_field.proofs.Lists.{In, in_from_contains, contains_from_in}
+use Rattle.std.proofs.Common.{◌≡◌, ℕ, zero, suc, Bool, true, inl, inr, Some, None, List, [], ◌∷◌, get_or, refl, sym, ap, subst, ◌∙◌, ◌<◌, length}
+use Rattle.std.specs.Prelude.{Contains, All, ◌↔◌}
+use Rattle.nk_field.specs.Act.{applied, act_then}
+use Rattle.nk_field.specs.Order.{Found, IsLeast}
+use Rattle.nk_field.proofs.Lists.{in_from_contains, contains_from_in}
 use Rattle.nk_topo.specs.Topology.{Topology}
 use Rattle.nk_store.specs.declared.node.Out.{Out}
-use Rattle.nk_store.specs.Held.{Held, IsPacket, look, Grows, AreTidy}
-use Rattle.nk_algebra.specs.Seqs.{seq_leaf}
+use Rattle.nk_store.specs.Held.{Held, IsId, IsPacket, look, Grows, AreTidy}
+use Rattle.nk_algebra.specs.Predicates.{IsPass, IsPredicate}
+use Rattle.nk_algebra.specs.Seqs.{out_after, no_out}
 use Rattle.nk_algebra.proofs.Members.{Has, has_contains, contains_has, gathered_has, has_gathered, seq_leaf_has, has_seq_leaf}
 use Rattle.nk_determ.specs.Exact.{Sends}
+use Rattle.nk_determ.specs.States.{RowLeads}
 use Rattle.nk_determ.specs.Sets.{SetsGrow, IsSetOf as IsLabels}
 use Rattle.nk_determ.specs.Targets.{option_out, out_by_table, retargeted}
 use Rattle.nk_auto.proofs.Sending.{sent_in_range}
-use Rattle.nk_runs.specs.Wrong.{EndsWrong, IsAlert, IsRight}
+use Rattle.nk_runs.specs.Wrong.{AreWrongEnds}
 use Rattle.nk_sets.specs.PacketSets.{has_out}
+use Rattle.nk_reach.specs.Pairs.{AreRows}
 use Rattle.nk_reach.specs.Levels.{AreLevels}
+use Rattle.nk_reach.specs.Sides.{Makes}
+use Rattle.nk_reach.specs.Breaks.{Breaks}
+use Rattle.nk_witness.specs.Finds.{first_set, first_packets}
+use Rattle.nk_witness.proofs.Settling.{settled}
+use Rattle.nk_store.proofs.Stores.{grows_same}
+use Rattle.nk_reach.proofs.Growing.{sets_refl}
 use Rattle.nk_switches.proofs.Growing.{set_kept}
 use Rattle.nk_compile.specs.Edges.{is_start, is_no_edge}
-use Rattle.nk_compile.specs.Levelled.{IsLevelled}
+use Rattle.nk_compile.specs.Levelled.{IsLevelled, IsLeastOff}
 use Rattle.nk_compile.specs.PacketSets.{IsSetOf}
-use Rattle.nk_compile.specs.WrongEnds.{end_leaf, wrong_leaf}
+use Rattle.nk_compile.specs.WrongEnds.{end_leaf, wrong_leaf, HaveEndsOf, wrong_on}
 use Rattle.nk_compile.proofs.Uniting.{of_wrong, in_wrong}
 
 -- where there is an out, one of them
@@ -32,15 +42,16 @@ out_some : (outs : List Out) (o : Out) → Has outs o → has_out outs ≡ true
 out_some [] o h = absurd h
 out_some (x ∷ xs) o h = refl
 
--- a list that isn't empty has an out
-not_empty : (outs : List Out) → (outs ≡ [] → ⊥) → (o : Out) × Has outs o
-not_empty [] h = absurd (h refl)
-not_empty (o ∷ os) h = (o, inl refl)
+-- what passes is the packet itself
+passes : (outs : List Out) (o : Out) → IsPass outs → Has outs o → o ≡ no_out
+passes [] o p h = absurd h
+passes (x ∷ xs) o p (inl e) = sym e ∙ p.0
+passes (x ∷ xs) o p (inr h) = absurd (subst (λ zs. Has zs o) p.1 h)
 
--- one that has an out isn't empty
-has_some : (outs : List Out) (o : Out) → Has outs o → outs ≡ [] → ⊥
-has_some [] o h e = h
-has_some (x ∷ xs) o h e = cc
+-- nothing after an act
+nothing_after : (g : List (ℕ × ℕ)) → act_then g [] ≡ g
+nothing_after [] = refl
+nothing_after (s ∷ ss) = refl
 
 -- what is kept is an end
 kept : (u : ℕ) (g : List (ℕ × ℕ)) (o : Out) → Has (option_out g (get_or (Some 0 ∷ []) u None)) o → (u ≡ 0) × (o.act ≡ g)
@@ -48,47 +59,57 @@ kept zero g o (inl e) = (refl, sym (ap (λ (x : Out). x.act) e))
 kept zero g o (inr h) = absurd h
 kept (suc u) g o h = absurd h
 
-module _ (st : Held) (topo : Topology) (tidy : AreTidy st) (set : ℕ) (rows : List ℕ) (off : IsSetOf st set (is_no_edge topo)) where
-  -- an end of a row that isn't at an edge port
-  of_end : (row : ℕ) (x : List ℕ) (o : Out) → IsPacket st x → Has (end_leaf st set row x) o → (y : List ℕ) × Sends st row x y 0 × (is_no_edge topo y ≡ true)
+module _ (st : Held) (topo : Topology) (tidy : AreTidy st) (set : ℕ) (rows : List ℕ) (off : IsSetOf st set (is_no_edge topo)) (predicate : IsPredicate st set) where
+  -- what is made of a row's ends in the set is an end of the row that isn't at an edge port
+  of_end : (row : ℕ) (x : List ℕ) (o : Out) → IsPacket st x → Has (end_leaf st set row x) o → (o.target ≡ 0) × Sends st row x (applied o.act x) 0 × (is_no_edge topo (applied o.act x) ≡ true)
   of_end row x o r h =
       let s = has_seq_leaf (retargeted (Some 0 ∷ []) (look st row x)) (look st set) x o h in
       let m = has_gathered (out_by_table (Some 0 ∷ [])) (look st row x) s.0 s.2 in
       let k = kept m.0.target m.0.act s.0 m.2 in
-      let y = applied m.0.act x in
-      let there : Has (look st row x) (record { act = m.0.act; target = 0 }) = subst (λ t. Has (look st row x) (record { act = m.0.act; target = t })) k.0 m.1 in
-      let sent : Sends st row x y 0 = (m.0.act, has_contains (look st row x) (record { act = m.0.act; target = 0 }) there, refl) in
-      let some : has_out (look st set y) ≡ true = out_some (look st set y) s.1 (subst (λ g. Has (look st set (applied g x)) s.1) k.1 s.3) in
-      (y, sent, sym (off.at y (sent_in_range st row x y 0 tidy r sent)) ∙ some)
+      let y = applied s.0.act x in
+      let there : Has (look st row x) (record { act = s.0.act; target = 0 }) =
+      subst (λ g. Has (look st row x) (record { act = g; target = 0 })) (sym k.1) (subst (λ t. Has (look st row x) (record { act = m.0.act; target = t })) k.0 m.1) in
+      let sent : Sends st row x y 0 = (s.0.act, has_contains (look st row x) (record { act = s.0.act; target = 0 }) there, refl) in
+      let range : IsPacket st y = sent_in_range st row x y 0 tidy r sent in
+      let pass : s.1 ≡ no_out = passes (look st set y) s.1 (predicate y range.0) s.3 in
+      let end_by : List (ℕ × ℕ) → Out = λ g. record { act = g; target = 0 } in
+      let is : end_by s.0.act ≡ o = ap end_by (sym (nothing_after s.0.act)) ∙ ap (λ q. out_after s.0.act q) (sym pass) ∙ s.4 in
+      let act_is : applied s.0.act x ≡ applied o.act x = ap (λ (q : Out). applied q.act x) is in
+      let off_edge : is_no_edge topo y ≡ true = sym (off.at y range) ∙ out_some (look st set y) s.1 s.3 in
+      (sym (ap (λ (q : Out). q.target) is), subst (λ z. Sends st row x z 0) act_is sent, subst (λ z. is_no_edge topo z ≡ true) act_is off_edge)
 
   -- and the other way round
-  in_end : (row : ℕ) (x y : List ℕ) → IsPacket st x → Sends st row x y 0 → is_no_edge topo y ≡ true → (o : Out) × Has (end_leaf st set row x) o
+  in_end : (row : ℕ) (x y : List ℕ) → IsPacket st x → (s : Sends st row x y 0) → is_no_edge topo y ≡ true → Has (end_leaf st set row x) (record { act = s.0; target = 0 })
   in_end row x y r s wrong =
       let e : Out = record { act = s.0; target = 0 } in
       let made : Has (retargeted (Some 0 ∷ []) (look st row x)) e = gathered_has (out_by_table (Some 0 ∷ [])) (look st row x) e e (contains_has (look st row x) e s.1) (inl refl) in
-      let there = some_out (look st set y) (off.at y (sent_in_range st row x y 0 tidy r s) ∙ wrong) in
-      let behind : Has (look st set (applied s.0 x)) there.0 = subst (λ z. Has (look st set z) there.0) s.2 there.1 in
-      (_, seq_leaf_has (retargeted (Some 0 ∷ []) (look st row x)) (look st set) x e there.0 made behind)
+      let range : IsPacket st y = sent_in_range st row x y 0 tidy r s in
+      let there = some_out (look st set y) (off.at y range ∙ wrong) in
+      let pass : there.0 ≡ no_out = passes (look st set y) there.0 (predicate y range.0) there.1 in
+      let behind : Has (look st set (applied s.0 x)) no_out = subst (λ q. Has (look st set (applied s.0 x)) q) pass (subst (λ z. Has (look st set z) there.0) s.2 there.1) in
+      let whole : Has (end_leaf st set row x) (out_after s.0 no_out) = seq_leaf_has (retargeted (Some 0 ∷ []) (look st row x)) (look st set) x e no_out made behind in
+      subst (λ g. Has (end_leaf st set row x) (record { act = g; target = 0 })) (nothing_after s.0) whole
 
-  -- so they are alert
-  pub ends_alert : IsAlert st rows (is_no_edge topo) (λ s x. wrong_leaf st set rows s x)
-  ends_alert s x places r h empty =
-      let o = in_end (get_or rows h.0 0) x h.1 r h.3 h.4 in
-      has_some (wrong_leaf st set rows s x) o.0 (in_wrong st set rows s x o.0 h.0 (in_from_contains s h.0 h.2) o.1) empty
-
-  -- and right
-  pub ends_right : IsRight st rows (is_no_edge topo) (λ s x. wrong_leaf st set rows s x)
-  ends_right s x places r h =
-      let o = not_empty (wrong_leaf st set rows s x) h in
-      let l = of_wrong st set rows s x o.0 o.1 in
-      let e = of_end (get_or rows l.0 0) x o.0 r l.2 in
-      (l.0, e.0, contains_from_in s l.0 l.1, e.1, e.2)
+  -- so the ends of rows in the set are the wrong ends
+  pub ends_wrong : AreWrongEnds st rows (is_no_edge topo) (λ s x. wrong_leaf st set rows s x)
+  ends_wrong s x y t places r = (
+    λ m.
+        let l = of_wrong st set rows s x (record { act = m.0; target = t }) (contains_has (wrong_leaf st set rows s x) (record { act = m.0; target = t }) m.1) in
+        let e = of_end (get_or rows l.0 0) x (record { act = m.0; target = t }) r l.2 in
+        (e.0, (l.0, contains_from_in s l.0 l.1, subst (λ z. Sends st (get_or rows l.0 0) x z 0) (sym m.2) e.1), subst (λ z. is_no_edge topo z ≡ true) (sym m.2) e.2),
+    λ h.
+        let lead = h.1 in
+        let send : Sends st (get_or rows lead.0 0) x y 0 = lead.2 in
+        let o : Out = record { act = send.0; target = 0 } in
+        let has = in_wrong st set rows s x o lead.0 (in_from_contains s lead.0 lead.1) (in_end (get_or rows lead.0 0) x y r send h.2) in
+        (send.0, subst (λ u. Contains (wrong_leaf st set rows s x) (record { act = send.0; target = u })) (sym h.0) (has_contains (wrong_leaf st set rows s x) o has), send.2),
+  )
 
 -- the levels of rows with these bad finals
 pub levels_are : (topo : Topology) (tag : ℕ) (old first new : Held) (rows goal_rows : List ℕ) (off goal_set from s : ℕ) (mid ss : List (List ℕ)) (ls : List (List (ℕ × ℕ))) (broken : Bool) →
-    Grows old first → Grows first new → AreTidy first → goal_set ≡ off → goal_rows ≡ rows → IsLabels mid s (0 ∷ []) → SetsGrow mid ss → IsSetOf first off (is_no_edge topo) → IsSetOf first from (is_start topo tag) →
+    Grows old first → Grows first new → AreTidy first → goal_set ≡ off → goal_rows ≡ rows → IsLabels mid s (0 ∷ []) → SetsGrow mid ss → IsSetOf first off (is_no_edge topo) → IsPredicate first off → IsSetOf first from (is_start topo tag) →
     AreLevels first new ss rows s from (λ places x. wrong_leaf first goal_set goal_rows places x) ls broken → IsLevelled topo tag old rows new ss ls broken
-levels_are topo tag old first new rows goal_rows off goal_set from s mid ss ls broken grew grows tidy same_set same_rows labels more is_off is_from are = record {
+levels_are topo tag old first new rows goal_rows off goal_set from s mid ss ls broken grew grows tidy same_set same_rows labels more is_off passing is_from are = record {
   first = first;
   grew = grew;
   grows = grows;
@@ -98,9 +119,41 @@ levels_are topo tag old first new rows goal_rows off goal_set from s mid ss ls b
   bad = λ places x. wrong_leaf first off rows places x;
   set_is = set_kept mid ss s more labels.within ∙ labels.members;
   start_is = is_from;
-  alert = ends_alert first topo tidy off rows is_off;
-  right = ends_right first topo tidy off rows is_off;
+  wrong = ends_wrong first topo tidy off rows is_off passing;
   are =
       subst (λ (r : List ℕ). AreLevels first new ss rows s from (λ places x. wrong_leaf first off r places x) ls broken) same_rows
       (subst (λ q. AreLevels first new ss rows s from (λ places x. wrong_leaf first q goal_rows places x) ls broken) same_set are);
+}
+
+-- the levels in the store behind them, and of the goal as it is then
+pub levels_later : (old mid : Held) (ss : List (List ℕ)) (rows goal_rows ends : List ℕ) (set start goal_set : ℕ) (now : List ℕ → List ℕ → List Out) (ls : List (List (ℕ × ℕ))) (broken : Bool) →
+    AreLevels old mid ss rows set start (λ places x. wrong_leaf old goal_set goal_rows places x) ls broken → Grows old mid → AreRows old rows → IsId old start → goal_rows ≡ rows → HaveEndsOf old goal_set rows ends →
+    ((places x : List ℕ) → now places x ≡ wrong_leaf mid goal_set goal_rows places x) →
+    (first_set ls ≡ set) × (first_packets ls ≡ start) × AreLevels mid mid ss rows (first_set ls) (first_packets ls) now ls broken
+levels_later old mid ss rows goal_rows ends set start goal_set now ls broken are grew rows_ok id same_rows fits same =
+    settled old mid mid ss ss rows set start (λ places x. wrong_leaf old goal_set goal_rows places x) now ls broken are grew (grows_same mid) (sets_refl ss) rows_ok id
+    (λ n places.
+    same n.0 n.1
+    ∙ wrong_on old mid goal_set goal_rows ends n.0 n.1 (subst (λ (r : List ℕ). HaveEndsOf old goal_set r ends) (sym same_rows) fits) grew
+    (subst (λ (r : List ℕ). All (λ l. l < length r) n.0) (sym same_rows) places))
+
+-- the least history that breaks the goal there
+pub least_is : (topo : Topology) (tag : ℕ) (old first mid : Held) (rows goal_rows : List ℕ) (off goal_set from s : ℕ) (before ss : List (List ℕ)) (bad now : List ℕ → List ℕ → List Out) (ls : List (List (ℕ × ℕ))) (broken : Bool) (f : Found) →
+    Grows old mid → AreTidy mid → goal_set ≡ off → goal_rows ≡ rows → IsLabels before s (0 ∷ []) → SetsGrow before ss → IsSetOf mid off (is_no_edge topo) → IsPredicate mid off → IsSetOf mid from (is_start topo tag) →
+    ((places x : List ℕ) → now places x ≡ wrong_leaf mid goal_set goal_rows places x) → AreLevels first mid ss rows s from bad ls broken →
+    IsLeast (Breaks mid rows (get_or ss (first_set ls) []) (first_packets ls) now) f → IsLeastOff topo tag old rows f
+least_is topo tag old first mid rows goal_rows off goal_set from s before ss bad now ls broken f grew tidy same_set same_rows labels more is_off passing is_from same are least = record {
+  first = mid;
+  grew = grew;
+  tidy = tidy;
+  start = first_packets ls;
+  bad = now;
+  start_is = subst (λ d. IsSetOf mid d (is_start topo tag)) (sym (ap (λ (v : List (ℕ × ℕ)). (get_or v 0 (0, 0)).1) are.start_is)) is_from;
+  wrong = λ places x y t inside r.
+      subst (λ outs. Makes outs x y t ↔ ((t ≡ 0) × RowLeads mid rows places x y 0 × (is_no_edge topo y ≡ true)))
+      (sym (same places x ∙ ap (λ (r : List ℕ). wrong_leaf mid goal_set r places x) same_rows ∙ ap (λ q. wrong_leaf mid q rows places x) same_set))
+      (ends_wrong mid topo tidy off rows is_off passing places x y t inside r);
+  least =
+      subst (λ set. IsLeast (Breaks mid rows set (first_packets ls) now) f)
+      (ap (λ (v : List (ℕ × ℕ)). get_or ss (get_or v 0 (0, 0)).0 []) are.start_is ∙ set_kept before ss s more labels.within ∙ labels.members) least;
 }

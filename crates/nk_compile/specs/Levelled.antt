@@ -11,9 +11,12 @@ use Rattle.nk_tag.specs.declared.error.NumberError.TheVariants as number
 use Rattle.nk_compile.specs.declared.refusal.CompileError.{CompileError}
 use Rattle.nk_compile.specs.declared.refusal.CompileError.TheVariants as compile
 use Rattle.nk_compile.specs.declared.refusal.Refusal.TheVariants as refusal
-use Rattle.nk_runs.specs.Wrong.{IsAlert, IsRight}
+use Rattle.nk_field.specs.Order.{Found, IsLeast}
+use Rattle.nk_reach.specs.Breaks.{Breaks}
+use Rattle.nk_runs.specs.Wrong.{AreWrongEnds}
 use Rattle.nk_compile.specs.Edges.{is_start, is_no_edge}
 use Rattle.nk_compile.specs.PacketSets.{IsSetOf}
+use Rattle.nk_compile.specs.Refusals.{found_from}
 
 -- the levels of these rows from the start packets; they are broken where a member ends at no edge port
 pub record IsLevelled (topo : Topology) (tag : ℕ) (old : Held) (rows : List ℕ) (new : Held) (ss : List (List ℕ)) (levels : List (List (ℕ × ℕ))) (broken : Bool) : Type 0 where
@@ -26,9 +29,25 @@ pub record IsLevelled (topo : Topology) (tag : ℕ) (old : Held) (rows : List �
   pub bad : List ℕ → List ℕ → List Out
   pub set_is : slice_index_or ss set [] ≡ 0 ∷ []
   pub start_is : IsSetOf first start (is_start topo tag)
-  pub alert : IsAlert first rows (is_no_edge topo) bad
-  pub right : IsRight first rows (is_no_edge topo) bad
+  pub wrong : AreWrongEnds first rows (is_no_edge topo) bad
   pub are : AreLevels first new ss rows set start bad levels broken
+
+-- the least history from the start packets along these rows that ends at no edge port
+pub record IsLeastOff (topo : Topology) (tag : ℕ) (old : Held) (rows : List ℕ) (f : Found) : Type 0 where
+  pub first : Held
+  pub grew : Grows old first
+  pub tidy : AreTidy first
+  pub start : ℕ
+  pub bad : List ℕ → List ℕ → List Out
+  pub start_is : IsSetOf first start (is_start topo tag)
+  pub wrong : AreWrongEnds first rows (is_no_edge topo) bad
+  pub least : IsLeast (Breaks first rows (0 ∷ []) start bad) f
+
+-- why there are no levels without such an end: memory ran out, or the least history with one is told
+abbrev pub IsOffFault : Topology → ℕ → Held → List ℕ → CompileError → Type 0
+IsOffFault topo tag old rows compile.NoMemory = Unit {0}
+IsOffFault topo tag old rows (compile.Refused (refusal.OffEdge start history)) = IsLeastOff topo tag old rows (found_from start history)
+IsOffFault topo tag old rows (compile.Refused r) = ⊥
 
 -- the fault of numbers as one of compilation
 abbrev pub fault_of : NumberError → CompileError

@@ -1,5 +1,6 @@
 -- A policy that sends a located untagged packet off each edge port.
-use Rattle.std.specs.Prelude.{ℕ, List, IsTrue, slice_index}
+use Rattle.std.specs.Prelude.{List, ℕ, IsTrue, slice_index}
+use Rattle.nk_field.specs.Order.{Found}
 use Rattle.nk_field.specs.Packet.{FieldTable}
 use Rattle.nk_topo.specs.Topology.{Topology, is_edge}
 use Rattle.nk_policy.specs.Policy.{Policy}
@@ -7,13 +8,10 @@ use Rattle.nk_policy.specs.Meaning.{Gives}
 use Rattle.nk_names.specs.Accepted.{IsStart}
 
 -- a history of a located untagged packet that ends off each edge port
-pub record EndsOffEdge (fields : FieldTable) (topo : Topology) (p : Policy) : Type 0 where
-  pub start : List ℕ
-  pub records : List (List ℕ)
-  pub last : List ℕ
-  pub starts : IsStart fields topo start
-  pub gives : Gives p start records last
-  pub off : ¬ IsTrue (is_edge topo (slice_index last 0) (slice_index last 1))
+pub record EndsOffEdge (fields : FieldTable) (topo : Topology) (p : Policy) (f : Found) : Type 0 where
+  pub starts : IsStart fields topo f.start
+  pub gives : Gives p f.start f.records f.last
+  pub off : ¬ IsTrue (is_edge topo (slice_index f.last 0) (slice_index f.last 1))
 
 -- each history of a located untagged packet ends at an edge port
 abbrev pub EndsOnEdges : FieldTable → Topology → Policy → Type 0

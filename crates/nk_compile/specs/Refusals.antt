@@ -1,7 +1,10 @@
 -- Which policies are refused, the first reason in order: what is seen of the expanded tree, whether a packet comes there or
 -- not, then a history that ends off an edge port, and then more tag sets than the tag has values above 0.
 use Rattle.std.specs.Prelude.{◌≡◌, ℕ, ◌+◌, Option, Some, None, if◌then◌else◌, List}
+use Rattle.nk_field.specs.declared.packet.Packet.{Packet}
+use Rattle.nk_field.specs.declared.history.History.{History}
 use Rattle.nk_field.specs.Packet.{FieldTable}
+use Rattle.nk_field.specs.Order.{Found, IsLeast}
 use Rattle.nk_topo.specs.Topology.{Topology}
 use Rattle.nk_policy.specs.Policy.{Policy}
 use Rattle.nk_policy.specs.Leaves.{has_leaf, is_on_field, is_dup, is_switch_assignment}
@@ -31,9 +34,14 @@ seen_for (Some tag) topo p = seen_with tag topo p
 abbrev pub seen : FieldTable → Topology → Policy → Option Refusal
 seen fields topo p = seen_for fields.tag topo p
 
--- why the policy is refused
+-- a history from a start packet, as the order of histories sees it
+abbrev pub found_from : Packet → History → Found
+found_from start history = record { start = start; records = history.records; last = history.last }
+
+-- why the policy is refused; of the histories that end off each edge port the least is told
 abbrev pub IsReason : FieldTable → Topology → Policy → Refusal → Type 0
-IsReason fields topo p OffEdge = (seen fields topo p ≡ None) × EndsOffEdge fields topo p
+IsReason fields topo p (OffEdge start history) =
+    (seen fields topo p ≡ None) × IsLeast (EndsOffEdge fields topo p) (found_from start history)
 IsReason fields topo p (TooManyTags found) =
     (seen fields topo p ≡ None)
     × EndsOnEdges fields topo p

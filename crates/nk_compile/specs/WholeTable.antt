@@ -1,17 +1,12 @@
 -- The whole printed table: one table for each switch, with the rows of tag 0 and of each tag whose link ends there.
 use Rattle.std.specs.Prelude.{◌≡◌, ℕ, zero, suc, ◌↔◌, ◌==◌, if◌then◌else◌, Option, Some, None, List, [], length, map, slice_get, Contains, All}
-use Rattle.std.specs.List.{flat_map}
 use Rattle.std.specs.List.Sorted.{IsStrictlyIncreasing}
 use Rattle.nk_field.specs.Packet.{FieldTable}
 use Rattle.nk_topo.specs.Topology.{Topology}
 use Rattle.nk_policy.specs.Policy.{Policy, Policies, test, assign, sum_of, seq_of, not_of, star_of, dup, link, no_part, part}
-use Rattle.nk_store.specs.Diagram.{Diagram}
-use Rattle.nk_table.specs.declared.Bucket.{Bucket}
 use Rattle.nk_table.specs.declared.Table.{Table}
 use Rattle.nk_table.specs.declared.Tables.{Tables}
-use Rattle.nk_extract.specs.RuleTree.{rows_for}
 use Rattle.nk_group.specs.Groups.{groups_of, rows_after}
-use Rattle.nk_table.specs.declared.Plain.{Plain}
 use Rattle.nk_policy.specs.Tags.{AreTags}
 use Rattle.nk_compile.specs.PrintedTable.{IsTreeOf}
 pub use Rattle.nk_switches.specs.Made.{TagTree, rows_of_trees}

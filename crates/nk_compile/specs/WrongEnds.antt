@@ -1,14 +1,19 @@
 -- The ends of an automaton's rows that are not to be: those in a set of packets.
-use Rattle.std.specs.Prelude.{◌≡◌, ℕ, ◌<◌, eqb, Some, List, [], ◌∷◌, length, slice_index, All, refl}
-use Rattle.std.proofs.Common.{inl, inr, sym, ap, ◌∙◌}
+use Rattle.std.specs.Prelude.{◌≡◌, ℕ, ◌<◌, ◌⊎◌, eqb, Some, List, [], ◌∷◌, length, slice_index, All, Contains, refl}
+use Rattle.std.proofs.Common.{inl, inr, ⊎_elim, sym, ap, subst, ◌∙◌}
 use Rattle.std.specs.Map.{lookup}
 use Rattle.nk_store.specs.declared.node.Out.{Out}
+use Rattle.nk_field.specs.Act.{applied}
 use Rattle.nk_field.proofs.Lists.{In}
 use Rattle.nk_field.proofs.Ascending.{members_from_all}
 use Rattle.nk_store.specs.Held.{Held, IsId, IsWhole, look, Grows}
 use Rattle.nk_algebra.specs.Leaves.{merged}
 use Rattle.nk_algebra.specs.Seqs.{seq_leaf}
-use Rattle.nk_algebra.specs.Unions.{AreIds}
+use Rattle.nk_algebra.specs.Predicates.{IsPass}
+use Rattle.nk_algebra.proofs.Members.{Has, contains_has, merged_has, has_seq_leaf}
+use Rattle.nk_algebra.proofs.Predicates.{whole_applied}
+use Rattle.nk_sets.specs.PacketSets.{IsSet}
+use Rattle.nk_sets.proofs.SetLemmas.{set_grows}
 use Rattle.nk_determ.specs.Targets.{retargeted}
 
 -- a row's ends, each followed by what is made of it by the set: where it is in the set, it stays
@@ -33,7 +38,7 @@ AreEndsOf st set entries = (row r : ℕ) → lookup (eqb row) entries ≡ Some r
 
 -- each row has its diagram
 pub record HaveEndsOf (st : Held) (set : ℕ) (rows ends : List ℕ) : Type 0 where
-  pub set_id : IsId st set
+  pub packets : IsSet st set
   pub count : length ends ≡ length rows
   pub each : (l : ℕ) → l < length rows → IsEndOf st set (slice_index rows l) (slice_index ends l)
 
@@ -56,9 +61,9 @@ module _ (old new : Held) (set : ℕ) (g : Grows old new) (set_id : IsId old set
 -- all rows keep their diagrams
 pub ends_on : (old new : Held) (set : ℕ) (rows ends : List ℕ) → HaveEndsOf old set rows ends → Grows old new → HaveEndsOf new set rows ends
 ends_on old new set rows ends k g = record {
-  set_id = g.ids set k.set_id;
+  packets = set_grows old new set g k.packets;
   count = k.count;
-  each = λ l lt. end_on old new set g k.set_id (slice_index rows l) (slice_index ends l) (k.each l lt);
+  each = λ l lt. end_on old new set g k.packets.id (slice_index rows l) (slice_index ends l) (k.each l lt);
 }
 
 -- and all rows together have the same ends
@@ -66,9 +71,36 @@ wrong_same : (old new : Held) (set : ℕ) (rows ends places pk : List ℕ) → H
     wrong_leaf new set rows places pk ≡ wrong_leaf old set rows places pk
 wrong_same old new set rows ends [] pk k g inside = refl
 wrong_same old new set rows ends (l ∷ ls) pk k g inside =
-    ap (λ x. merged x (wrong_leaf new set rows ls pk)) (leaf_on old new set g k.set_id (slice_index rows l) pk (k.each l (inside l (inl refl))).row_id)
+    ap (λ x. merged x (wrong_leaf new set rows ls pk)) (leaf_on old new set g k.packets.id (slice_index rows l) pk (k.each l (inside l (inl refl))).row_id)
     ∙ ap (merged (end_leaf old set (slice_index rows l) pk)) (wrong_same old new set rows ends ls pk k g (λ n i. inside n (inr i)))
 
 pub wrong_on : (old new : Held) (set : ℕ) (rows ends places pk : List ℕ) → HaveEndsOf old set rows ends → Grows old new → All (λ l. l < length rows) places →
     wrong_leaf new set rows places pk ≡ wrong_leaf old set rows places pk
 wrong_on old new set rows ends places pk k g inside = wrong_same old new set rows ends places pk k g (members_from_all (λ l. l < length rows) places inside)
+
+-- what passes has target 0
+pass_sided : (outs : List Out) (o : Out) → IsPass outs → Has outs o → o.target ≡ 0
+pass_sided [] o p h = absurd h
+pass_sided (x ∷ xs) o p (inl e) = sym (ap (λ (q : Out). q.target) e) ∙ ap (λ (q : Out). q.target) p.0
+pass_sided (x ∷ xs) o p (inr h) = absurd (subst (λ zs. Has zs o) p.1 h)
+
+-- so has each end of a row in a set of packets
+end_sided : (st : Held) (set row : ℕ) (pk : List ℕ) (o : Out) → IsSet st set → IsWhole pk → Has (end_leaf st set row pk) o → o.target ≡ 0
+end_sided st set row pk o packets whole h =
+    let s = has_seq_leaf (retargeted (Some 0 ∷ []) (look st row pk)) (look st set) pk o h in
+    let passed = pass_sided (look st set (applied s.0.act pk)) s.1 (packets.predicate (applied s.0.act pk) (whole_applied s.0.act pk whole)) s.3 in
+    sym (ap (λ (q : Out). q.target) s.4) ∙ passed
+
+-- and each of all rows together
+rows_sided : (st : Held) (set : ℕ) (rows places pk : List ℕ) (o : Out) → IsSet st set → IsWhole pk → Has (wrong_leaf st set rows places pk) o → o.target ≡ 0
+rows_sided st set rows [] pk o packets whole h = absurd h
+rows_sided st set rows (l ∷ ls) pk o packets whole h =
+    ⊎_elim
+    (λ a. end_sided st set (slice_index rows l) pk o packets whole a)
+    (λ b. rows_sided st set rows ls pk o packets whole b)
+    (merged_has o (end_leaf st set (slice_index rows l) pk) (wrong_leaf st set rows ls pk) h)
+
+-- they are of the only side
+pub wrong_sided : (st : Held) (set : ℕ) (rows ends places pk : List ℕ) (o : Out) → HaveEndsOf st set rows ends → IsWhole pk → Contains (wrong_leaf st set rows places pk) o →
+    (o.target ≡ 0) ⊎ (o.target ≡ 1)
+wrong_sided st set rows ends places pk o k whole c = inl (rows_sided st set rows places pk o k.packets whole (contains_has (wrong_leaf st set rows places pk) o c))

@@ -41,6 +41,7 @@ pub fn off_edges(st: &mut Store, topo: &Topo) -> Result<Id, AllocError>
     requires port { 65535 ≤ slice_index st.old.maxes 1 }
     ensures grows { Grows st.old st.new }
     ensures set { IfOk result (λ d. IsSetOf st.new d (is_no_edge topo.now)) }
+    ensures predicate { IfOk result (λ d. IsPredicate st.new d) }
 {
     let links = at_links(st, topo)?;
     let free = outside(st, links)?;

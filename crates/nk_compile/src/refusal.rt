@@ -2,11 +2,12 @@
 ghost use Rattle.std.specs.Prelude.{◌≡◌};
 ghost use Rattle.nk_compile.specs.declared.refusal.CompileError.TheVariants.{NoMemory};
 
+use nk_field::{History, Packet};
 use std::alloc::AllocError;
 use thiserror::Error;
 
 /// The reasons for which no table is made, the first one in this order.
-#[derive(Clone, Copy, PartialEq, Eq, Debug, Error)]
+#[derive(Debug, Drop, Error)]
 pub enum Refusal {
     /// The name is no policy's.
     #[error("no policy")]
@@ -28,7 +29,13 @@ pub enum Refusal {
     NoSuchLink,
     /// A located untagged packet has a history that ends off an edge port.
     #[error("off edge")]
-    OffEdge,
+    OffEdge {
+        /// The packet that the least such history starts at: fewer records come first, then the lesser start, then the records in
+        /// turn, then the last packet.
+        start: Packet,
+        /// That history.
+        history: History,
+    },
     /// There are more tag sets than the tag has values above 0.
     #[error("too many tags, found {found}")]
     TooManyTags {
@@ -38,7 +45,7 @@ pub enum Refusal {
 }
 
 /// Why no tables were made.
-#[derive(Clone, Copy, PartialEq, Eq, Debug, Error)]
+#[derive(Debug, Drop, Error)]
 pub enum CompileError {
     /// Memory ran out.
     #[error("no memory")]

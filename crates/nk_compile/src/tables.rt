@@ -11,7 +11,9 @@ ghost use Rattle.nk_tag.specs.Numbers.{AreEntries, AreNumbers};
 ghost use Rattle.nk_field.specs.Packet.{FieldTable};
 ghost use Rattle.nk_compile.specs.Ready.{IsBegun};
 ghost use Rattle.nk_compile.specs.Refusals.{seen_with};
-ghost use Rattle.nk_compile.specs.Levelled.{IsLevelled, IsTagFault, fault_of};
+ghost use Rattle.nk_compile.specs.Levelled.{IsLevelled, IsOffFault, IsTagFault, fault_of};
+ghost use Rattle.nk_compile.specs.declared.refusal.CompileError.TheVariants as compile;
+ghost use Rattle.nk_compile.specs.declared.refusal.Refusal.TheVariants as refusal;
 ghost use Rattle.nk_compile.specs.Answers.{AreMade, IsMade, IsError};
 
 use crate::edges::{off_edges, starts};
@@ -28,16 +30,18 @@ use nk_store::{Id, Store};
 use nk_table::{Table, Tables};
 use nk_tag::{NumberError, number};
 use nk_topo::Topo;
+use nk_witness::{Found, least_history};
 use std::alloc::{AllocError, Global};
 
-/// The levels of an automaton's rows from the located untagged packets, up to an end at no edge port.
+/// The levels of an automaton's rows from the located untagged packets. Where an end at no edge port is met, the least history
+/// with such an end is the refusal.
 fn levels_from(
     st: &mut Store,
     ss: &mut Sets,
     topo: &Topo,
     tag: Fid,
     rows: &[Id],
-) -> Result<Levels, AllocError>
+) -> Result<Levels, CompileError>
     requires switch { 65535 ≤ slice_index st.old.maxes 0 }
     requires port { 65535 ≤ slice_index st.old.maxes 1 }
     requires rows { AreRows st.old rows.now }
@@ -45,6 +49,8 @@ fn levels_from(
     ensures grows { Grows st.old st.new }
     ensures sets { SetsGrow ss.old ss.new }
     ensures ok { IfOk result (λ l. IsLevelled topo.now tag st.old rows.now st.new ss.new l.levels l.broken) }
+    ensures whole { IfOk result (λ l. l.broken ≡ false) }
+    ensures err { IfErr result (IsOffFault topo.now tag st.old rows.now) }
 {
     let off = off_edges(st, topo)?;
     let from = starts(st, topo, tag)?;
@@ -52,7 +58,21 @@ fn levels_from(
     let s = ss.intern(start_alone(st.alloc())?)?;
     st.laws();
     let lv = levels(st, ss, rows, s, from, &mut goal)?;
+    if lv.broken() {
+        st.laws();
+        let found = least_history(st, ss, rows, &lv, &mut goal)?;
+        return Err(off_edge(found));
+    }
     Ok(lv)
+}
+
+/// The refusal for a history that ends at no edge port.
+fn off_edge(found: Found) -> CompileError
+    ensures { result ≡ compile.Refused (refusal.OffEdge found.start found.history) }
+{
+    let start = found.start;
+    let history = found.history;
+    CompileError::Refused(Refusal::OffEdge { start, history })
 }
 
 /// The set of the start alone.
@@ -105,9 +125,6 @@ fn tables_from(
 {
     let mut ss = Sets::new(st.alloc());
     let lv = levels_from(st, &mut ss, topo, tag, rows)?;
-    if lv.broken {
-        return Err(CompileError::Refused(Refusal::OffEdge));
-    }
     ss.differ();
     st.laws();
     let tags = numbers(&ss, &lv, st.max(tag))?;

@@ -3,8 +3,9 @@ ghost use Rattle.std.specs.Prelude.{◌≡◌, ◌<◌, ◌∷◌, [], Some, Lis
 ghost use Rattle.std.specs.Map.{lookup};
 ghost use Rattle.nk_store.specs.Held.{Held, IsId, Grows, HasLeaves, look};
 ghost use Rattle.nk_algebra.specs.Unions.{AreIds};
+ghost use Rattle.nk_sets.specs.PacketSets.{IsSet};
 ghost use Rattle.nk_determ.specs.Targets.{retargeted};
-ghost use Rattle.nk_compile.specs.WrongEnds.{IsEndOf, AreEndsOf, HaveEndsOf, wrong_leaf, ends_on, wrong_on};
+ghost use Rattle.nk_compile.specs.WrongEnds.{IsEndOf, AreEndsOf, HaveEndsOf, wrong_leaf, ends_on, wrong_on, wrong_sided};
 
 use nk_algebra::{seq, union_all};
 use nk_determ::{SetId, Sets, retarget};
@@ -40,6 +41,8 @@ impl Goal for WrongEnds {
     ghost fits_on = { λ g old new fits grown. ends_on old new g.set g.rows g.ends fits grown };
 
     ghost bad_on = { λ g old new set pk fits grown places. wrong_on old new g.set g.rows g.ends set pk fits grown places };
+
+    ghost sided = { λ g st set pk o fits whole among. wrong_sided st g.set g.rows g.ends set pk o fits whole among };
 }
 
 /// The diagrams at these places.
@@ -65,7 +68,7 @@ fn end_at(ends: &[Id], place: u64) -> Id
 /// For each of the rows its ends in the set.
 pub fn wrong_ends(st: &mut Store, rows: &[Id], set: Id) -> Result<WrongEnds, AllocError>
     requires rows { AreIds st.old rows.now }
-    requires set { IsId st.old set }
+    requires set { IsSet st.old set }
     ensures grows { Grows st.old st.new }
     ensures rows { IfOk result (λ g. g.rows ≡ rows.now) }
     ensures set { IfOk result (λ g. g.set ≡ set) }
@@ -81,9 +84,10 @@ pub fn wrong_ends(st: &mut Store, rows: &[Id], set: Id) -> Result<WrongEnds, All
 }
 
 /// The diagram of each row's ends in the set.
+#[tactic(auto, using(nk_sets::proofs::SetLemmas::set_grows))]
 fn ends_of(st: &mut Store, rows: &[Id], set: Id) -> Result<List<Id>, AllocError>
     requires rows { AreIds st.old rows.now }
-    requires set { IsId st.old set }
+    requires set { IsSet st.old set }
     ensures grows { Grows st.old st.new }
     ensures ends { IfOk result (HaveEndsOf st.new set rows.now) }
 {

@@ -77,7 +77,7 @@ module _ (st : Held) (rows : List ℕ) (start : ℕ) (p : Policy) (a : IsAutomat
 
 module _ (old new : Held) (ss : List (List ℕ)) (rows : List ℕ) (set start : ℕ) (bad : List ℕ → List ℕ → List Out) (ls : List (List (ℕ × ℕ))) (p : Policy) (Wrong : Packet → Type 0) (a : IsAutomaton old rows 1 p) (d : HasDistinct p) (tidy : AreTidy old) (from : slice_index_or ss set [] ≡ 0 ∷ []) where
   -- the members of a set of a level are places among the rows
-  level_places : (broken : Bool) → AreLevels old new ss rows set start bad ls broken → (j : ℕ) (n : Node) → j < length ls
+  pub level_places : (broken : Bool) → AreLevels old new ss rows set start bad ls broken → (j : ℕ) (n : Node) → j < length ls
       → InLevel new ss ls j n → HavePlaces (length rows) n.0
   level_places broken levels j n lt level =
       let named = under_named new (slice_index_or ls j []) level.0 n.1 level.2 in
@@ -86,7 +86,7 @@ module _ (old new : Held) (ss : List (List ℕ)) (rows : List ℕ) (set start : 
       subst (λ s. HavePlaces (length rows) s) e q.1.places
 
   -- levels without a bad final have none at any level
-  never_bad : AreLevels old new ss rows set start bad ls false → (j : ℕ) (n : Node) → j < length ls → IsPacket old n.1
+  pub never_bad : AreLevels old new ss rows set start bad ls false → (j : ℕ) (n : Node) → j < length ls → IsPacket old n.1
       → InLevel new ss ls j n → Bad bad n → ⊥
   never_bad levels j n lt good level b =
       ⊎_elim

@@ -1,8 +1,10 @@
-mod Numbers
-mod Listings
+pub mod Numbers
+pub mod Listings
 pub mod Stands
-mod Steps
-mod Labelled
+pub mod Steps
+pub mod Labelled
 pub mod TagSets
 pub mod Ends
 pub mod Starts
+pub mod Walking
+pub mod Breaking

@@ -14,7 +14,7 @@ pub packet_back : (old new : Held) (pk : List ℕ) → Grows old new → IsPacke
 packet_back old new pk g h = subst (λ m. InRange m pk) g.maxes h
 
 -- a state stands
-state_on : (old new : Held) (d : ℕ) (p : Policy) → IsState old d p → Grows old new → IsState new d p
+pub state_on : (old new : Held) (d : ℕ) (p : Policy) → IsState old d p → Grows old new → IsState new d p
 state_on old new d p s g = record {
   id = g.ids d s.id;
   ends = λ pk y r.

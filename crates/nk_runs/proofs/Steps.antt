@@ -30,7 +30,7 @@ pub no_member : (s : List ℕ) (l : ℕ) → s ≡ [] → Contains s l → ⊥
 no_member s l e c = in_from_contains [] l (subst (λ z. Contains z l) e c)
 
 -- the only member of a list of one
-only_member : (l k : ℕ) → Contains (k ∷ []) l → l ≡ k
+pub only_member : (l k : ℕ) → Contains (k ∷ []) l → l ≡ k
 only_member l k c = ⊎_elim (λ e. e) (λ i. absurd i) (in_from_contains (k ∷ []) l c)
 
 -- all labels after some records, and that the last packet is in range where there are any
@@ -71,7 +71,7 @@ module _ (st : Held) (rows : List ℕ) (p : Policy) (a : IsAutomaton st rows 1 p
   )
 
   -- what the start records
-  start_leads : (pk y : Packet) → IsPacket st pk → (l : ℕ)
+  pub start_leads : (pk y : Packet) → IsPacket st pk → (l : ℕ)
       → ((0 < l) × RowLeads st rows (0 ∷ []) pk y l) ↔ RecordsAt p pk [] y l
   start_leads pk y r l = (
     λ h.
@@ -85,7 +85,7 @@ module _ (st : Held) (rows : List ℕ) (p : Policy) (a : IsAutomaton st rows 1 p
   )
 
   -- what the members of a set of dups record
-  members_lead : (s : List ℕ) (x y : Packet) → ((l : ℕ) → Contains s l → has_dup p l ≡ true) → IsPacket st x → (l' : ℕ)
+  pub members_lead : (s : List ℕ) (x y : Packet) → ((l : ℕ) → Contains s l → has_dup p l ≡ true) → IsPacket st x → (l' : ℕ)
       → ((0 < l') × RowLeads st rows s x y l') ↔ ((l : ℕ) × Contains s l × RecordsAt (after p l) x [] y l')
   members_lead s x y dups r l' = (
     λ h.
@@ -97,7 +97,7 @@ module _ (st : Held) (rows : List ℕ) (p : Policy) (a : IsAutomaton st rows 1 p
   )
 
   -- a packet that is led to is in range
-  led_in_range : (s : List ℕ) (x y : Packet) (l : ℕ) → IsPacket st x → RowLeads st rows s x y l → IsPacket st y
+  pub led_in_range : (s : List ℕ) (x y : Packet) (l : ℕ) → IsPacket st x → RowLeads st rows s x y l → IsPacket st y
   led_in_range s x y l r h = sent_in_range st (slice_index rows h.0) x y l tidy r h.2
 
   -- the first step

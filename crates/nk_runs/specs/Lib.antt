@@ -1,2 +1,3 @@
 pub mod Labels
 pub mod Wrong
+pub mod Walked

@@ -1,24 +1,29 @@
-//! Laws of levels over an automaton: label sets of runs, tag sets, and ends.
+//! Laws of levels over an automaton: label sets of runs, walks, tag sets, and ends.
 //!
 //! Each function is a theorem: it takes nothing, does nothing, and its contract is the statement. `IsAutomaton` says that
 //! rows are the automaton of a policy, `At` which set of labels is met at which packet by so many records, `AreLevels` what
 //! levels are; `AreTidy` and `Differ` are what a store and sets of labels always are.
-ghost use Rattle.std.specs.Prelude.{◌≡◌, true, false, ℕ, Bool, ◌↔◌, ◌∷◌, [], List, map, slice_index_or};
+ghost use Rattle.std.specs.Prelude.{◌≡◌, true, false, ℕ, Bool, ◌↔◌, ◌∷◌, [], List, length, map, slice_index_or};
 ghost use Rattle.nk_field.specs.declared.packet.Packet.{Packet};
+ghost use Rattle.nk_field.specs.Order.{Found};
 ghost use Rattle.nk_policy.specs.Policy.{Policy};
+ghost use Rattle.nk_policy.specs.Meaning.{Gives};
 ghost use Rattle.nk_policy.specs.Distinct.{HasDistinct};
 ghost use Rattle.nk_policy.specs.Leaves.{has_leaf, is_dup};
 ghost use Rattle.nk_policy.specs.Labels.{IsTagSet, AtLeast};
 ghost use Rattle.nk_policy.specs.Tags.{AreTags};
 ghost use Rattle.nk_store.specs.declared.node.Out.{Out};
-ghost use Rattle.nk_store.specs.Held.{Held, Grows, AreTidy};
+ghost use Rattle.nk_store.specs.Held.{Held, IsPacket, Grows, AreTidy};
 ghost use Rattle.nk_determ.specs.Sets.{Differ};
 ghost use Rattle.nk_auto.specs.Automaton.{IsAutomaton};
-ghost use Rattle.nk_reach.specs.Pairs.{Node, AreRows};
+ghost use Rattle.nk_determ.specs.States.{RowLeads};
+ghost use Rattle.nk_reach.specs.Pairs.{Node, AreRows, HavePlaces, IsStep};
 ghost use Rattle.nk_reach.specs.Levels.{At, AreLevels};
 ghost use Rattle.nk_tag.specs.Numbers.{IsAtOdd, AreNumbers};
 ghost use Rattle.nk_runs.specs.Labels.{IsAmong, IsLabelled, members};
-ghost use Rattle.nk_runs.specs.Wrong.{IsAlert, IsRight, HasWrongEnd};
+ghost use Rattle.nk_reach.specs.Breaks.{Walks, Breaks};
+ghost use Rattle.nk_runs.specs.Walked.{IsMetBehind};
+ghost use Rattle.nk_runs.specs.Wrong.{AreWrongEnds, HasWrongEnd};
 
 /// An automaton stands while the store grows, and its rows are rows of which levels can be made.
 pub fn automaton_stands()
@@ -68,13 +73,44 @@ pub fn ends_are_met()
     ensures none { (old new : Held) (ss : List (List ℕ)) (rows : List ℕ) (set start : ℕ)
         (bad : List ℕ → List ℕ → List Out) (ls : List (List (ℕ × ℕ))) (p : Policy) (wrong : Packet → Bool)
         → IsAutomaton old rows 1 p → HasDistinct p → AreTidy old
-        → slice_index_or ss set [] ≡ 0 ∷ [] → IsAlert old rows wrong bad
+        → slice_index_or ss set [] ≡ 0 ∷ [] → AreWrongEnds old rows wrong bad
         → AreLevels old new ss rows set start bad ls false
         → HasWrongEnd p (IsAmong old start) wrong → ⊥ }
     ensures some { (old new : Held) (ss : List (List ℕ)) (rows : List ℕ) (set start : ℕ)
         (bad : List ℕ → List ℕ → List Out) (ls : List (List (ℕ × ℕ))) (p : Policy) (wrong : Packet → Bool)
         → IsAutomaton old rows 1 p → HasDistinct p → AreTidy old
-        → slice_index_or ss set [] ≡ 0 ∷ [] → IsRight old rows wrong bad
+        → slice_index_or ss set [] ≡ 0 ∷ [] → AreWrongEnds old rows wrong bad
         → AreLevels old new ss rows set start bad ls true
         → HasWrongEnd p (IsAmong old start) wrong }
+{}
+
+/// Walks along set states from the start at a packet are runs from that packet: records are walked to a set exactly where it has
+/// all positions at which runs can be that have recorded exactly these packets, and the walk ends at the last of them.
+pub fn walks_are_runs()
+    ensures runs { (st : Held) (rows : List ℕ) (p : Policy) → IsAutomaton st rows 1 p → HasDistinct p → AreTidy st
+        → (pk : Packet) (u : List Packet) (n : Node) → IsPacket st pk
+        → Walks (IsStep st rows) (0 ∷ [], pk) u n ↔ IsMetBehind p pk u n }
+    ensures places { (st : Held) (rows : List ℕ) (p : Policy) → IsAutomaton st rows 1 p → HasDistinct p → AreTidy st
+        → (pk : Packet) (u : List Packet) (n : Node) → IsPacket st pk → Walks (IsStep st rows) (0 ∷ [], pk) u n
+        → IsPacket st n.1 × HavePlaces (length rows) n.0 }
+{}
+
+/// A policy's histories are the ends of walks: its records are walked, and it has the history exactly where some member of the
+/// set that is met behind them has a row that ends at the last packet.
+pub fn ends_are_histories()
+    ensures ends { (st : Held) (rows : List ℕ) (p : Policy) → IsAutomaton st rows 1 p → HasDistinct p → AreTidy st
+        → (pk : Packet) (u : List Packet) (n : Node) (last : Packet) → IsPacket st pk
+        → Walks (IsStep st rows) (0 ∷ [], pk) u n → Gives p pk u last ↔ RowLeads st rows n.0 n.1 last 0 }
+    ensures walked { (st : Held) (rows : List ℕ) (p : Policy) → IsAutomaton st rows 1 p → HasDistinct p → AreTidy st
+        → (pk : Packet) (u : List Packet) (last : Packet) → IsPacket st pk → Gives p pk u last
+        → (n : Node) × Walks (IsStep st rows) (0 ∷ [], pk) u n }
+{}
+
+/// Where bad finals are the wrong ends of members, a history breaks the goal exactly where it is the policy's, from a start
+/// packet, and ends wrongly.
+pub fn wrong_ends_break()
+    ensures { (st : Held) (rows : List ℕ) (start : ℕ) (bad : List ℕ → List ℕ → List Out) (p : Policy) (wrong : Packet → Bool)
+        → IsAutomaton st rows 1 p → HasDistinct p → AreTidy st → AreWrongEnds st rows wrong bad
+        → (f : Found) → Breaks st rows (0 ∷ []) start bad f
+        ↔ (IsAmong st start f.start × Gives p f.start f.records f.last × (wrong f.last ≡ true)) }
 {}

@@ -1,4 +1,4 @@
-use Rattle.nk_compile.proofs.EndLemmas.{ends_left, no_more_ends}
+use Rattle.nk_compile.proofs.EndLemmas.{ends_left}
 use Rattle.nk_compile.proofs.ends.+put_ends.Goals as goal
 
 pub put_all_ends-loop-q-preserved : goal.put_all_ends-loop-q-preserved

@@ -1,4 +1,4 @@
-use Rattle.std.proofs.Common.{ℕ, ◌≤◌, ◌<◌, ◌+◌, ◌∙◌, sym, subst, ap, refl, get_or, length, arith}
+use Rattle.std.proofs.Common.{◌≤◌, ◌∙◌, sym, subst, length, arith}
 use Rattle.nk_policy.specs.Tree.{tree_of}
 use Rattle.nk_tag.specs.Numbers.{AreNumbers}
 use Rattle.nk_compile.specs.Answers.{IsError}
@@ -7,7 +7,7 @@ use Rattle.nk_field.specs.Packet.{FieldTable}
 use Rattle.nk_store.proofs.InRange.{same_value, over_grown}
 use Rattle.nk_runs.proofs.Stands.{are_rows}
 use Rattle.nk_compile.proofs.Fitting.{places_high}
-use Rattle.nk_compile.proofs.Levelled.{off_edge, all_end, many_are_tags, entries_are, is_ready, are_made}
+use Rattle.nk_compile.proofs.Levelled.{least_off, all_end, many_are_tags, entries_are, is_ready, are_made}
 use Rattle.nk_compile.proofs.Making.{refused_with, off_error, many_error}
 use Rattle.nk_compile.proofs.tables.tables_from.Goals as goal
 
@@ -32,11 +32,14 @@ numbers-requires-clause-entries c =
     let l = c.in_ok-lv.ensures.ok in
     entries_are l.first c.levels_from.new.st c.levels_from.new.ss c.args.rows.now l.set l.start l.bad c.in_ok-lv.lv.levels c.in_ok-lv.lv.broken l.are
 
-pub returns-then-lv-clause-error : goal.returns-then-lv-clause-error
-returns-then-lv-clause-error c = λ fields b.
-    off_error fields c.args.topo.now c.args.tag (tree_of c.args.p.now) b.clear.tag_is b.seen
-    (off_edge fields c.args.topo.now c.args.tag (tree_of c.args.p.now) c.args.st.now c.args.rows.now c.levels_from.new.st c.levels_from.new.ss c.in_ok-lv.lv.levels c.in_ok-lv.lv.broken
-    b.clear b.over b.automaton c.in_ok-lv.ensures.ok c.if-lv.true)
+pub returns-in_err-lv-clause-error : goal.returns-in_err-lv-clause-error
+returns-in_err-lv-clause-error c =
+    refused_with c.from_residual.result c.in_err-lv.field-0.0
+    (λ e. (fields : FieldTable) → IsBegun fields c.args.topo.now c.args.tag (tree_of c.args.p.now) c.args.st.now c.args.rows.now → IsError fields c.args.topo.now (tree_of c.args.p.now) e)
+    c.from_residual.ensures.1
+    (λ fields b. off_error fields c.args.topo.now c.args.tag (tree_of c.args.p.now) b.clear.tag_is b.seen c.args.st.now c.args.rows.now c.in_err-lv.field-0.0
+    (λ f k. least_off fields c.args.topo.now c.args.tag (tree_of c.args.p.now) c.args.st.now c.args.rows.now b.clear b.over b.automaton f k)
+    c.in_err-lv.ensures.err)
 
 pub returns-in_err-tags-clause-error : goal.returns-in_err-tags-clause-error
 returns-in_err-tags-clause-error c =
@@ -45,10 +48,10 @@ returns-in_err-tags-clause-error c =
     c.from_residual-in_err-tags.ensures.1
     (λ fields b. many_error fields c.args.topo.now c.args.tag (tree_of c.args.p.now) b.clear.tag_is b.seen c.in_ok-lv.lv.levels c.max.result c.in_err-tags.field-0.0
     (all_end fields c.args.topo.now c.args.tag (tree_of c.args.p.now) c.args.st.now c.args.rows.now c.levels_from.new.st c.levels_from.new.ss c.in_ok-lv.lv.levels c.in_ok-lv.lv.broken
-    b.clear b.over b.automaton c.in_ok-lv.ensures.ok c.if-lv.false)
+    b.clear b.over b.automaton c.in_ok-lv.ensures.ok c.in_ok-lv.ensures.whole)
     (c.max.ensures ∙ same_value fields c.levels_from.new.st c.args.tag (over_grown fields c.args.st.now c.levels_from.new.st b.over c.levels_from.ensures.grows))
     (many_are_tags fields c.args.topo.now c.args.tag (tree_of c.args.p.now) c.args.st.now c.args.rows.now c.levels_from.new.st c.levels_from.new.ss c.in_ok-lv.lv.levels c.in_ok-lv.lv.broken
-    b.clear b.over b.automaton c.in_ok-lv.ensures.ok c.if-lv.false c.differ.ensures.differ)
+    b.clear b.over b.automaton c.in_ok-lv.ensures.ok c.in_ok-lv.ensures.whole c.differ.ensures.differ)
     c.in_err-tags.ensures.err)
 
 pub tag_tables-requires : goal.tag_tables-requires
@@ -61,7 +64,7 @@ tag_tables-requires c =
         c.args.tag,
         b.clear,
         is_ready fields c.args.topo.now c.args.tag (tree_of c.args.p.now) c.args.st.now c.args.rows.now c.levels_from.new.st c.levels_from.new.ss c.in_ok-lv.lv.levels c.in_ok-lv.lv.broken
-            b.clear b.over b.automaton c.in_ok-lv.ensures.ok c.if-lv.false c.differ.ensures.differ c.differ.ensures.ascend c.laws.ensures.fields c.as_slice.result.now
+            b.clear b.over b.automaton c.in_ok-lv.ensures.ok c.in_ok-lv.ensures.whole c.differ.ensures.differ c.differ.ensures.ascend c.laws.ensures.fields c.as_slice.result.now
             (subst (AreNumbers c.levels_from.new.ss c.in_ok-lv.lv.levels) (sym c.as_slice.ensures) c.in_ok-tags.ensures.ok),
       );
     }
@@ -70,8 +73,8 @@ pub returns-clause-made : goal.returns-clause-made
 returns-clause-made c = λ fields b.
     let numbers = subst (AreNumbers c.levels_from.new.ss c.in_ok-lv.lv.levels) (sym c.as_slice.ensures) c.in_ok-tags.ensures.ok in
     are_made fields c.args.topo.now c.args.tag (tree_of c.args.p.now) c.args.st.now c.args.rows.now c.levels_from.new.st c.levels_from.new.ss c.in_ok-lv.lv.levels c.in_ok-lv.lv.broken
-    b.clear b.over b.automaton c.in_ok-lv.ensures.ok c.if-lv.false c.differ.ensures.differ c.differ.ensures.ascend c.laws.ensures.fields c.as_slice.result.now numbers
+    b.clear b.over b.automaton c.in_ok-lv.ensures.ok c.in_ok-lv.ensures.whole c.differ.ensures.differ c.differ.ensures.ascend c.laws.ensures.fields c.as_slice.result.now numbers
     c.max.result (subst (λ l. length l ≤ c.max.result) (sym c.as_slice.ensures) c.in_ok-tags.ensures.few) (c.max.ensures ∙ same_value fields c.levels_from.new.st c.args.tag (over_grown fields c.args.st.now c.levels_from.new.st b.over c.levels_from.ensures.grows)) c.in_ok-tag_tables.field-0
     (c.in_ok-tag_tables.ensures fields c.args.tag b.clear
     (is_ready fields c.args.topo.now c.args.tag (tree_of c.args.p.now) c.args.st.now c.args.rows.now c.levels_from.new.st c.levels_from.new.ss c.in_ok-lv.lv.levels c.in_ok-lv.lv.broken
-    b.clear b.over b.automaton c.in_ok-lv.ensures.ok c.if-lv.false c.differ.ensures.differ c.differ.ensures.ascend c.laws.ensures.fields c.as_slice.result.now numbers))
+    b.clear b.over b.automaton c.in_ok-lv.ensures.ok c.in_ok-lv.ensures.whole c.differ.ensures.differ c.differ.ensures.ascend c.laws.ensures.fields c.as_slice.result.now numbers))

@@ -1,4 +1,4 @@
-use Rattle.std.proofs.Common.{◌≡◌, ℕ, ◌<◌, ◌∙◌, None, Some, List, sym, subst, ap, length, get_or}
+use Rattle.std.proofs.Common.{◌≡◌, ℕ, ◌<◌, ◌∙◌, None, sym, subst, ap, length, get_or}
 use Rattle.std.specs.Prelude.{All, map}
 use Rattle.std.proofs.lemmas.Result.{IfOk-weaker}
 use Rattle.nk_policy.specs.Tree.{tree_of}
@@ -8,7 +8,7 @@ use Rattle.nk_compile.specs.Comings.{HasComing}
 use Rattle.nk_compile.specs.WholeTable.{link_end}
 use Rattle.nk_compile.proofs.Reached.{same_some}
 use Rattle.nk_compile.proofs.Standing.{row_ids}
-use Rattle.nk_compile.proofs.TagTables.{tags_once, ready_frame, stop_is, tables_are}
+use Rattle.nk_compile.proofs.TagTables.{tags_once, stop_is, tables_are}
 use Rattle.nk_compile.proofs.tagging.tag_tables.Goals as goal
 
 -- where the links end
