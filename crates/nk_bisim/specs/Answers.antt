@@ -1,0 +1,33 @@
+-- What comparing two names answers.
+use Rattle.std.specs.Prelude.{◌≡◌, ℕ, ◌⊎◌, ⊤, Result, Ok, Err, Some, None, List}
+use Rattle.nk_field.specs.Packet.{FieldTable}
+use Rattle.nk_policy.specs.Policy.{Policy}
+use Rattle.nk_names.specs.declared.Program.{Program}
+use Rattle.nk_names.specs.Named.{policy_named}
+use Rattle.nk_witness.specs.Finds.{found_of}
+use Rattle.nk_witness.specs.declared.found.Side.{Side}
+use Rattle.nk_witness.specs.declared.found.Side.TheVariants.{Left, Right}
+use Rattle.nk_cert.specs.Equality.{on_left, on_right, AreSame, IsLeastDifference}
+use Rattle.nk_cert.specs.Equality.{Side as SideOfBoth}
+use Rattle.nk_bisim.specs.declared.answer.Compared.{Compared}
+use Rattle.nk_bisim.specs.declared.answer.Compared.TheVariants.{Same, Broken}
+use Rattle.nk_bisim.specs.declared.answer.CompareError.{CompareError}
+use Rattle.nk_bisim.specs.declared.answer.CompareError.TheVariants.{NoMemory, NoPolicy}
+
+-- whose history is found
+abbrev pub whose : Side → SideOfBoth
+whose Left = on_left
+whose Right = on_right
+
+-- both policies give the same histories on every packet; or what is found is the least history that one of them alone has,
+-- and the side is that one's
+abbrev pub IsComparison : FieldTable → Policy → Policy → Compared → Type 0
+IsComparison fields p q Same = AreSame fields p q
+IsComparison fields p q (Broken f) = IsLeastDifference fields p q (whose f.side) (found_of f)
+
+-- both names are policies', which compare so; or one of them is none; want of memory says nothing
+abbrev pub IsCompared : Program → List ℕ → List ℕ → Result Compared CompareError → Type 0
+IsCompared program left right (Ok r) =
+    (p : Policy) × (q : Policy) × (policy_named program left ≡ Some p) × (policy_named program right ≡ Some q) × IsComparison program.fields p q r
+IsCompared program left right (Err NoMemory) = ⊤
+IsCompared program left right (Err NoPolicy) = (policy_named program left ≡ None) ⊎ (policy_named program right ≡ None)

@@ -1,0 +1,8 @@
+//! Equality of two named policies of a program, with the least history of a difference.
+#![tactic(auto)]
+
+mod answer;
+mod comparison;
+
+pub use answer::{CompareError, Compared};
+pub use comparison::compare;

@@ -1,0 +1,16 @@
+pub mod Soundness
+pub mod Printing
+pub mod Together
+pub mod Findings
+pub mod Levels
+pub mod Rows
+pub mod FromLevels
+pub mod Deciding
+pub mod Worked
+pub mod Joining
+pub mod OneTree
+pub mod OneCertificate
+pub mod Breaking
+pub mod Sided
+pub mod Beside
+pub mod Named

@@ -1,0 +1,76 @@
+//! The levels of two policies together.
+ghost use Rattle.std.specs.Prelude.{◌≡◌, ◌<◌, ◌∷◌, [], IfOk, length};
+ghost use Rattle.nk_store.specs.Held.{IsId, Grows};
+ghost use Rattle.nk_determ.specs.Sets.{SetsGrow};
+ghost use Rattle.nk_reach.specs.Pairs.{AreRows};
+ghost use Rattle.nk_cert.specs.Levelled.{AreSideLevels};
+
+use crate::pairing::Both;
+use nk_algebra::identity;
+use nk_determ::Sets;
+use nk_field::List;
+use nk_reach::{Levels, OneSide, levels};
+use nk_store::{Id, Store};
+use std::alloc::{AllocError, Global};
+
+/// The levels of two policies together, and the goal that they go up to.
+#[derive(Drop)]
+pub struct LevelsOfBoth {
+    /// The levels; they are broken where they end with a level at which one policy alone ends.
+    pub levels: Levels,
+    /// The goal: ends of one policy alone.
+    pub goal: OneSide,
+}
+
+/// The levels of an automaton of two policies from all packets, up to an end of one of them alone. Labels below `bound` are
+/// the left policy's, the others the right one's. The only error is that memory ran out.
+pub fn levels_of_both(
+    st: &mut Store,
+    ss: &mut Sets,
+    both: &Both,
+    bound: usize,
+) -> Result<LevelsOfBoth, AllocError>
+    requires rows { AreRows st.old both.now.rows }
+    requires start { 0 < length both.now.rows }
+    requires left { IsId st.old both.now.left }
+    requires right { IsId st.old both.now.right }
+    ensures grows { Grows st.old st.new }
+    ensures sets { SetsGrow ss.old ss.new }
+    ensures ok { IfOk result (λ l. AreSideLevels st.old both.now.rows both.now.left both.now.right bound st.new ss.new l.goal.ends l.levels.levels l.levels.broken) }
+{
+    levels_of_rows(st, ss, both.rows.as_slice(), both.left, both.right, bound)
+}
+
+/// The same by rows, and the diagrams of both starts.
+fn levels_of_rows(
+    st: &mut Store,
+    ss: &mut Sets,
+    rows: &[Id],
+    left: Id,
+    right: Id,
+    bound: usize,
+) -> Result<LevelsOfBoth, AllocError>
+    requires rows { AreRows st.old rows.now }
+    requires start { 0 < length rows.now }
+    requires left { IsId st.old left }
+    requires right { IsId st.old right }
+    ensures grows { Grows st.old st.new }
+    ensures sets { SetsGrow ss.old ss.new }
+    ensures ok { IfOk result (λ l. AreSideLevels st.old rows.now left right bound st.new ss.new l.goal.ends l.levels.levels l.levels.broken) }
+{
+    let mut goal = OneSide::new(st, rows, left, right, bound)?;
+    let from = identity(st)?;
+    let s = ss.intern(start_alone(st.alloc())?)?;
+    st.laws();
+    let lv = levels(st, ss, rows, s, from, &mut goal)?;
+    Ok(LevelsOfBoth { levels: lv, goal })
+}
+
+/// The set of the start alone.
+fn start_alone(alloc: Global) -> Result<List<u64>, AllocError>
+    ensures { IfOk result (λ ls. ls ≡ 0 ∷ []) }
+{
+    let mut ls = List::new(alloc);
+    ls.push(0)?;
+    Ok(ls)
+}

@@ -1,0 +1,89 @@
+//! Texts of random policies over two fields of two values.
+use std::alloc::{AllocError, Global};
+
+/// Numbers drawn one after the other: each is 48271 times the one before, modulo 2147483647.
+#[derive(Drop)]
+pub struct Draws {
+    last: u64,
+}
+
+impl Draws {
+    /// The numbers behind this one.
+    pub fn new(last: u64) -> Draws {
+        Draws { last }
+    }
+
+    /// A number below `bound`.
+    fn below(&mut self, bound: u64) -> u64 {
+        self.last = (self.last % 2_147_483_647) * 48271 % 2_147_483_647;
+        self.last % bound.max(1)
+    }
+}
+
+/// The tests.
+const TESTS: [&[u8]; 6] = [b"a=0", b"a=1", b"b=0", b"b=1", b"~(a=1;b=0)", b"~a=0 + b=1"];
+
+/// The assignments.
+const DEEDS: [&[u8]; 4] = [b"a:=0", b"a:=1", b"b:=0", b"b:=1"];
+
+/// One of the texts.
+fn one_of<'a>(texts: &[&'a [u8]], draws: &mut Draws) -> &'a [u8] {
+    match texts.get(draws.below(texts.len() as u64) as usize) {
+        Some(text) => text,
+        None => b"id",
+    }
+}
+
+/// One of the policies, or `dup` where there is none.
+fn one_before<'a>(texts: &'a [Vec<u8>], draws: &mut Draws) -> &'a [u8] {
+    match texts.get(draws.below(texts.len() as u64) as usize) {
+        Some(text) => text.as_slice(),
+        None => b"dup",
+    }
+}
+
+/// Two of the policies in parentheses, with a sign between them.
+fn put_two(
+    text: &mut Vec<u8>,
+    texts: &[Vec<u8>],
+    sign: &[u8],
+    draws: &mut Draws,
+) -> Result<(), AllocError> {
+    text.extend_from_slice(b"(")?;
+    text.extend_from_slice(one_before(texts, draws))?;
+    text.extend_from_slice(sign)?;
+    text.extend_from_slice(one_before(texts, draws))?;
+    text.extend_from_slice(b")")
+}
+
+/// A policy: a dup, a test, an assignment, or one that is made of those before it.
+fn next_policy(alloc: Global, texts: &[Vec<u8>], draws: &mut Draws) -> Result<Vec<u8>, AllocError> {
+    let mut text = Vec::new(alloc);
+    match draws.below(8) {
+        0 | 1 => put_two(&mut text, texts, b" + ", draws)?,
+        2 | 3 => put_two(&mut text, texts, b";", draws)?,
+        4 => {
+            text.extend_from_slice(b"(")?;
+            text.extend_from_slice(one_before(texts, draws))?;
+            text.extend_from_slice(b")*")?;
+        }
+        5 => {
+            text.extend_from_slice(b"(")?;
+            text.extend_from_slice(one_of(&TESTS, draws))?;
+            text.extend_from_slice(b")")?;
+        }
+        6 => text.extend_from_slice(one_of(&DEEDS, draws))?,
+        _ => text.extend_from_slice(b"dup")?,
+    }
+    Ok(text)
+}
+
+/// Policies, each made of those before it.
+pub fn policies(alloc: Global, count: u32, draws: &mut Draws) -> Result<Vec<Vec<u8>>, AllocError> {
+    let mut texts = Vec::new(alloc);
+    for _ in 0..count {
+        let text = next_policy(alloc, &texts, draws)?;
+        texts.push(text)?;
+    }
+    Ok(texts)
+}

@@ -1,0 +1,66 @@
+//! The program of a text, and what comparing two of its names answers.
+ghost use Rattle.std.specs.Prelude.{◌≤◌, All, IsUtf8};
+ghost use Rattle.nk_lex.specs.Lex.{largest};
+
+use nk_bisim::{CompareError, Compared, compare};
+use nk_field::{Fields, history_text, packet_text};
+use nk_grammar::file;
+use nk_lex::{Token, tokens};
+use nk_names::reading::program;
+use nk_names::{NamesError, Program};
+use nk_witness::{Found, Side};
+use std::alloc::{AllocError, Global};
+use std::test::Fail;
+
+/// The program of the tokens of a text.
+fn declared_by(alloc: Global, tokens: &[Token]) -> Result<Program, NamesError>
+    requires texts { All (λ t. IsUtf8 t.text) tokens.now }
+    requires small { All (λ t. t.value ≤ largest) tokens.now }
+{
+    match file(alloc, tokens) {
+        Ok(file) => program(alloc, &file),
+        Err(_) => Err(NamesError::NoMemory),
+    }
+}
+
+/// The program of a text; a text that is none counts as want of memory.
+pub fn declared(alloc: Global, text: &[u8]) -> Result<Program, NamesError> {
+    match tokens(alloc, text) {
+        Ok(tokens) => declared_by(alloc, &tokens),
+        Err(_) => Err(NamesError::NoMemory),
+    }
+}
+
+/// What is found, in words.
+fn found_text(alloc: Global, fields: &Fields, f: &Found) -> Result<Vec<u8>, AllocError> {
+    let mut text = Vec::new(alloc);
+    text.extend_from_slice(match f.side {
+        Side::Left => b"left alone, start ",
+        Side::Right => b"right alone, start ",
+    })?;
+    text.extend_from_slice(packet_text(alloc, fields, &f.start, true)?.as_slice())?;
+    text.extend_from_slice(b", history ")?;
+    text.extend_from_slice(history_text(alloc, fields, &f.history, true)?.as_slice())?;
+    Ok(text)
+}
+
+/// What comparing two names of a program answers, in words.
+pub fn told(
+    alloc: Global,
+    program: &Program,
+    left: &str,
+    right: &str,
+) -> Result<Vec<u8>, AllocError> {
+    match compare(alloc, program, left, right) {
+        Ok(Compared::Same) => Vec::from_slice(alloc, b"same"),
+        Ok(Compared::Broken(f)) => found_text(alloc, &program.fields, &f),
+        Err(CompareError::NoPolicy) => Vec::from_slice(alloc, b"no policy"),
+        Err(CompareError::NoMemory) => Err(AllocError),
+    }
+}
+
+/// Whether comparing `l` and `r` of a text answers this.
+pub fn tells(alloc: Global, text: &[u8], wanted: &[u8]) -> Result<bool, Fail> {
+    let program = declared(alloc, text)?;
+    Ok(told(alloc, &program, "l", "r")?.as_slice() == wanted)
+}

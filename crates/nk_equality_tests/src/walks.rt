@@ -1,0 +1,76 @@
+//! Random pairs of policies, against all their histories of up to four records.
+
+use crate::draws::{Draws, policies};
+use crate::enumerated::{Difference, RECORDS, least_difference};
+use crate::programs::declared;
+use nk_bisim::{Compared, compare};
+use nk_names::Program;
+use nk_policy::Pol;
+use nk_witness::{Found, Side};
+use std::alloc::{AllocError, Global};
+use std::test::Fail;
+
+/// The program with two policies, and one that is the first of them in other words.
+fn program_text(alloc: Global, left: &[u8], right: &[u8]) -> Result<Vec<u8>, AllocError> {
+    let mut text = Vec::from_slice(alloc, b"field a 1 field b 1\nlet l = ")?;
+    text.extend_from_slice(left)?;
+    text.extend_from_slice(b"\nlet r = ")?;
+    text.extend_from_slice(right)?;
+    text.extend_from_slice(b"\nlet s = (id + drop);l;(a=0 + ~a=0) + l\n")?;
+    Ok(text)
+}
+
+/// Whether what is found is this difference.
+fn is_found(f: &Found, d: &Difference) -> bool {
+    f.start == d.start && f.history == d.history && (f.side == Side::Left) == d.is_left
+}
+
+/// Whether the answer is what all histories of so many records say.
+fn is_as_enumerated(answer: &Compared, least: &Option<Difference>) -> bool {
+    match (answer, least) {
+        (Compared::Same, None) => true,
+        (Compared::Same, Some(_)) => false,
+        (Compared::Broken(f), Some(d)) => is_found(f, d),
+        (Compared::Broken(f), None) => f.history.records.len() > RECORDS,
+    }
+}
+
+/// Whether the answer for two named policies of a program is what their histories say.
+fn agree(alloc: Global, program: &Program, p: &Pol, q: &Pol, right: &str) -> Result<bool, Fail> {
+    let answer = compare(alloc, program, "l", right)?;
+    let least = least_difference(alloc, p, q)?;
+    Ok(is_as_enumerated(&answer, &least))
+}
+
+/// Whether the answers for two policies, and for the first one in other words, are what their histories say.
+fn agree_on(alloc: Global, left: &[u8], right: &[u8]) -> Result<bool, Fail> {
+    let text = program_text(alloc, left, right)?;
+    let program = declared(alloc, text.as_slice())?;
+    let (Some(l), Some(r), Some(s)) = (program.find("l"), program.find("r"), program.find("s"))
+    else {
+        return Ok(false);
+    };
+    Ok(agree(alloc, &program, l, r, "r")? && agree(alloc, &program, l, s, "s")?)
+}
+
+/// Whether that holds of the random policies of a seed, each beside the next one.
+fn all_agree(alloc: Global, seed: u64) -> Result<bool, Fail> {
+    let mut draws = Draws::new(seed);
+    let texts = policies(alloc, 12, &mut draws)?;
+    let texts = texts.as_slice();
+    for i in 1..texts.len() {
+        if !agree_on(alloc, texts[i - 1].as_slice(), texts[i].as_slice())? {
+            return Ok(false);
+        }
+    }
+    Ok(true)
+}
+
+/// The answers for random policies are what their histories say.
+#[test]
+fn random_pairs(rt: HostRuntime) -> Result<(), Fail> {
+    for seed in 1..=10 {
+        assert!(rt; all_agree(rt.alloc(), seed)?, "seed {seed}");
+    }
+    Ok(())
+}
