@@ -1,0 +1,9 @@
+pub mod Clauses
+pub mod Draws
+pub mod Once
+pub mod Owing
+pub mod Pairs
+pub mod Reached
+pub mod Schedules
+pub mod Steps
+pub mod Trails

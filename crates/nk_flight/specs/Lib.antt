@@ -1,0 +1,5 @@
+pub mod Draws
+pub mod Flights
+pub mod Once
+pub mod Owed
+pub mod Trails

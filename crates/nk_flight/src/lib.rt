@@ -1,0 +1,12 @@
+//! Many packets in flight at once: the caller says which packet comes in and which copy its switch handles next.
+#![tactic(auto)]
+
+mod copies;
+mod drawn;
+mod flight;
+mod hops;
+pub mod laws;
+
+pub use copies::{Flying, Left};
+pub use drawn::fly;
+pub use flight::Flight;
