@@ -6,7 +6,7 @@ use Rattle.nk_words.specs.declared.words.Command.{Command}
 use Rattle.nk_words.specs.Words.{command_of}
 use Rattle.nk.specs.declared.status.Status.{Status}
 use Rattle.nk.specs.declared.status.Status.TheVariants.{ReadFault, WriteFault, NoMemory}
-use Rattle.nk.specs.Compiling.{Outcome, done, differs, text_refused, policy_refused}
+use Rattle.nk.specs.Outcome.{Outcome, done, differs, text_refused, policy_refused}
 use Rattle.nk.specs.Answer.{Answer, IsOutcome, IsOutcomeOf, answer_of, limit, too_long}
 use Rattle.nk.specs.Use.{FailedAt, HasRisen, IsUntouched, Use}
 use Rattle.nk.specs.Ends.{Ends, IsCauseTo, IsCaused, IsComplete, IsFixedBy, IsRead, IsSent}

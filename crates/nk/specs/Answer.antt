@@ -5,8 +5,11 @@ use Rattle.nk.specs.declared.status.Status.{Status}
 use Rattle.nk.specs.declared.status.Status.TheVariants.{Done, Differs, Usage, Text, Refused}
 use Rattle.nk.specs.declared.status.Status.TheVariants.{ReadFault, NoMemory, TooLong}
 use Rattle.nk_words.specs.declared.words.Command.{Command}
-use Rattle.nk_words.specs.declared.words.Command.TheVariants.{Compile, Trace}
-use Rattle.nk.specs.Compiling.{Outcome, done, differs, text_refused, policy_refused, IsCompileAnswer}
+use Rattle.nk_words.specs.declared.words.Command.TheVariants.{Compile, Trace, Equal, Fly}
+use Rattle.nk.specs.Outcome.{Outcome, done, differs, text_refused, policy_refused}
+use Rattle.nk.specs.Compiling.{IsCompileAnswer}
+use Rattle.nk.specs.Comparing.{IsEqualAnswer}
+use Rattle.nk.specs.Flying.{IsFlyAnswer}
 use Rattle.nk.specs.Tracing.{IsTraceAnswer}
 
 -- a status and its text
@@ -50,6 +53,8 @@ answer_of (policy_refused text) = answer Refused text
 abbrev pub IsOutcome : Command → List ℕ → Outcome → Type 0
 IsOutcome (Compile name) bytes outcome = IsCompileAnswer name bytes outcome
 IsOutcome (Trace hops packet) bytes outcome = IsTraceAnswer hops packet bytes outcome
+IsOutcome (Equal left right) bytes outcome = IsEqualAnswer left right bytes outcome
+IsOutcome (Fly seed steps packet) bytes outcome = IsFlyAnswer seed steps packet bytes outcome
 
 -- the answer is one that the command has to the input
 abbrev pub IsOutcomeOf : Command → List ℕ → Answer → Type 0

@@ -7,7 +7,7 @@ use Rattle.nk_words.specs.declared.words.Command.{Command}
 use Rattle.nk.specs.declared.status.Status.{Status}
 use Rattle.nk.specs.declared.status.Status.TheVariants.{Done, Differs, Usage, Text, Refused}
 use Rattle.nk.specs.declared.status.Status.TheVariants.{ReadFault, WriteFault, NoMemory, TooLong}
-use Rattle.nk.specs.Compiling.{Outcome, done, differs, text_refused, policy_refused}
+use Rattle.nk.specs.Outcome.{Outcome, done, differs, text_refused, policy_refused}
 use Rattle.nk.specs.Answer.{Answer, IsAnswerTo, IsOutcome, answer_of, goes_out, limit}
 use Rattle.nk.specs.Answer.{no_memory, read_fault, too_long, usage}
 use Rattle.nk.specs.Use.{FailedAt, HadLeft, HasRisen, IsQuiet, IsUntouched, Took, Use}

@@ -1,9 +1,13 @@
--- What is said of a text or a policy that is refused: one line each.
-use Rattle.std.specs.Prelude.{ℕ, List, ◌++◌, codes, decimal}
+-- What is said of a text or a policy that is refused.
+use Rattle.std.specs.Prelude.{ℕ, List, true, ◌++◌, codes, decimal}
+use Rattle.nk_field.specs.Packet.{FieldTable}
+use Rattle.nk_field.specs.Order.{Found}
+use Rattle.nk_field.specs.Texts.{history_bytes, packet_bytes}
 use Rattle.nk_names.specs.declared.fault.FaultKind.{FaultKind}
 use Rattle.nk_names.specs.declared.fault.FaultKind.TheVariants as kind
 use Rattle.nk_compile.specs.declared.refusal.Refusal.{Refusal}
 use Rattle.nk_compile.specs.declared.refusal.Refusal.TheVariants as refusal
+use Rattle.nk_compile.specs.Refusals.{found_from}
 
 -- the line of a text's fault
 abbrev pub fault_line : ℕ → List ℕ → List ℕ
@@ -28,13 +32,20 @@ fault_words kind.NotAPredicate = codes "not a predicate"
 fault_words kind.TooDeep = codes "too deep"
 fault_words kind.TooLarge = codes "too large"
 
--- the line of a policy's refusal
-abbrev pub refusal_line : Refusal → List ℕ
-refusal_line refusal.NoPolicy = codes "refused C1: no policy\n"
-refusal_line refusal.NoTag = codes "refused C2: no tag\n"
-refusal_line refusal.TagUsed = codes "refused C3: tag used\n"
-refusal_line refusal.LooseDup = codes "refused C4: loose dup\n"
-refusal_line refusal.SwitchSet = codes "refused C5: switch set\n"
-refusal_line refusal.NoSuchLink = codes "refused C6: no such link\n"
-refusal_line refusal.OffEdge = codes "refused C7: off edge\n"
-refusal_line (refusal.TooManyTags found) = codes "refused C8: too many tags, found " ++ decimal found ++ codes "\n"
+-- the packet that a history starts at and the history, with every field
+abbrev pub found_lines : FieldTable → Found → List ℕ
+found_lines fields f =
+    codes "start " ++ packet_bytes fields true f.start ++ codes "\nhistory "
+    ++ history_bytes fields true (record { records = f.records; last = f.last }) ++ codes "\n"
+
+-- what is said of a policy that is refused
+abbrev pub refusal_line : FieldTable → Refusal → List ℕ
+refusal_line fields refusal.NoPolicy = codes "refused C1: no policy\n"
+refusal_line fields refusal.NoTag = codes "refused C2: no tag\n"
+refusal_line fields refusal.TagUsed = codes "refused C3: tag used\n"
+refusal_line fields refusal.LooseDup = codes "refused C4: loose dup\n"
+refusal_line fields refusal.SwitchSet = codes "refused C5: switch set\n"
+refusal_line fields refusal.NoSuchLink = codes "refused C6: no such link\n"
+refusal_line fields (refusal.OffEdge start history) =
+    codes "refused C7: off edge\n" ++ found_lines fields (found_from start history)
+refusal_line fields (refusal.TooManyTags found) = codes "refused C8: too many tags, found " ++ decimal found ++ codes "\n"

@@ -7,7 +7,7 @@ use Rattle.nk.specs.declared.reply.Reply.{Reply}
 use Rattle.nk.specs.declared.reply.Reply.TheVariants as reply
 use Rattle.nk.specs.declared.reply.Said.{Said}
 use Rattle.nk.specs.declared.reply.Said.TheVariants as is_said
-use Rattle.nk.specs.Compiling.{Outcome, done, differs, text_refused, policy_refused}
+use Rattle.nk.specs.Outcome.{Outcome, done, differs, text_refused, policy_refused}
 use Rattle.nk.specs.Answer.{Answer, IsOutcome, answer_of, no_memory, read_fault, too_long, usage}
 use Rattle.nk.specs.Use.{FailedAt, Took, Use}
 

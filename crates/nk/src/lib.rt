@@ -1,8 +1,12 @@
 //! The commands over bytes: what is read, what is answered, and how a run ends.
 #![tactic(auto)]
 
+mod comparing;
 mod compiling;
+mod flying;
+mod following;
 mod messages;
+mod program_text;
 mod reply;
 mod status;
 mod top;

@@ -1,17 +1,23 @@
 //! The messages for texts and policies that are refused.
-ghost use Rattle.std.specs.Prelude.{◌≡◌, ◌++◌, IfOk, codes, decimal};
-ghost use Rattle.nk.specs.Compiling.{text_refused};
-ghost use Rattle.nk.specs.Messages.{fault_line, fault_words, refusal_line};
+ghost use Rattle.std.specs.Prelude.{◌≡◌, ◌++◌, IfOk, OnOk, codes, decimal};
+ghost use Rattle.nk_bisim.specs.Answers.{whose};
+ghost use Rattle.nk_compile.specs.Refusals.{found_from};
+ghost use Rattle.nk_witness.specs.Finds.{found_of};
+ghost use Rattle.nk.specs.Comparing.{difference_lines, side_line};
+ghost use Rattle.nk.specs.Outcome.{text_refused};
+ghost use Rattle.nk.specs.Messages.{fault_line, fault_words, found_lines, refusal_line};
 ghost use Rattle.nk.specs.Reply.{said};
 
 use crate::Said;
 use itoa::Buffer;
 use nk_compile::Refusal;
+use nk_field::{Fields, History, Packet, history_text, packet_text};
 use nk_names::FaultKind;
+use nk_witness::{Found, Side};
 use std::alloc::{AllocError, Global};
 
 /// `line N: WORDS` with a line feed.
-fn fault_message(alloc: Global, line: u64, words: &str) -> Result<Vec<u8>, AllocError>
+pub(crate) fn fault_message(alloc: Global, line: u64, words: &str) -> Result<Vec<u8>, AllocError>
     ensures { IfOk result (λ v. v.items ≡ fault_line line words.now) }
 {
     let mut buffer = Buffer::new();
@@ -60,9 +66,46 @@ fn tags_message(alloc: Global, found: u64) -> Result<Vec<u8>, AllocError>
     Ok(message)
 }
 
-/// The message for a policy that is refused, with its line feed.
-pub(crate) fn refusal_message(alloc: Global, reason: Refusal) -> Result<Vec<u8>, AllocError>
-    ensures { IfOk result (λ v. v.items ≡ refusal_line reason) }
+/// Appends a packet and a history from it, with every field, each on a line of its own.
+fn push_found(
+    alloc: Global,
+    out: &mut Vec<u8>,
+    fields: &Fields,
+    start: &Packet,
+    history: &History,
+) -> Result<(), AllocError>
+    ensures { OnOk result (out.new.items ≡ out.old.items ++ found_lines fields.now (found_from start.now history.now)) }
+{
+    let packet = packet_text(alloc, fields, start, true)?;
+    let packets = history_text(alloc, fields, history, true)?;
+    out.extend_from_slice(b"start ")?;
+    out.extend_from_slice(&packet)?;
+    out.extend_from_slice(b"\nhistory ")?;
+    out.extend_from_slice(&packets)?;
+    out.extend_from_slice(b"\n")
+}
+
+/// The message for a policy with a history that ends off each edge port.
+fn off_edge_message(
+    alloc: Global,
+    fields: &Fields,
+    start: &Packet,
+    history: &History,
+) -> Result<Vec<u8>, AllocError>
+    ensures { IfOk result (λ v. v.items ≡ codes "refused C7: off edge\n" ++ found_lines fields.now (found_from start.now history.now)) }
+{
+    let mut message = Vec::from_slice(alloc, b"refused C7: off edge\n")?;
+    push_found(alloc, &mut message, fields, start, history)?;
+    Ok(message)
+}
+
+/// The message for a policy that is refused, over these fields; each line has its line feed.
+pub(crate) fn refusal_message(
+    alloc: Global,
+    fields: &Fields,
+    reason: &Refusal,
+) -> Result<Vec<u8>, AllocError>
+    ensures { IfOk result (λ v. v.items ≡ refusal_line fields.now reason.now) }
 {
     let message: &[u8] = match reason {
         Refusal::NoPolicy => b"refused C1: no policy\n",
@@ -71,10 +114,36 @@ pub(crate) fn refusal_message(alloc: Global, reason: Refusal) -> Result<Vec<u8>,
         Refusal::LooseDup => b"refused C4: loose dup\n",
         Refusal::SwitchSet => b"refused C5: switch set\n",
         Refusal::NoSuchLink => b"refused C6: no such link\n",
-        Refusal::OffEdge => b"refused C7: off edge\n",
-        Refusal::TooManyTags { found } => return tags_message(alloc, found),
+        Refusal::OffEdge { start, history } => {
+            return off_edge_message(alloc, fields, start, history);
+        }
+        Refusal::TooManyTags { found } => return tags_message(alloc, *found),
     };
     Vec::from_slice(alloc, message)
+}
+
+/// What is said of a history that one of two policies alone has.
+pub(crate) fn difference_message(
+    alloc: Global,
+    fields: &Fields,
+    found: &Found,
+) -> Result<Vec<u8>, AllocError>
+    ensures { IfOk result (λ v. v.items ≡ difference_lines fields.now (whose found.now.side) (found_of found.now)) }
+{
+    let mut message = Vec::from_slice(alloc, b"different\n")?;
+    message.extend_from_slice(side_words(found.side))?;
+    push_found(alloc, &mut message, fields, &found.start, &found.history)?;
+    Ok(message)
+}
+
+/// Which policy alone has a history.
+fn side_words(side: Side) -> &'static [u8]
+    ensures { result.now ≡ side_line (whose side) }
+{
+    match side {
+        Side::Left => b"left alone\n",
+        Side::Right => b"right alone\n",
+    }
 }
 
 /// The fault of a text.

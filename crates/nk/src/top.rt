@@ -8,7 +8,9 @@ ghost use Rattle.nk.specs.Ends.{LeavesAlone, TellsFaults};
 ghost use Rattle.nk.specs.Reply.{answer_in, said, IsReplyTo};
 
 use crate::Status;
+use crate::comparing::equal_answer;
 use crate::compiling::compile_answer;
+use crate::flying::fly_answer;
 use crate::reply::{Reply, Said, deliver};
 use crate::tracing::trace_answer;
 use nk_io::{ReadError, Sink, Source, read_all};
@@ -102,5 +104,9 @@ fn perform(alloc: Global, command: &Command, bytes: &[u8]) -> Result<Said, Alloc
     match command {
         Command::Compile(name) => compile_answer(alloc, name.as_str(), bytes),
         Command::Trace(hops, packet) => trace_answer(alloc, *hops, packet.as_str(), bytes),
+        Command::Fly(seed, steps, packet) => {
+            fly_answer(alloc, *seed, *steps, packet.as_str(), bytes)
+        }
+        Command::Equal(left, right) => equal_answer(alloc, left.as_str(), right.as_str(), bytes),
     }
 }

@@ -1,6 +1,8 @@
 //! Runs in memory.
+mod compared;
 mod compiled;
 mod cut;
+mod flown;
 mod limits;
 mod networks;
 mod random;
@@ -28,7 +30,7 @@ fn done(alloc: Global, words: &[&str], input: &[u8]) -> Result<(Status, MemSink,
     let words = texts_of(alloc, words)?;
     let mut source = PlainSource::new(Vec::from_slice(alloc, input)?);
     let mut out = MemSink::new(alloc, 1 << 20, 1 << 16, Vec::new(alloc))?;
-    let mut err = MemSink::new(alloc, 100, 100, Vec::new(alloc))?;
+    let mut err = MemSink::new(alloc, 1000, 1000, Vec::new(alloc))?;
     let status = run(alloc, &words, &mut source, &mut out, &mut err);
     Ok((status, out, err))
 }
@@ -106,6 +108,52 @@ fn comes_true(alloc: Global, case: &Case) -> Result<bool, Fail> {
             && err.taken() == case.err
             && calls == case.calls,
     )
+}
+
+/// Whether, where each call of the source fails once and each of `out` once, it is told and nothing else is written, and a
+/// sink keeps whole pieces of the answer.
+fn fails_at_each_call(
+    alloc: Global,
+    words: &[&str],
+    input: &[u8],
+    answer: &[u8],
+) -> Result<bool, Fail> {
+    let reads = input.len().div_ceil(16) as u64 + 1;
+    for call in 1..=reads {
+        let case = Case {
+            words,
+            input,
+            source_fails: &[call],
+            out_fails: &[1],
+            err_fails: &[],
+            status: Status::ReadFault,
+            out: b"",
+            err: b"read fault\n",
+            calls: (call, 0, 2),
+        };
+        if !comes_true(alloc, &case)? {
+            return Ok(false);
+        }
+    }
+    let writes = answer.len().div_ceil(10) as u64;
+    for call in 1..=writes {
+        let kept = (10 * (call - 1)) as usize;
+        let case = Case {
+            words,
+            input,
+            source_fails: &[],
+            out_fails: &[call],
+            err_fails: &[1],
+            status: Status::WriteFault,
+            out: answer.get(..kept).unwrap_or(answer),
+            err: b"",
+            calls: (reads, call, 0),
+        };
+        if !comes_true(alloc, &case)? {
+            return Ok(false);
+        }
+    }
+    Ok(true)
 }
 
 /// A policy text of more than three pieces.

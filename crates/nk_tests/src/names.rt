@@ -21,6 +21,7 @@ fn no_declaration_makes_a_program(rt: HostRuntime) -> Result<(), Fail> {
 fn without_declarations(alloc: Global) -> Result<Program, NamesError> {
     let file = File {
         decls: List::from_vec(Vec::new(alloc)),
+        rows: List::from_vec(Vec::new(alloc)),
     };
     program(alloc, &file)
 }

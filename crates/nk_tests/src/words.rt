@@ -3,7 +3,8 @@ use nk_words::{Command, WordsError, read_words};
 use std::alloc::Global;
 use std::test::Fail;
 
-/// What the words give: a command's number and its text, or nothing where they give no command. `compile` has 0.
+/// What the words give: the command's first number, and its last text; nothing where they give no command. Where a command
+/// has no number, 0 stands for it.
 fn command_in(alloc: Global, words: &[&str]) -> Result<Option<(u64, String)>, Fail> {
     let mut given = Vec::new(alloc);
     for word in words {
@@ -15,6 +16,10 @@ fn command_in(alloc: Global, words: &[&str]) -> Result<Option<(u64, String)>, Fa
             hops,
             String::from_str(alloc, packet.as_str())?,
         ))),
+        Ok(Command::Equal(_, right)) => Ok(Some((0, String::from_str(alloc, right.as_str())?))),
+        Ok(Command::Fly(seed, _, packet)) => {
+            Ok(Some((seed, String::from_str(alloc, packet.as_str())?)))
+        }
         Err(WordsError::Usage) => Ok(None),
         Err(error) => Err(error.into()),
     }
@@ -22,12 +27,18 @@ fn command_in(alloc: Global, words: &[&str]) -> Result<Option<(u64, String)>, Fa
 
 #[test]
 fn words_that_give_a_command(rt: HostRuntime) -> Result<(), Fail> {
-    let table: [(&[&str], u64, &str); 5] = [
+    let table: [(&[&str], u64, &str); 7] = [
         (&["compile", "p"], 0, "p"),
         (&["compile", "--", "-p"], 0, "-p"),
         (&["compile", "-"], 0, "-"),
         (&["compile", ""], 0, ""),
         (&["trace", "0065535", "sw=1"], 65535, "sw=1"),
+        (&["equal", "p", "q"], 0, "q"),
+        (
+            &["fly", "2147483646", "1000000", "sw=1"],
+            2147483646,
+            "sw=1",
+        ),
     ];
     for (words, number, text) in table {
         match command_in(rt.alloc(), words)? {
@@ -40,7 +51,7 @@ fn words_that_give_a_command(rt: HostRuntime) -> Result<(), Fail> {
 
 #[test]
 fn words_that_give_no_command(rt: HostRuntime) -> Result<(), Fail> {
-    let table: [&[&str]; 13] = [
+    let table: [&[&str]; 16] = [
         &[],
         &["compile"],
         &["compile", "p", "q"],
@@ -54,6 +65,9 @@ fn words_that_give_no_command(rt: HostRuntime) -> Result<(), Fail> {
         &["trace", "+7", "sw=1"],
         &["trace", "65536", "sw=1"],
         &["trace", "", "sw=1"],
+        &["equal", "p"],
+        &["equal", "p", "q", "r"],
+        &["fly", "1", "1"],
     ];
     for words in table {
         assert!(rt; command_in(rt.alloc(), words)?.is_none());

@@ -8,19 +8,19 @@ use Rattle.clap.specs.Walk.{Row, Text, first_of}
 use Rattle.clap.specs.Simple.{subcommand_of}
 use Rattle.clap.specs.Faults.{fault_of}
 use Rattle.nk_words.specs.declared.words.Command.{Command}
-use Rattle.nk_words.specs.declared.words.Command.TheVariants.{Compile, Trace}
+use Rattle.nk_words.specs.declared.words.Command.TheVariants.{Compile, Trace, Equal, Fly}
 use Rattle.nk_words.specs.declared.words.WordsError.{WordsError}
 use Rattle.nk_words.specs.declared.words.WordsError.TheVariants.{NoMemory, Usage}
 use Rattle.nk_words.specs.App.{nk_app}
-use Rattle.nk_words.specs.Number.{number_upto}
+use Rattle.nk_words.specs.Number.{number_between}
 
 -- the words as texts
 abbrev pub texts : List (String Global) → List Text
 texts words = map (λ w. string_bytes w) words
 
--- the number of an argument
-abbrev pub number_of : Text → ℕ → List Row → Option ℕ
-number_of id largest rows = option_and_then (number_upto largest) (first_of id rows)
+-- the number of an argument, from the least one to the largest one
+abbrev pub number_of : Text → ℕ → ℕ → List Row → Option ℕ
+number_of id least largest rows = option_and_then (number_between least largest) (first_of id rows)
 
 -- the command `compile NAME`, from what was found of its argument
 abbrev pub compile_of : List Row → Option Command
@@ -29,12 +29,26 @@ compile_of rows = option_map (λ name. Compile name) (first_of (codes "NAME") ro
 -- the command `trace HOPS PACKET`, from what was found of its arguments
 abbrev pub trace_of : List Row → Option Command
 trace_of rows = option_and_then (λ hops. option_map (λ packet. Trace hops packet) (first_of (codes "PACKET") rows))
-    (number_of (codes "HOPS") 65535 rows)
+    (number_of (codes "HOPS") 0 65535 rows)
+
+-- the command `equal LEFT RIGHT`, from what was found of its arguments
+abbrev pub equal_of : List Row → Option Command
+equal_of rows = option_and_then (λ left. option_map (λ right. Equal left right) (first_of (codes "RIGHT") rows))
+    (first_of (codes "LEFT") rows)
+
+-- the command `fly SEED STEPS PACKET`, from what was found of its arguments
+abbrev pub fly_of : List Row → Option Command
+fly_of rows =
+    option_and_then (λ seed. option_and_then (λ steps. option_map (λ packet. Fly seed steps packet)
+    (first_of (codes "PACKET") rows)) (number_of (codes "STEPS") 0 1000000 rows))
+    (number_of (codes "SEED") 1 2147483646 rows)
 
 -- the command of this name, from what was found of its arguments
 abbrev pub command_with : Text → List Row → Option Command
 command_with name rows = if bytes_eq name (codes "compile") then compile_of rows
-    else if bytes_eq name (codes "trace") then trace_of rows else None
+    else if bytes_eq name (codes "trace") then trace_of rows
+    else if bytes_eq name (codes "equal") then equal_of rows
+    else if bytes_eq name (codes "fly") then fly_of rows else None
 
 -- the command of the subcommand that was found
 abbrev pub command_found : Option (Text × List Row) → Option Command

@@ -2,10 +2,10 @@
 ghost use Rattle.std.specs.Prelude.{◌≡◌};
 ghost use Rattle.std.specs.Char.{is_ascii_digit};
 ghost use Rattle.std.specs.List.{list_all};
-ghost use Rattle.nk_words.specs.Number.{number_upto};
+ghost use Rattle.nk_words.specs.Number.{number_between, number_upto};
 
 /// The number, where the word is digits alone and the value is at most the largest one.
-pub(crate) fn number(word: &str, largest: u64) -> Option<u64>
+fn number(word: &str, largest: u64) -> Option<u64>
     ensures { result ≡ number_upto largest word.now }
 {
     if !is_digits(word.as_bytes()) {
@@ -13,6 +13,16 @@ pub(crate) fn number(word: &str, largest: u64) -> Option<u64>
     }
     match word.parse::<u64>() {
         Ok(value) if value <= largest => Some(value),
+        _ => None,
+    }
+}
+
+/// The same, where the value is at least the least one.
+pub(crate) fn number_from(word: &str, least: u64, largest: u64) -> Option<u64>
+    ensures { result ≡ number_between least largest word.now }
+{
+    match number(word, largest) {
+        Some(value) if least <= value => Some(value),
         _ => None,
     }
 }

@@ -6,10 +6,10 @@ ghost use Rattle.clap.specs.Simple.{app_of, subcommand_rows_of, with_rule, with_
 ghost use Rattle.clap.specs.Walk.{first_of, rows_of};
 ghost use Rattle.nk_words.specs.App.{leaf_app, leaf_shape, nk_app, nk_top, wanted};
 ghost use Rattle.nk_words.specs.Words.{Reads, command_found, command_of, command_with, compile_of};
-ghost use Rattle.nk_words.specs.Words.{number_of, texts, trace_of};
+ghost use Rattle.nk_words.specs.Words.{equal_of, fly_of, number_of, texts, trace_of};
 
 use crate::Bytes;
-use crate::number::number;
+use crate::number::number_from;
 use clap::error::ErrorKind;
 use clap::{Arg, ArgMatches};
 use std::alloc::{AllocError, Global};
@@ -23,6 +23,11 @@ pub enum Command {
     /// `trace HOPS PACKET`: the histories with which the packet leaves after at most so many link crossings, from
     /// 0 to 65535. The packet is a text as `sw=1,pt=2,dst=3`.
     Trace(u64, Bytes),
+    /// `equal LEFT RIGHT`: whether the policies of these names do the same.
+    Equal(Bytes, Bytes),
+    /// `fly SEED STEPS PACKET`: what leaves when the switches take turns as draws from the seed, 1 to 2147483646, say, for so
+    /// many steps, 0 to 1000000. The packet is a text as `sw=1,pt=2,dst=3`.
+    Fly(u64, u64, Bytes),
 }
 
 /// Why the words give no command.
@@ -100,7 +105,9 @@ fn application<'a>(alloc: Global) -> Result<clap::Command<'a>, AllocError>
     ensures { IfOk result (λ c. app_of c ≡ nk_app) }
 {
     let app = with_leaf(alloc, top(alloc), "compile", &["NAME"])?;
-    with_leaf(alloc, app, "trace", &["HOPS", "PACKET"])
+    let app = with_leaf(alloc, app, "trace", &["HOPS", "PACKET"])?;
+    let app = with_leaf(alloc, app, "equal", &["LEFT", "RIGHT"])?;
+    with_leaf(alloc, app, "fly", &["SEED", "STEPS", "PACKET"])
 }
 
 /// The command that the words give. `Usage` comes exactly where they give none.
@@ -135,6 +142,10 @@ fn command_named(alloc: Global, name: &str, found: &ArgMatches) -> Result<Comman
         compile(alloc, found)
     } else if name == "trace" {
         trace(alloc, found)
+    } else if name == "equal" {
+        equal(alloc, found)
+    } else if name == "fly" {
+        fly(alloc, found)
     } else {
         Err(WordsError::Usage)
     }
@@ -152,9 +163,28 @@ fn compile(alloc: Global, found: &ArgMatches) -> Result<Command, WordsError>
 fn trace(alloc: Global, found: &ArgMatches) -> Result<Command, WordsError>
     ensures { Reads (trace_of (rows_of (found_of found.now))) result }
 {
-    let hops = number_at(found, "HOPS", 65535)?;
+    let hops = number_at(found, "HOPS", 0, 65535)?;
     let packet = text(alloc, found, "PACKET")?;
     Ok(Command::Trace(hops, packet))
+}
+
+/// `equal LEFT RIGHT`.
+fn equal(alloc: Global, found: &ArgMatches) -> Result<Command, WordsError>
+    ensures { Reads (equal_of (rows_of (found_of found.now))) result }
+{
+    let left = text(alloc, found, "LEFT")?;
+    let right = text(alloc, found, "RIGHT")?;
+    Ok(Command::Equal(left, right))
+}
+
+/// `fly SEED STEPS PACKET`.
+fn fly(alloc: Global, found: &ArgMatches) -> Result<Command, WordsError>
+    ensures { Reads (fly_of (rows_of (found_of found.now))) result }
+{
+    let seed = number_at(found, "SEED", 1, 2147483646)?;
+    let steps = number_at(found, "STEPS", 0, 1000000)?;
+    let packet = text(alloc, found, "PACKET")?;
+    Ok(Command::Fly(seed, steps, packet))
 }
 
 /// The word of an argument.
@@ -177,12 +207,12 @@ fn text(alloc: Global, found: &ArgMatches, id: &str) -> Result<Bytes, WordsError
     }
 }
 
-/// The number of an argument, at most the largest one.
-fn number_at(found: &ArgMatches, id: &str, largest: u64) -> Result<u64, WordsError>
-    ensures { Reads (number_of id.now largest (rows_of (found_of found.now))) result }
+/// The number of an argument, from the least one to the largest one.
+fn number_at(found: &ArgMatches, id: &str, least: u64, largest: u64) -> Result<u64, WordsError>
+    ensures { Reads (number_of id.now least largest (rows_of (found_of found.now))) result }
 {
     match word(found, id) {
-        Some(value) => match number(value, largest) {
+        Some(value) => match number_from(value, least, largest) {
             Some(number) => Ok(number),
             None => Err(WordsError::Usage),
         },

@@ -1,6 +1,6 @@
 //! Networks with links: what is printed for their policies, worked out by hand.
 use super::traced::{LINE, RING};
-use super::{Case, answers, comes_to, comes_true, joined};
+use super::{answers, comes_to, fails_at_each_call, joined};
 use nk::Status;
 use std::alloc::Global;
 use std::test::Fail;
@@ -193,41 +193,10 @@ fn rows_that_are_changed(rt: HostRuntime) -> Result<(), Fail> {
     Ok(())
 }
 
-/// Each call of the source fails once, each of `out` once: nothing else is written, and a sink keeps whole pieces.
 #[test]
 fn calls_that_fail_for_a_network(rt: HostRuntime) -> Result<(), Fail> {
     let alloc = rt.alloc();
     let input = joined(alloc, &[LINKED, b"let p = ", OVER, b"\n"])?;
-    let reads = input.len().div_ceil(16) as u64 + 1;
-    for call in 1..=reads {
-        let case = Case {
-            words: &["compile", "p"],
-            input: &input,
-            source_fails: &[call],
-            out_fails: &[1],
-            err_fails: &[],
-            status: Status::ReadFault,
-            out: b"",
-            err: b"read fault\n",
-            calls: (call, 0, 2),
-        };
-        assert!(rt; comes_true(alloc, &case)?);
-    }
-    let writes = LINE.len().div_ceil(10) as u64;
-    for call in 1..=writes {
-        let kept = (10 * (call - 1)) as usize;
-        let case = Case {
-            words: &["compile", "p"],
-            input: &input,
-            source_fails: &[],
-            out_fails: &[call],
-            err_fails: &[1],
-            status: Status::WriteFault,
-            out: LINE.get(..kept).unwrap_or(LINE),
-            err: b"",
-            calls: (reads, call, 0),
-        };
-        assert!(rt; comes_true(alloc, &case)?);
-    }
+    assert!(rt; fails_at_each_call(alloc, &["compile", "p"], &input, LINE)?);
     Ok(())
 }

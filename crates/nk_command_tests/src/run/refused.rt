@@ -122,6 +122,10 @@ pub(super) const ORDER: &[Fault] = &[
 const LINKED: &[u8] =
     b"field dst 3\nfield vlan 7\ntag vlan\nswitch 1 ports 1,2\nswitch 2 ports 1,2\nlink 1:2 -> 2:1\n";
 
+/// A packet that stays at the source of the link.
+const AT_THE_LINK: &[u8] =
+    b"refused C7: off edge\nstart sw=1,pt=2,dst=0,vlan=0\nhistory sw=1,pt=2,dst=0,vlan=0\n";
+
 /// Declarations, a policy, and the message.
 pub(super) const POLICIES: &[(&[u8], &[u8], &[u8])] = &[
     (b"", b"id", b"refused C2: no tag\n"),
@@ -136,14 +140,25 @@ pub(super) const POLICIES: &[(&[u8], &[u8], &[u8])] = &[
     (LINKED, b"sw:=2;1:1=>2:1", b"refused C5: switch set\n"),
     (LINKED, b"1:1=>2:1", b"refused C6: no such link\n"),
     (LINKED, b"2:1=>1:2", b"refused C6: no such link\n"),
-    (LINKED, b"(1:2=>2:1)*", b"refused C7: off edge\n"),
-    (LINKED, b"dst=1*", b"refused C7: off edge\n"),
-    (LINKED, b"id", b"refused C7: off edge\n"),
-    (LINKED, b"pt:=5", b"refused C7: off edge\n"),
+    (LINKED, b"(1:2=>2:1)*", AT_THE_LINK),
+    (LINKED, b"dst=1*", AT_THE_LINK),
+    (LINKED, b"id", AT_THE_LINK),
+    (
+        LINKED,
+        b"pt:=5",
+        b"refused C7: off edge\nstart sw=1,pt=1,dst=0,vlan=0\nhistory sw=1,pt=5,dst=0,vlan=0\n",
+    ),
+    // the least start is not the least packet at a port, and the history has the two ends of a link
+    (
+        LINKED,
+        b"dst=2;pt=1;pt:=2;1:2=>2:1;(dst:=3;pt:=7 + pt:=8)",
+        b"refused C7: off edge\nstart sw=1,pt=1,dst=2,vlan=0\n\
+history sw=1,pt=2,dst=2,vlan=0 sw=2,pt=1,dst=2,vlan=0 sw=2,pt=7,dst=3,vlan=0\n",
+    ),
     (
         b"field vlan 3 tag vlan switch 1 ports 1 ",
         b"pt:=5",
-        b"refused C7: off edge\n",
+        b"refused C7: off edge\nstart sw=1,pt=1,vlan=0\nhistory sw=1,pt=5,vlan=0\n",
     ),
 ];
 

@@ -1,6 +1,6 @@
 use Rattle.std.proofs.Common.{◌≡◌, ◌++◌, take}
 use Rattle.std.specs.List.{flat_map}
-use Rattle.nk.specs.Tracing.{history_line}
+use Rattle.nk.specs.Following.{history_line}
 use Rattle.nk.proofs.tracing.push_histories.Given as goal
 
 -- the lines of the histories so far

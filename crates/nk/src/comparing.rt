@@ -1,0 +1,48 @@
+//! The answer of `equal LEFT RIGHT`.
+ghost use Rattle.std.specs.Prelude.{◌≡◌, IfOk};
+ghost use Rattle.nk_names.specs.ProgramOf.{said_by};
+ghost use Rattle.nk.specs.Comparing.{IsEqualAnswer, ToCompared};
+ghost use Rattle.nk.specs.Reply.{said};
+
+use crate::Said;
+use crate::messages::difference_message;
+use crate::program_text::{ReadText, read_program};
+use nk_bisim::{CompareError, Compared, compare};
+use nk_names::Program;
+use std::alloc::{AllocError, Global};
+
+/// What comparing the policies of these names answers, over the bytes of a text.
+pub(crate) fn equal_answer(
+    alloc: Global,
+    left: &str,
+    right: &str,
+    bytes: &[u8],
+) -> Result<Said, AllocError>
+    ensures { IfOk result (λ s. IsEqualAnswer left.now right.now bytes.now (said s)) }
+{
+    match read_program(alloc, bytes)? {
+        ReadText::Program(program) => answer_to_program(alloc, left, right, &program),
+        ReadText::Fault(line) => Ok(Said::Text(line)),
+    }
+}
+
+/// The same over a program.
+fn answer_to_program(
+    alloc: Global,
+    left: &str,
+    right: &str,
+    program: &Program,
+) -> Result<Said, AllocError>
+    ensures { IfOk result (λ s. ToCompared (said_by program.now) left.now right.now (said s)) }
+{
+    match compare(alloc, program, left, right) {
+        Ok(Compared::Same) => Ok(Said::Done(Vec::from_slice(alloc, b"equal\n")?)),
+        Ok(Compared::Broken(found)) => {
+            Ok(Said::Differs(difference_message(alloc, &program.fields, &found)?))
+        }
+        Err(CompareError::NoPolicy) => {
+            Ok(Said::Refused(Vec::from_slice(alloc, b"refused C1: no policy\n")?))
+        }
+        Err(CompareError::NoMemory) => Err(AllocError),
+    }
+}
