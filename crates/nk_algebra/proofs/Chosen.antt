@@ -50,7 +50,7 @@ pub serving_none : (R : ℕ → List ℕ → List Out) (st : Held) (f : ℕ) →
 serving_none R st f = record { ends = refl; ids = tt; leaf = λ v pk w l. absurd (omega arith) }
 
 -- one part more, which serves the values up to e
-serving_push : (R : ℕ → List ℕ → List Out) (st new : Held) (f from : ℕ) (ps : List (ℕ × ℕ)) (d e : ℕ) →
+pub serving_push : (R : ℕ → List ℕ → List Out) (st new : Held) (f from : ℕ) (ps : List (ℕ × ℕ)) (d e : ℕ) →
     Serving R st f from ps → Grows st new → from ≤ e → IsId new d →
     ((v : ℕ) (pk : List ℕ) → length pk ≡ 18 → from ≤ v → v ≤ e → look new d pk ≡ R v pk) →
     Serving R new f (e + 1) (ps ++ (e, d) ∷ [])

@@ -19,3 +19,4 @@ pub mod Cuts
 pub mod Shorts
 pub mod PartSums
 pub mod Halved
+pub mod Splits

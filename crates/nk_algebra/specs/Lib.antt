@@ -7,3 +7,4 @@ pub mod Unions
 pub mod Predicates
 pub mod Choices
 pub mod Halves
+pub mod Apart

@@ -14,7 +14,8 @@ use std::alloc::{AllocError, Global};
 use std::collections::HashMap;
 
 /// Up to how many parts, or intervals of an earlier field, a choice is made by the values of earlier fields. Else it is made by
-/// halves: parts that each test a value of their own would cost their square.
+/// halves: parts that each test a value of their own would cost their square. Where no part tests an earlier field each is only
+/// cut to its own values.
 const FEW: usize = 64;
 
 /// The diagram that gives a packet the leaf of the part that holds the field's value. The parts are pairs of an
@@ -35,11 +36,15 @@ pub fn choose(st: &mut Store, f: Fid, parts: List<(u64, Id)>) -> Result<Id, Allo
     choose_by(st, &mut seen, f, kept)
 }
 
-/// Whether the values of the least field that the parts test fall into few intervals in which none of them changes.
+/// Whether the parts test no field before the choice's own, or the values of the least field that they test fall into few
+/// intervals in which none of them changes.
 fn is_narrow(st: &Store, f: Fid, parts: &List<(u64, Id)>) -> bool
     requires { AreChoices st.now f parts.now }
 {
     let g = earliest(st, f, parts);
+    if g == f {
+        return true;
+    }
     let max = st.max(g);
     let mut from = 0;
     for _ in 0..FEW {

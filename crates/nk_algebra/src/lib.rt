@@ -2,6 +2,7 @@
 #![tactic(auto)]
 
 mod aims;
+mod apart;
 mod choices;
 mod constants;
 mod halves;

@@ -10,6 +10,7 @@ ghost use Rattle.nk_algebra.specs.Unions.{over_places};
 ghost use Rattle.nk_algebra.specs.Choices.{AreChoices};
 ghost use Rattle.nk_algebra.specs.Predicates.{IsPredicate, Ends};
 
+use crate::apart::seq_leaves;
 use crate::choices::choose;
 use crate::constants::empty;
 use crate::leaves::union;
@@ -104,12 +105,12 @@ pub fn seq(st: &mut Store, a: Id, b: Id) -> Result<Id, AllocError>
     ensures predicate { IfOk result (λ d. IsPredicate st.old a → IsPredicate st.old b → IsPredicate st.new d) }
     ensures ends { IfOk result (λ d. Ends (look st.old b) → Ends (look st.new d)) }
 {
-    sequence(st, a, b)
+    seq_leaves(st, a, b)
 }
 
 /// The sequence, by its leaves.
 #[cycle(seq)]
-fn sequence(st: &mut Store, a: Id, b: Id) -> Result<Id, AllocError>
+pub(crate) fn sequence(st: &mut Store, a: Id, b: Id) -> Result<Id, AllocError>
     requires left { IsId st.old a }
     requires right { IsId st.old b }
     ensures grows { Grows st.old st.new }

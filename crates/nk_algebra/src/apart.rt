@@ -1,0 +1,252 @@
+//! One diagram, then another one, where both have many parts by their first field. Outs that assign the field go on with the
+//! second diagram at one value. The others go on with what it is at the packet's own value, and with no more of it.
+ghost use Rattle.std.specs.Prelude.{◌≡◌, ℕ, ◌<◌, ◌≤◌, ◌++◌, true, false, List as Items, IfOk, IfSome, OnOk};
+ghost use Rattle.std.specs.List.{flat_map};
+ghost use Rattle.nk_store.specs.Nodes.{child_at, Each};
+ghost use Rattle.nk_store.specs.Held.{IsId, IsWhole, look, top, Grows, HasLeaves};
+ghost use Rattle.nk_algebra.specs.Apart.{assigns, passed, apart, Keep};
+ghost use Rattle.nk_algebra.specs.Choices.{AreChoices};
+ghost use Rattle.nk_algebra.specs.Seqs.{seq_leaf};
+ghost use Rattle.nk_algebra.specs.Subs.{sub};
+
+use crate::choices::choose;
+use crate::leaves::union;
+use crate::maps::{LeafMap, map_leaves};
+use crate::part::{part_near, tested};
+use crate::seqs::sequence;
+use nk_field::{Act, Fid, List};
+use nk_store::{Id, Node, Out, Store};
+use std::alloc::{AllocError, Global};
+
+/// From how many parts on, in both diagrams, outs are taken apart: few parts are no trouble, and taking apart takes a walk.
+const MANY: usize = 64;
+
+/// The outs of a leaf that assign a field, or those that don't.
+#[derive(Drop)]
+struct Apart {
+    field: Fid,
+    assigning: bool,
+}
+
+impl LeafMap for Apart {
+    ghost mapped = { λ s os. apart s.field s.assigning os };
+
+    ghost allowed = { λ _ _. Unit {0} };
+
+    fn map(&self, alloc: Global, outs: &[Out]) -> Result<List<Out>, AllocError> {
+        outs_apart(alloc, self.field, self.assigning, outs)
+    }
+}
+
+/// The outs that assign a field, or those that don't, in their order.
+fn outs_apart(alloc: Global, f: Fid, assigning: bool, outs: &[Out]) -> Result<List<Out>, AllocError>
+    ensures { IfOk result (λ r. r ≡ flat_map (passed f assigning) outs.now) }
+{
+    let mut all = List::new(alloc);
+    for o in outs {
+        push_apart(&mut all, f, assigning, o)?;
+    }
+    Ok(all)
+}
+
+/// Puts an out at the end, where it assigns the field, or where it doesn't.
+fn push_apart(all: &mut List<Out>, f: Fid, assigning: bool, o: &Out) -> Result<(), AllocError>
+    ensures { OnOk result (all.new ≡ all.old ++ passed f assigning o.now) }
+{
+    if sets(&o.act, f) != assigning {
+        return Ok(());
+    }
+    all.push(Out {
+        act: o.act.copy()?,
+        target: o.target,
+    })
+}
+
+/// Whether an act assigns a field.
+fn sets(act: &Act, f: Fid) -> bool
+    ensures { result ≡ assigns f act.now }
+{
+    let pairs = act.as_slice();
+    for i in 0..pairs.len() {
+        if pairs[i].0 == f {
+            return true;
+        }
+    }
+    false
+}
+
+/// How many parts a diagram has by its first field.
+fn part_count(st: &Store, d: Id) -> usize
+    requires { IsId st.now d }
+{
+    match st.view(d) {
+        Node::Leaf(_) => 0,
+        Node::Case(_, parts) => parts.len(),
+    }
+}
+
+/// Whether some out of a diagram may leave its first field as it is: one of a part that is a leaf, or any of another part.
+fn may_keep(st: &Store, a: Id) -> bool
+    requires { IsId st.now a }
+{
+    match st.view(a) {
+        Node::Leaf(_) => false,
+        Node::Case(f, parts) => some_keeps(st, *f, parts.as_slice()),
+    }
+}
+
+/// The same of some parts.
+fn some_keeps(st: &Store, f: Fid, parts: &[(u64, Id)]) -> bool
+    requires { Each (IsId st.now) parts.now }
+{
+    for i in 0..parts.len() {
+        if part_keeps(st, f, parts[i].1) {
+            return true;
+        }
+    }
+    false
+}
+
+/// The same of one part's diagram.
+fn part_keeps(st: &Store, f: Fid, d: Id) -> bool
+    requires { IsId st.now d }
+{
+    match st.view(d) {
+        Node::Leaf(outs) => one_keeps(outs.as_slice(), f),
+        Node::Case(_, _) => true,
+    }
+}
+
+/// Whether some out leaves the field as it is.
+fn one_keeps(outs: &[Out], f: Fid) -> bool {
+    for o in outs {
+        if !sets(&o.act, f) {
+            return true;
+        }
+    }
+    false
+}
+
+/// The field that both diagrams test first, where both have many parts by it and an out of the first may keep it.
+fn wide_field(st: &Store, a: Id, b: Id) -> Option<Fid>
+    requires left { IsId st.now a }
+    requires right { IsId st.now b }
+    ensures { IfSome result (λ f. (f < 18) × (top st.now a ≡ f) × (top st.now b ≡ f)) }
+{
+    if part_count(st, a) <= MANY || part_count(st, b) <= MANY || !may_keep(st, a) {
+        return None;
+    }
+    match (tested(st, a), tested(st, b)) {
+        (Some(f), Some(g)) => if f == g { Some(f) } else { None },
+        _ => None,
+    }
+}
+
+/// The sequence, by its leaves.
+#[cycle(apart)]
+pub(crate) fn seq_leaves(st: &mut Store, a: Id, b: Id) -> Result<Id, AllocError>
+    requires left { IsId st.old a }
+    requires right { IsId st.old b }
+    ensures grows { Grows st.old st.new }
+    ensures ok { IfOk result (λ d. HasLeaves st.new d (λ pk. seq_leaf (look st.old a pk) (look st.old b) pk)) }
+{
+    match wide_field(st, a, b) {
+        None => sequence(st, a, b),
+        Some(f) => seq_apart(st, f, a, b),
+    }
+}
+
+/// The sequence, outs that assign the field apart from the others.
+#[cycle(apart)]
+fn seq_apart(st: &mut Store, f: Fid, a: Id, b: Id) -> Result<Id, AllocError>
+    requires left { IsId st.old a }
+    requires right { IsId st.old b }
+    requires field { f < 18 }
+    requires first { f ≤ top st.old a }
+    requires second { f ≤ top st.old b }
+    ensures grows { Grows st.old st.new }
+    ensures ok { IfOk result (λ d. HasLeaves st.new d (λ pk. seq_leaf (look st.old a pk) (look st.old b) pk)) }
+{
+    let kept = keeping(st, f, a)?;
+    let right = seq_kept(st, f, kept, b)?;
+    let left = seq_moved(st, f, a, b)?;
+    union(st, left, right)
+}
+
+/// The outs that leave the field as it is.
+fn keeping(st: &mut Store, f: Fid, a: Id) -> Result<Id, AllocError>
+    requires { IsId st.old a }
+    ensures grows { Grows st.old st.new }
+    ensures ok { IfOk result (λ d. HasLeaves st.new d (λ pk. apart f false (look st.old a pk))) }
+    ensures later { IfOk result (λ d. top st.old a ≤ top st.new d) }
+    ensures keep { IfOk result (λ d. (pk : Items ℕ) → IsWhole pk → Keep f (look st.new d pk)) }
+{
+    let outs = Apart {
+        field: f,
+        assigning: false,
+    };
+    map_leaves(st, &outs, a)
+}
+
+/// The sequence of the outs that assign the field.
+fn seq_moved(st: &mut Store, f: Fid, a: Id, b: Id) -> Result<Id, AllocError>
+    requires left { IsId st.old a }
+    requires right { IsId st.old b }
+    ensures grows { Grows st.old st.new }
+    ensures ok { IfOk result (λ d. HasLeaves st.new d (λ pk. seq_leaf (apart f true (look st.old a pk)) (look st.old b) pk)) }
+{
+    let outs = Apart {
+        field: f,
+        assigning: true,
+    };
+    let moved = map_leaves(st, &outs, a)?;
+    sequence(st, moved, b)
+}
+
+/// The sequence where no out assigns the field: at each of its values what both diagrams are there.
+#[cycle(apart)]
+fn seq_kept(st: &mut Store, f: Fid, a: Id, b: Id) -> Result<Id, AllocError>
+    requires left { IsId st.old a }
+    requires right { IsId st.old b }
+    requires field { f < 18 }
+    requires first { f ≤ top st.old a }
+    requires second { f ≤ top st.old b }
+    requires keep { (pk : Items ℕ) → IsWhole pk → Keep f (look st.old a pk) }
+    ensures grows { Grows st.old st.new }
+    ensures ok { IfOk result (λ d. HasLeaves st.new d (λ pk. seq_leaf (look st.old a pk) (look st.old b) pk)) }
+{
+    st.laws();
+    let parts = kept_parts(st, f, a, b)?;
+    choose(st, f, parts)
+}
+
+/// The parts of that sequence by the field.
+#[cycle(apart)]
+fn kept_parts(st: &mut Store, f: Fid, a: Id, b: Id) -> Result<List<(u64, Id)>, AllocError>
+    requires left { IsId st.old a }
+    requires right { IsId st.old b }
+    requires field { f < 18 }
+    requires first { f ≤ top st.old a }
+    requires second { f ≤ top st.old b }
+    ensures grows { Grows st.old st.new }
+    ensures parts { IfOk result (λ ps. AreChoices st.new f ps) }
+    ensures ok { IfOk result (λ ps. (v : ℕ) (pk : Items ℕ) → IsWhole pk → look st.new (child_at 0 ps v) pk ≡ seq_leaf (look st.old (sub st.old f v a) pk) (look st.old (sub st.old f v b)) pk) }
+{
+    st.laws();
+    let max = st.max(f);
+    let mut parts = List::new(st.alloc());
+    let mut near_a = 0;
+    let mut near_b = 0;
+    let mut from = 0;
+    loop {
+        let (end_a, child_a) = part_near(st, a, f, from, &mut near_a);
+        let (end_b, child_b) = part_near(st, b, f, from, &mut near_b);
+        let end = end_a.min(end_b);
+        let made = seq_leaves(st, child_a, child_b)?;
+        parts.push((end, made))?;
+        if end == max {
+            return Ok(parts);
+        }
+        from = end + 1;
+    }
+}
