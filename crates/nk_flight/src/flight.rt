@@ -9,6 +9,7 @@ ghost use Rattle.nk_flight.specs.Flights.{IsReached, nothing_in_flight, injected
 use crate::copies::{Flying, Left};
 use crate::hops::{Hop, copies_in, first_hop, handle};
 use nk_field::Packet;
+use nk_sim::Finder;
 use nk_table::Tables;
 use std::alloc::{AllocError, Global};
 use std::marker::Model;
@@ -18,6 +19,7 @@ use std::marker::Model;
 #[derive(Drop)]
 pub struct Flight {
     tables: Tables,
+    finder: Finder,
     packets: Vec<Packet>,
     hops: Vec<Hop>,
     flying: Vec<usize>,
@@ -25,6 +27,7 @@ pub struct Flight {
 }
 
 impl Model for Flight {
+    ghost use Rattle.nk_sim.specs.Emitted.{Finds};
     ghost use Rattle.nk_flight.specs.Flights.{FlightState};
     ghost use Rattle.nk_flight.specs.Trails.{IsSound, state_at};
 
@@ -32,7 +35,8 @@ impl Model for Flight {
 
     ghost view = { λ f. state_at f.tables f.packets.items f.hops.items f.flying.items f.left.items };
 
-    ghost invariant = { λ f. IsSound f.tables f.packets.items f.hops.items f.flying.items f.left.items };
+    ghost invariant = { λ f. IsSound f.tables f.packets.items f.hops.items f.flying.items f.left.items
+        × Finds f.finder f.tables.tables };
 }
 
 impl Flight {
@@ -41,8 +45,10 @@ impl Flight {
         ensures { IfOk result (λ flight. flight ≡ nothing_in_flight t.now) }
     {
         let tables = t.copy()?;
+        let finder = Finder::new(alloc, &tables)?;
         Ok(Flight {
             tables,
+            finder,
             packets: Vec::new(alloc),
             hops: Vec::new(alloc),
             flying: Vec::new(alloc),
@@ -83,7 +89,13 @@ impl Flight {
     {
         let alloc = *self.packets.allocator();
         let place = self.flying[i];
-        let mut all = handle(alloc, &self.tables, self.hops.as_slice(), place)?;
+        let mut all = handle(
+            alloc,
+            &self.finder,
+            &self.tables,
+            self.hops.as_slice(),
+            place,
+        )?;
         self.hops.reserve(all.next.len())?;
         let mut places = places_from(alloc, self.hops.len(), all.next.len())?;
         self.flying.reserve(places.len())?;

@@ -5,13 +5,14 @@ ghost use Rattle.std.specs.List.{flat_map};
 ghost use Rattle.nk_field.specs.Packet.{erased};
 ghost use Rattle.nk_table.specs.Hops as tables;
 ghost use Rattle.nk_table.specs.Rules.{sent_for};
+ghost use Rattle.nk_sim.specs.Emitted.{Finds};
 ghost use Rattle.nk_flight.specs.Flights.{left_leaving, left_next};
 ghost use Rattle.nk_flight.specs.Trails.{AreHops, hop_at, hop_of, trail, copy_at, copies_at};
 ghost use Rattle.nk_flight.specs.Trails as trails;
 
 use crate::copies::{Flying, Left};
 use nk_field::{Fid, Fields, History, List, Packet};
-use nk_sim::{emit, leaves_at, link_at};
+use nk_sim::{Finder, emit_by, leaves_at, link_at};
 use nk_table::Tables;
 use std::alloc::{AllocError, Global};
 
@@ -55,10 +56,12 @@ pub(crate) fn first_hop(number: u64, p: &Packet) -> Hop
 /// What the copy whose hop is at a place leads to when its switch handles it.
 pub(crate) fn handle(
     alloc: Global,
+    finder: &Finder,
     t: &Tables,
     hops: &[Hop],
     place: usize,
 ) -> Result<Outcome, AllocError>
+    requires finder { Finds finder.now t.now.tables }
     requires hops { AreHops hops.now }
     requires there { place < length hops.now }
     ensures next { IfOk result (λ all. all.next.items
@@ -67,7 +70,7 @@ pub(crate) fn handle(
 {
     let hop = hop_in(hops, place);
     are_few(hops);
-    let sent = emit(alloc, t, &hop.packet)?;
+    let sent = emit_by(alloc, finder, t, &hop.packet)?;
     let next = cross(alloc, t, place, &hop, sent.as_slice())?;
     let left = leave(alloc, t, hops, place, sent.as_slice())?;
     Ok(Outcome { next, left })

@@ -1,4 +1,5 @@
 pub mod Emitting
+pub mod Finding
 pub mod OneTrace
 pub mod Orders
 pub mod Ports

@@ -6,9 +6,11 @@ ghost use Rattle.nk_table.specs.Hops as hops;
 ghost use Rattle.nk_field.specs.Packet.{erased};
 ghost use Rattle.nk_sim.specs.Flights.{HasTrail, HaveTrails, AreCrossed, crossing_at, crossing_by, flying_by, left_by, link_of_sent, sent_flying};
 ghost use Rattle.nk_sim.specs.Flights as flights;
+ghost use Rattle.nk_sim.specs.Emitted.{Finds};
 
+use crate::finder::Finder;
 use crate::links::{leaves_at, link_at};
-use crate::sending::emit;
+use crate::sending::emit_by;
 use nk_field::{Fid, Fields, History, List, Packet};
 use nk_table::Tables;
 use std::alloc::{AllocError, Global};
@@ -34,12 +36,18 @@ pub(crate) struct Flying {
 }
 
 /// The copies that switches send for those that wait.
-pub(crate) fn send(alloc: Global, t: &Tables, waiting: &[Flying]) -> Result<Vec<Flying>, AllocError>
+pub(crate) fn send(
+    alloc: Global,
+    finder: &Finder,
+    t: &Tables,
+    waiting: &[Flying],
+) -> Result<Vec<Flying>, AllocError>
+    requires { Finds finder.now t.now.tables }
     ensures { IfOk result (λ sent. sent.items ≡ flat_map (sent_flying t.now) waiting.now) }
 {
     let mut sent = Vec::new(alloc);
     for copy in waiting {
-        let packets = emit(alloc, t, &copy.packet)?;
+        let packets = emit_by(alloc, finder, t, &copy.packet)?;
         push_sent(&mut sent, copy.last, packets.as_slice())?;
     }
     Ok(sent)

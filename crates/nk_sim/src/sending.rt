@@ -2,22 +2,49 @@
 ghost use Rattle.std.specs.Prelude.{◌≡◌, ◌==◌, [], ◌∷◌, ◌++◌, if◌then◌else◌, IfOk, OnOk, slice_index, slice_set};
 ghost use Rattle.std.specs.Option.{option_copied};
 ghost use Rattle.nk_table.specs.Rules.{sent_for, sent_by, buckets_for, buckets_in};
-ghost use Rattle.nk_sim.specs.Emitted.{table_of, sent_by_all};
+ghost use Rattle.nk_sim.specs.Emitted.{Finds, table_of, sent_by_all};
+ghost use Rattle.nk_sim.specs.Emitted as emitted;
 
+use crate::finder::Finder;
 use nk_field::{Fid, Packet};
-use nk_table::{Bucket, Exit, Group, Table, Tables, Target, lookup};
+use nk_table::{Bucket, Exit, Group, Table, Tables, Target, acting_row};
 use std::alloc::{AllocError, Global};
 
 /// What the packet's switch sends for it, in the order of the buckets: the packets as they leave, each behind the port
-/// where it is sent. A packet whose switch has no table is dropped. The only error is that memory ran out.
+/// where it is sent. A packet whose switch has no table is dropped. The only error is that memory ran out. The switch's
+/// table is looked for from the first on: for many packets there is `emit_by`.
 pub fn emit(alloc: Global, t: &Tables, p: &Packet) -> Result<Vec<Packet>, AllocError>
     ensures { IfOk result (λ sent. sent.items ≡ sent_for t.now p.now) }
 {
     match table_at(t.tables.as_slice(), p.get(Fid::SWITCH)) {
-        Some(table) => match lookup(t, table.switch, p) {
-            Some(row) => sent_by_target(alloc, table.groups.as_slice(), &row.target, p),
-            None => Ok(Vec::new(alloc)),
-        },
+        Some(found) => sent_by_table(alloc, found, p),
+        None => Ok(Vec::new(alloc)),
+    }
+}
+
+/// What the packet's switch sends for it, as `emit` answers it, by the finder of these tables, so that the time does not
+/// grow with the number of switches. The only error is that memory ran out.
+pub fn emit_by(
+    alloc: Global,
+    finder: &Finder,
+    t: &Tables,
+    p: &Packet,
+) -> Result<Vec<Packet>, AllocError>
+    requires { Finds finder.now t.now.tables }
+    ensures { IfOk result (λ sent. sent.items ≡ sent_for t.now p.now) }
+{
+    match finder.table(t.tables.as_slice(), p.get(Fid::SWITCH)) {
+        Some(table) => sent_by_table(alloc, table, p),
+        None => Ok(Vec::new(alloc)),
+    }
+}
+
+/// What the switch with a table sends.
+fn sent_by_table(alloc: Global, table: &Table, p: &Packet) -> Result<Vec<Packet>, AllocError>
+    ensures { IfOk result (λ sent. sent.items ≡ emitted.sent_by_table p.now table.now) }
+{
+    match acting_row(table.rows.as_slice(), p) {
+        Some(row) => sent_by_target(alloc, table.groups.as_slice(), &row.target, p),
         None => Ok(Vec::new(alloc)),
     }
 }

@@ -1,8 +1,10 @@
 //! Histories of a packet that is followed through tables.
 ghost use Rattle.std.specs.Prelude.{◌≡◌, ◌+◌, ◌++◌, ℕ, ◌∷◌, [], length, IfOk, List as Items};
+ghost use Rattle.nk_sim.specs.Emitted.{Finds};
 ghost use Rattle.nk_sim.specs.Flights.{HaveTrails, IsAt, IsSortedFrom};
 ghost use Rattle.nk_sim.specs.Traces.{IsTrace, histories_after};
 
+use crate::finder::Finder;
 use crate::flight::{Crossing, Flying, cross, leave, send};
 use nk_field::{History, List, Packet};
 use nk_table::Tables;
@@ -29,16 +31,17 @@ struct State {
 pub fn runs(alloc: Global, t: &Tables, k: u64, p: &Packet) -> Result<Vec<History>, AllocError>
     ensures { IfOk result (λ left. left.items ≡ histories_after t.now k p.now) }
 {
+    let finder = Finder::new(alloc, t)?;
     let mut crossings = Vec::new(alloc);
     let mut waiting = start(alloc, p)?;
     for _step in 0..k {
         if waiting.is_empty() {
             return Ok(Vec::new(alloc));
         }
-        let sent = send(alloc, t, waiting.as_slice())?;
+        let sent = send(alloc, &finder, t, waiting.as_slice())?;
         waiting = cross(alloc, t, &mut crossings, sent.as_slice())?;
     }
-    let sent = send(alloc, t, waiting.as_slice())?;
+    let sent = send(alloc, &finder, t, waiting.as_slice())?;
     leave(alloc, t, crossings.as_slice(), k, sent.as_slice())
 }
 
@@ -47,6 +50,7 @@ pub fn runs(alloc: Global, t: &Tables, k: u64, p: &Packet) -> Result<Vec<History
 pub fn trace(alloc: Global, t: &Tables, hops: u64, p: &Packet) -> Result<Traced, AllocError>
     ensures { IfOk result (λ traced. IsTrace t.now hops p.now traced) }
 {
+    let finder = Finder::new(alloc, t)?;
     let mut state = State {
         crossings: Vec::new(alloc),
         waiting: start(alloc, p)?,
@@ -56,9 +60,9 @@ pub fn trace(alloc: Global, t: &Tables, hops: u64, p: &Packet) -> Result<Traced,
         if state.waiting.is_empty() {
             return Ok(ended(state));
         }
-        state = step(alloc, t, k, state)?;
+        state = step(alloc, &finder, t, k, state)?;
     }
-    Ok(ended(step(alloc, t, hops, state)?))
+    Ok(ended(step(alloc, &finder, t, hops, state)?))
 }
 
 /// The one copy that waits at the start.
@@ -74,12 +78,19 @@ fn start(alloc: Global, p: &Packet) -> Result<Vec<Flying>, AllocError>
 }
 
 /// One crossing more: the histories that leave, and the copies behind the links.
-fn step(alloc: Global, t: &Tables, k: u64, state: State) -> Result<State, AllocError>
-    requires { HaveTrails state.crossings.items k state.waiting.items }
+fn step(
+    alloc: Global,
+    finder: &Finder,
+    t: &Tables,
+    k: u64,
+    state: State,
+) -> Result<State, AllocError>
+    requires finder { Finds finder.now t.now.tables }
+    requires trails { HaveTrails state.crossings.items k state.waiting.items }
     ensures { IfOk result (λ next. (pk : Items ℕ) → IsAt t.now pk k state → IsAt t.now pk (k + 1) next) }
 {
     let mut crossings = state.crossings;
-    let sent = send(alloc, t, state.waiting.as_slice())?;
+    let sent = send(alloc, finder, t, state.waiting.as_slice())?;
     let left = leave(alloc, t, crossings.as_slice(), k, sent.as_slice())?;
     let histories = with_sorted(state.histories, left)?;
     let waiting = cross(alloc, t, &mut crossings, sent.as_slice())?;

@@ -12,7 +12,29 @@ use nk_field::Packet;
 pub fn lookup<'a>(t: &'a Tables, switch: u16, p: &Packet) -> Option<&'a Row>
     ensures { option_copied result ≡ row_for t.now switch p.now }
 {
-    highest(rows_at(t.tables.as_slice(), switch), p)
+    acting_row(rows_at(t.tables.as_slice(), switch), p)
+}
+
+/// The row of these that acts on a packet: of the rows that match, the one of the highest priority. None where none
+/// matches, or several share the highest priority.
+pub fn acting_row<'a>(rows: &'a [Row], p: &Packet) -> Option<&'a Row>
+    ensures { option_copied result ≡ rules_of.highest [] (filter (rules_of.agrees p.now) rows.now) }
+{
+    let mut best: Option<&'a Row> = None;
+    let mut tied = false;
+    for row in rows {
+        if agrees(row, p) {
+            match best {
+                Some(top) if row.priority < top.priority => {}
+                Some(top) if row.priority == top.priority => tied = true,
+                _ => {
+                    best = Some(row);
+                    tied = false;
+                }
+            }
+        }
+    }
+    if tied { None } else { best }
 }
 
 /// The rows of a switch, none where it has no table.
@@ -37,25 +59,4 @@ fn agrees(row: &Row, p: &Packet) -> bool
         }
     }
     true
-}
-
-/// Of the rows that match, the one of the highest priority, if one alone has it.
-fn highest<'a>(rows: &'a [Row], p: &Packet) -> Option<&'a Row>
-    ensures { option_copied result ≡ rules_of.highest [] (filter (rules_of.agrees p.now) rows.now) }
-{
-    let mut best: Option<&'a Row> = None;
-    let mut tied = false;
-    for row in rows {
-        if agrees(row, p) {
-            match best {
-                Some(top) if row.priority < top.priority => {}
-                Some(top) if row.priority == top.priority => tied = true,
-                _ => {
-                    best = Some(row);
-                    tied = false;
-                }
-            }
-        }
-    }
-    if tied { None } else { best }
 }

@@ -10,7 +10,7 @@ use Rattle.nk_sim.proofs.tracing.runs.Goals as goal
 pub returns-then-is_empty : goal.returns-then-is_empty
 returns-then-is_empty c =
     let none : length c.loop-step.waiting.items ≡ 0 = grind (arith, nat_tests, c.is_empty.ensures, c.if-is_empty.true) in
-    c.new.ensures.items
+    c.new-then-is_empty.ensures.items
     ∙ nothing_after c.args.t.now c.args.p.now c.loop-step._step c.args.k c.loop-step.crossings.items c.loop-step.waiting.items none c.loop-step.invariant c.loop-step-test.true
 
 pub loop-step-preserved : goal.loop-step-preserved

@@ -16,7 +16,7 @@ leave-requires c =
     let sent : c.as_slice-3.result.now ≡ flat_map (sent_flying t) fs =
     c.as_slice-3.ensures.value ∙ c.in_ok-sent.ensures ∙ ap (flat_map (sent_flying t)) c.as_slice.ensures.value in
     subst (λ (l : List Crossing). HaveTrails l k c.as_slice-3.result.now) (sym c.as_slice-2.ensures.value)
-    (subst (HaveTrails cs k) (sym sent) (sent_trails t cs k fs c.requires))
+    (subst (HaveTrails cs k) (sym sent) (sent_trails t cs k fs c.requires.trails))
 
 pub returns : goal.returns
 returns c = λ pk is.

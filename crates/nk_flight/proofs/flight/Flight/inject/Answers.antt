@@ -21,10 +21,10 @@ is_injected c =
     let flying : c.push.new.self.items ≡ inside.flying.items ++ length inside.hops.items ∷ [] =
     c.in_ok-push.ensures.items ∙ ap (λ n. inside.flying.items ++ n ∷ []) (c.len-place.ensures ∙ inside.hops.ok.0) in
     injected_sound inside.tables inside.packets.items c.push-3.new.self.items inside.hops.items c.push-2.new.self.items inside.flying.items c.push.new.self.items
-    inside.left.items pk packets hops flying c.self.invariant
+    inside.left.items pk packets hops flying c.self.invariant.0
 
 pub invariant_of-self-2 : goal.invariant_of-self-2
-invariant_of-self-2 c = (is_injected c).1
+invariant_of-self-2 c = ((is_injected c).1, c.self.invariant.1)
 
 pub returns-clause-ok : goal.returns-clause-ok
 returns-clause-ok c = (is_injected c).0 ∙ ap (injected c.args.p.now) c.self.view_is

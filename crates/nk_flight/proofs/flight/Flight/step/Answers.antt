@@ -26,7 +26,7 @@ is_stepped c =
     subst (λ (s : FlightState). i < length s.flying) (sym c.self.view_is) c.requires in
     let lt : i < length places = subst (λ n. i < n) (length-map places (λ j. copy_at t.fields hs (hop_at hs j))) whole in
     let here : slice_get places i ≡ Some p = got_at places i p lt c.index-place.ensures in
-    let there : p < length hs = subst (λ j. j < length hs) (sym c.index-place.ensures) (c.self.invariant.there i p lt) in
+    let there : p < length hs = subst (λ j. j < length hs) (sym c.index-place.ensures) (c.self.invariant.0.there i p lt) in
     let is : c.as_slice.result.now ≡ hs = c.as_slice.ensures.value in
     let made : next ≡ flat_map (hop_of t p (hop_at hs p)) (sent_for t (hop_at hs p).packet) =
     c.in_ok-all.ensures.next ∙ ap (λ l. flat_map (hop_of t p (hop_at l p)) (sent_for t (hop_at l p).packet)) is in
@@ -41,10 +41,10 @@ is_stepped c =
     let gone : c.append.new.self.items ≡ inside.left.items ++ left_next t (copy_at t.fields hs (hop_at hs p)) =
     c.in_ok-append.ensures.items ∙ ap (λ l. inside.left.items ++ l) (c.in_ok-all.ensures.left ∙ ap (λ l. left_next t (copy_at t.fields l (hop_at l p))) is) in
     stepped_sound t inside.packets.items hs c.append-2.new.self.items next places c.append-3.new.self.items inside.left.items c.append.new.self.items i p
-    c.self.invariant here there made grown flying gone
+    c.self.invariant.0 here there made grown flying gone
 
 pub invariant_of-self-2 : goal.invariant_of-self-2
-invariant_of-self-2 c = (is_stepped c).1
+invariant_of-self-2 c = ((is_stepped c).1, c.self.invariant.1)
 
 pub returns-clause-ok : goal.returns-clause-ok
 returns-clause-ok c = (is_stepped c).0 ∙ ap (stepped c.args.i) c.self.view_is

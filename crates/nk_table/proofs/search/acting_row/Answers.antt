@@ -3,8 +3,8 @@ use Rattle.std.specs.Prelude.{filter}
 use Rattle.std.specs.Option.{option_copied}
 use Rattle.nk_table.specs.Rules.{agrees}
 use Rattle.nk_table.proofs.Tops.{IsBest, best_first, best_higher, best_lower, best_equal, one_more, no_more, known_as}
-use Rattle.nk_table.proofs.search.highest.Goals as goal
-use Rattle.nk_table.proofs.search.highest.Goals.{then-agrees+in-Some, then-agrees+in-Some-2, then-agrees+in_default, in_default-via-in-Some-2+else-row-top-2, in_default-via-in_default, else-agrees}
+use Rattle.nk_table.proofs.search.acting_row.Goals as goal
+use Rattle.nk_table.proofs.search.acting_row.Goals.{then-agrees+in-Some, then-agrees+in-Some-2, then-agrees+in_default, in_default-via-in-Some-2+else-row-top-2, in_default-via-in_default, else-agrees}
 
 pub loop-row-preserved : goal.loop-row-preserved
 loop-row-preserved c =

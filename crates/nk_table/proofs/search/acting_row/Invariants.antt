@@ -3,7 +3,7 @@ use Rattle.std.specs.Prelude.{filter}
 use Rattle.std.specs.Option.{option_copied}
 use Rattle.nk_table.specs.Rules.{agrees}
 use Rattle.nk_table.proofs.Tops.{IsBest}
-use Rattle.nk_table.proofs.search.highest.Given as goal
+use Rattle.nk_table.proofs.search.acting_row.Given as goal
 
 -- the highest of the rows passed that match, and whether it is alone
 abbrev pub invariant-loop-row : goal.invariant-loop-row
