@@ -20,16 +20,16 @@ use Rattle.nk_reach.specs.Sides.{twin, alone_out, alone, ends_of, marked, mark_o
 use Rattle.nk_reach.proofs.Growing.{place_of}
 
 -- the out with this act and target
-abbrev to : List (ℕ × ℕ) → ℕ → Out
+abbrev pub to : List (ℕ × ℕ) → ℕ → Out
 to g t = record { act = g; target = t }
 
 -- the one item of a list
-only : {X : Type 0} {x y : X} → Has (x ∷ []) y → x ≡ y
+pub only : {X : Type 0} {x y : X} → Has (x ∷ []) y → x ≡ y
 only (inl e) = e
 only (inr k) = absurd k
 
 -- a marked out is a final, made exact
-marked_has : (mark : ℕ) (os : List Out) (o : Out) → Has (retargeted (Some mark ∷ []) os) o → (o.target ≡ mark) × Has os (to o.act 0)
+pub marked_has : (mark : ℕ) (os : List Out) (o : Out) → Has (retargeted (Some mark ∷ []) os) o → (o.target ≡ mark) × Has os (to o.act 0)
 marked_has mark os o h =
     let w = has_gathered (out_by_table (Some mark ∷ [])) os o h in
     by w.0 w.1 w.2
@@ -45,7 +45,7 @@ marked_has mark os o h =
         at (suc t) e = let q : ⊥ = subst (λ (t : ℕ). Has (out_by_table (Some mark ∷ []) (to p.act t)) o) e k in absurd q
 
 -- a final, made exact, is marked
-has_marked : (mark : ℕ) (os : List Out) (g : List (ℕ × ℕ)) → Has os (to g 0) → Has (retargeted (Some mark ∷ []) os) (to g mark)
+pub has_marked : (mark : ℕ) (os : List Out) (g : List (ℕ × ℕ)) → Has os (to g 0) → Has (retargeted (Some mark ∷ []) os) (to g mark)
 has_marked mark os g h = gathered_has (out_by_table (Some mark ∷ [])) os (to g 0) (to g mark) h (inl refl)
 
 -- what is known of a marked end

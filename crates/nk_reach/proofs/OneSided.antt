@@ -1,6 +1,7 @@
 -- What one side alone ends at, and that it stays so as the store grows.
-use Rattle.std.proofs.Common.{◌≡◌, ℕ, suc, ◌<◌, ◌+◌, Bool, true, false, cond, inl, inr, refl, sym, ◌∙◌, ap, subst, arith, List, [], ◌∷◌, ◌++◌, length, length-append, get_or, map, Option, Some}
+use Rattle.std.proofs.Common.{◌≡◌, ℕ, suc, ◌<◌, ◌+◌, Bool, true, false, cond, eqb, inl, inr, refl, sym, ◌∙◌, ap, subst, arith, List, [], ◌∷◌, ◌++◌, length, length-append, get_or, map, Option, None, Some}
 use Rattle.std.specs.List.{flat_map}
+use Rattle.std.specs.Map.{lookup}
 use Rattle.std.proofs.lemmas.List.{append_assoc, get_or-map, get_or_append_left}
 use Rattle.std.proofs.lemmas.Bool.Decides.{eqb_tells}
 use Rattle.nk_determ.specs.Exact.{split_leaf}
@@ -13,7 +14,7 @@ use Rattle.nk_algebra.specs.Unions.{AreIds, unions}
 use Rattle.nk_algebra.proofs.Members.{gathered_every}
 use Rattle.nk_algebra.proofs.Gathers.{flat_ordered}
 use Rattle.nk_reach.specs.Pairs.{HavePlaces}
-use Rattle.nk_reach.specs.Sides.{alone_out, alone, ends_of, marked, mark_of, AreMarked}
+use Rattle.nk_reach.specs.Sides.{alone_out, alone, ends_of, IsAloneOf, AreAloneOf, IsGoalOf, alone_on, marked, IsMarkedOf, AreMarkedOf, mark_of, AreMarked}
 
 -- as many diagrams as labels
 count_map : (ends set : List ℕ) → length (map (λ l. get_or ends l 0) set) ≡ length set
@@ -78,13 +79,6 @@ pub marked_same : (a b : Held) (d mark : ℕ) (pk : List ℕ) → Grows a b → 
 marked_same a b d mark pk g i =
     ap (λ (ms : List ℕ). retargeted (Some mark ∷ []) (split_leaf ms pk (look b d pk))) g.maxes ∙ ap (λ os. retargeted (Some mark ∷ []) (split_leaf a.maxes pk os)) (g.leaves d pk i)
 
--- the ends of a diagram, split and marked
-pub marked_of : (st s1 s2 : Held) (d e r mark : ℕ) (table : List (Option ℕ)) → table ≡ Some mark ∷ [] → HasLeaves s1 e (λ pk. split_leaf st.maxes pk (look st d pk)) → HasLeaves s2 r (λ pk. retargeted table (look s1 e pk)) → HasLeaves s2 r (λ pk. marked st d mark pk)
-marked_of st s1 s2 d e r mark table is h k = record {
-  id = k.id;
-  leaf = λ pk w. k.leaf pk w ∙ ap (retargeted table) (h.leaf pk w) ∙ ap (λ t. retargeted t (split_leaf st.maxes pk (look st d pk))) is;
-}
-
 -- both starts marked
 pub starts_of : (st s1 s2 s3 : Held) (left right a b r : ℕ) → IsId st right → Grows st s1 → Grows s1 s2 → HasLeaves s1 a (λ pk. marked st left 1 pk) → HasLeaves s2 b (λ pk. marked s1 right 2 pk) → HasLeaves s3 r (λ pk. merged (look s2 a pk) (look s2 b pk)) → HasLeaves s3 r (λ pk. merged (marked st left 1 pk) (marked st right 2 pk))
 starts_of st s1 s2 s3 left right a b r i g h ka kb k = record {
@@ -136,3 +130,65 @@ marks_ids a st rows left right bound n ends m i l = elim (eqb_tells i 0) [
 -- no label is marked
 pub marks_none : (a : Held) (rows : List ℕ) (left right bound : ℕ) → AreMarked a rows left right bound 0 a []
 marks_none a rows left right bound = record { count = refl; start = λ p. absurd (omega (arith, p)); rest = λ i p q. absurd (omega (arith, q)) }
+
+-- a table with one more entry, each with the property
+table_put : (P : ℕ → ℕ → Type 0) (key r : ℕ) (old new : List (ℕ × ℕ)) → ((q z : ℕ) → lookup (eqb q) old ≡ Some z → P q z) → P key r →
+    ((q : ℕ) → lookup (eqb q) new ≡ cond (eqb key q) (Some r) (lookup (eqb q) old)) → (q z : ℕ) → lookup (eqb q) new ≡ Some z → P q z
+table_put P key r old new are one put q z e =
+    elim (eqb_tells key q) [
+      | inl same ↦
+          let is : Some r ≡ Some z = sym (put q ∙ ap (λ b. cond b (Some r) (lookup (eqb q) old)) same.0) ∙ e in
+          let z_is : r ≡ z = ap (value_or r) is in
+          subst (λ k. P k z) same.1 (subst (P key) z_is one)
+      | inr other ↦ are q z (sym (put q ∙ ap (λ b. cond b (Some r) (lookup (eqb q) old)) other.0) ∙ e)
+    ]
+  where
+    value_or : ℕ → Option ℕ → ℕ
+    value_or d None = d
+    value_or d (Some x) = x
+
+-- no table is nothing of the kind
+no_entry : (P : ℕ → ℕ → Type 0) (table : List (ℕ × ℕ)) → table ≡ [] → (q z : ℕ) → lookup (eqb q) table ≡ Some z → P q z
+no_entry P table is q z e = absurd (subst (λ o. Lacks o) (sym (ap (λ t. lookup (eqb q) t) is) ∙ e) tt)
+  where
+    Lacks : Option ℕ → Type 0
+    Lacks None = Unit {0}
+    Lacks (Some x) = ⊥
+
+-- what one side alone has of some ends, while the store grows
+pub alones_on : (old new : Held) (table : List (ℕ × ℕ)) → Grows old new → AreAloneOf old table → AreAloneOf new table
+alones_on old new table g are d r e = alone_on old new d r g (are d r e)
+
+-- and of one more
+pub alones_put : (old new : Held) (d r : ℕ) (before after : List (ℕ × ℕ)) → Grows old new → IsId old d → AreAloneOf old before → HasLeaves new r (λ pk. alone (look old d pk)) →
+    ((q : ℕ) → lookup (eqb q) after ≡ cond (eqb d q) (Some r) (lookup (eqb q) before)) → AreAloneOf new after
+alones_put old new d r before after g i are k put =
+    table_put (IsAloneOf new) d r before after (alones_on old new before g are)
+    (record { ends_id = g.ids d i; leaves = record { id = k.id; leaf = λ pk w. k.leaf pk w ∙ sym (ap alone (g.leaves d pk i)) } }) put
+
+-- the goal at its start
+pub goal_new : (st : Held) (ends : List ℕ) (table : List (ℕ × ℕ)) → AreIds st ends → table ≡ [] → IsGoalOf st ends table
+goal_new st ends table ids is = record { ids = ids; made = no_entry (IsAloneOf st) table is }
+
+-- no row is marked
+pub no_marks : (st : Held) (mark : ℕ) (table : List (ℕ × ℕ)) → table ≡ [] → AreMarkedOf st mark table
+no_marks st mark table is = no_entry (IsMarkedOf st mark) table is
+
+-- marked rows stay so while the store grows
+pub marks_on : (old new : Held) (mark : ℕ) (table : List (ℕ × ℕ)) → Grows old new → AreMarkedOf old mark table → AreMarkedOf new mark table
+marks_on old new mark table g are row r e =
+    let k = are row r e in
+    record {
+      row_id = g.ids row k.row_id;
+      leaves = record {
+        id = g.ids r k.leaves.id;
+        leaf = λ pk w. g.leaves r pk k.leaves.id ∙ k.leaves.leaf pk w ∙ sym (marked_same old new row mark pk g k.row_id);
+      };
+    }
+
+-- one row more
+pub marks_put : (old new : Held) (mark row r : ℕ) (before after : List (ℕ × ℕ)) → Grows old new → IsId old row → AreMarkedOf old mark before → HasLeaves new r (λ pk. marked old row mark pk) →
+    ((q : ℕ) → lookup (eqb q) after ≡ cond (eqb row q) (Some r) (lookup (eqb q) before)) → AreMarkedOf new mark after
+marks_put old new mark row r before after g i are k put =
+    table_put (IsMarkedOf new mark) row r before after (marks_on old new mark before g are)
+    (record { row_id = g.ids row i; leaves = record { id = k.id; leaf = λ pk w. k.leaf pk w ∙ sym (marked_same old new row mark pk g i) } }) put

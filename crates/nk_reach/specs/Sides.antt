@@ -3,12 +3,13 @@
 -- of equal acts.
 use Rattle.std.specs.Prelude.{◌≡◌, ℕ, ◌<◌, ◌⊎◌, ◌↔◌, Bool, true, false, nat_lt, eqb, cond, List, [], ◌∷◌, Some, length, slice_index, Contains}
 use Rattle.std.specs.List.{list_any}
+use Rattle.std.specs.Map.{lookup}
 use Rattle.std.proofs.Common.{inl, inr, refl, sym, ap, ◌∙◌}
 use Rattle.std.proofs.lemmas.List.Elements.{All-head, All-tail}
 use Rattle.nk_field.specs.Act.{applied}
 use Rattle.nk_store.specs.declared.node.Out.{Out}
 use Rattle.nk_store.specs.contracts.node.OutPartialEq.TheImpl.{ghosts}
-use Rattle.nk_store.specs.Held.{Held, look, Grows, HasLeaves}
+use Rattle.nk_store.specs.Held.{Held, IsId, look, Grows, HasLeaves}
 use Rattle.nk_algebra.specs.Leaves.{merged, gathered}
 use Rattle.nk_algebra.specs.Unions.{AreIds}
 use Rattle.nk_algebra.proofs.Members.{Has, contains_has, has_gathered}
@@ -59,9 +60,49 @@ ends_same a b ends (l ∷ ls) pk g k p =
     ap (λ xs. merged xs (ends_of b ends ls pk)) (g.leaves (slice_index ends l) pk (k l (All-head (λ j. j < length ends) l ls p)))
     ∙ ap (λ xs. merged (look a (slice_index ends l) pk) xs) (ends_same a b ends ls pk g k (All-tail (λ j. j < length ends) l ls p))
 
+-- r has at each packet what one side alone has of the ends d
+pub record IsAloneOf (st : Held) (d r : ℕ) : Type 0 where
+  pub ends_id : IsId st d
+  pub leaves : HasLeaves st r (λ pk. alone (look st d pk))
+
+-- each entry leads from ends to what one side alone has of them
+abbrev pub AreAloneOf : Held → List (ℕ × ℕ) → Type 0
+AreAloneOf st entries = (d r : ℕ) → lookup (eqb d) entries ≡ Some r → IsAloneOf st d r
+
+-- these marked ends are diagrams of the store, and the table has what one side alone has of some ends
+pub record IsGoalOf (st : Held) (ends : List ℕ) (table : List (ℕ × ℕ)) : Type 0 where
+  pub ids : AreIds st ends
+  pub made : AreAloneOf st table
+
+-- what one side alone has of ends stays so while the store grows
+pub alone_on : (old new : Held) (d r : ℕ) → Grows old new → IsAloneOf old d r → IsAloneOf new d r
+alone_on old new d r g k = record {
+  ends_id = g.ids d k.ends_id;
+  leaves = record {
+    id = g.ids r k.leaves.id;
+    leaf = λ pk w. g.leaves r pk k.leaves.id ∙ k.leaves.leaf pk w ∙ sym (ap alone (g.leaves d pk k.ends_id));
+  };
+}
+
+-- and so do the marked ends with such a table
+pub goal_on : (old new : Held) (ends : List ℕ) (table : List (ℕ × ℕ)) → IsGoalOf old ends table → Grows old new → IsGoalOf new ends table
+goal_on old new ends table k g = record {
+  ids = λ i l. g.ids (slice_index ends i) (k.ids i l);
+  made = λ d r e. alone_on old new d r g (k.made d r e);
+}
+
 -- the finals of a diagram at a packet, their acts assigning what they change, with a mark in place of their target
 abbrev pub marked : Held → ℕ → ℕ → List ℕ → List Out
 marked st d mark pk = retargeted (Some mark ∷ []) (split_leaf st.maxes pk (look st d pk))
+
+-- r has at each packet the finals of the row, with the mark
+pub record IsMarkedOf (st : Held) (mark row r : ℕ) : Type 0 where
+  pub row_id : IsId st row
+  pub leaves : HasLeaves st r (λ pk. marked st row mark pk)
+
+-- each entry leads from a row to its marked finals
+abbrev pub AreMarkedOf : Held → ℕ → List (ℕ × ℕ) → Type 0
+AreMarkedOf st mark entries = (row r : ℕ) → lookup (eqb row) entries ≡ Some r → IsMarkedOf st mark row r
 
 -- the mark of a label's side: labels below the bound are of the left side
 abbrev pub mark_of : ℕ → ℕ → ℕ

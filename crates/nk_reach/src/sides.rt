@@ -1,11 +1,13 @@
 //! The goal of one side alone.
-ghost use Rattle.std.specs.Prelude.{◌≡◌, ℕ, ◌<◌, ◌++◌, cond, eqb, IfOk, OnOk, flat_map, map, length, slice_index, List as Items};
+ghost use Rattle.std.specs.Prelude.{◌≡◌, ◌↔◌, ℕ, ◌<◌, ◌++◌, [], cond, eqb, IfOk, OnOk, flat_map, map, length, slice_index, Contains, List as Items};
+ghost use Rattle.std.specs.List.Sorted.{IsStrictlyIncreasing};
+ghost use Rattle.std.specs.Map.{lookup};
 ghost use Rattle.std.proofs.Common.{ap};
-ghost use Rattle.nk_store.specs.Held.{IsId, IsPacket, Grows, HasLeaves};
+ghost use Rattle.nk_store.specs.Held.{IsId, IsPacket, look, Grows, HasLeaves};
 ghost use Rattle.nk_algebra.specs.Unions.{AreIds};
 ghost use Rattle.nk_algebra.specs.Leaves.{merged};
 ghost use Rattle.nk_reach.specs.Pairs.{HavePlaces};
-ghost use Rattle.nk_reach.specs.Sides.{alone_out, alone, ends_of, ends_same, alone_sided, twin, marked, mark_of, AreMarked, AreOneSided};
+ghost use Rattle.nk_reach.specs.Sides.{alone_out, alone, ends_of, ends_same, alone_sided, twin, marked, mark_of, AreMarked, AreMarkedOf, AreAloneOf, IsGoalOf, goal_on, AreOneSided};
 
 use crate::goal::Goal;
 use nk_algebra::{LeafMap, map_leaves, union, union_all};
@@ -13,6 +15,7 @@ use nk_determ::{SetId, Sets, retarget, split};
 use nk_field::List;
 use nk_store::{Id, Out, Store};
 use std::alloc::{AllocError, Global};
+use std::collections::HashMap;
 
 /// What one of two sides alone ends at is bad: a final with target 0 is the left side's, one with target 1 the right's.
 #[derive(Drop)]
@@ -20,25 +23,30 @@ pub struct OneSide {
     /// By label the diagram of its marked ends: acts that assign exactly what they change, with target 1 where the left side
     /// ends and 2 where the right side does. A label of both sides has both.
     pub ends: List<Id>,
+    /// What one side alone has of ends that were asked for, by the number of these ends.
+    pub seen: HashMap<Id, Id>,
 }
 
 impl Goal for OneSide {
-    ghost fits = { λ g st. AreIds st g.ends };
+    ghost fits = { λ g st. IsGoalOf st g.ends g.seen.entries };
 
     ghost labels = { λ g. length g.ends };
 
     ghost bad_of = { λ g st set pk. alone (ends_of st g.ends set pk) };
 
-    ghost fits_on = { λ g old new fits grows i l. grows.ids (slice_index g.ends i) (fits i l) };
+    ghost fits_on = { λ g old new fits grows. goal_on old new g.ends g.seen.entries fits grows };
 
-    ghost bad_on = { λ g old new set pk fits grows places. ap alone (ends_same old new g.ends set pk grows fits places) };
+    ghost bad_on = { λ g old new set pk fits grows places. ap alone (ends_same old new g.ends set pk grows fits.ids places) };
 
     ghost sided = { λ g st set pk o fits whole among. alone_sided (ends_of st g.ends set pk) o among };
 
     fn bad(&mut self, st: &mut Store, ss: &Sets, s: SetId) -> Result<Id, AllocError> {
-        let ds = ends_at(st.alloc(), self.ends.as_slice(), ss.members(s))?;
+        let picked = ends_at(st.alloc(), self.ends.as_slice(), ss.members(s))?;
+        let ds = each_once(picked);
+        st.laws();
         let ends = union_all(st, ds.as_slice())?;
-        map_leaves(st, &Alone {}, ends)
+        let r = alone_once(st, &mut self.seen, ends)?;
+        Ok(r)
     }
 }
 
@@ -57,23 +65,47 @@ impl OneSide {
         requires right { IsId st.old right }
         ensures grows { Grows st.old st.new }
         ensures ids { IfOk result (λ g. AreIds st.new g.ends) }
+        ensures fits { IfOk result (λ g. IsGoalOf st.new g.ends g.seen.entries) }
         ensures marked { IfOk result (λ g. AreMarked st.old rows.now left right bound (length rows.now) st.new g.ends) }
         ensures alone { IfOk result (λ g. (set pk : Items ℕ) → HavePlaces (length rows.now) set → IsPacket st.old pk →
             AreOneSided st.old rows.now left right bound set pk (alone (ends_of st.new g.ends set pk))) }
     {
         st.laws();
+        let mut marks = MarkedRows::new(st.alloc());
         let mut ends = List::new(st.alloc());
         for l in 0..rows.len() {
-            let d = marked_row(st, rows, left, right, bound, l)?;
+            let d = marked_row(st, &mut marks, rows, left, right, bound, l)?;
             ends.push(d)?;
         }
-        Ok(OneSide { ends })
+        let seen = HashMap::new(st.alloc());
+        Ok(OneSide { ends, seen })
+    }
+}
+
+/// The marked ends that were made of rows, by the row: those of the left side and those of the right.
+#[derive(Drop)]
+struct MarkedRows {
+    left: HashMap<Id, Id>,
+    right: HashMap<Id, Id>,
+}
+
+impl MarkedRows {
+    /// Of no row; it takes no memory.
+    fn new(alloc: Global) -> MarkedRows
+        ensures left { result.left.entries ≡ [] }
+        ensures right { result.right.entries ≡ [] }
+    {
+        MarkedRows {
+            left: HashMap::new(alloc),
+            right: HashMap::new(alloc),
+        }
     }
 }
 
 /// The marked ends of a label.
 fn marked_row(
     st: &mut Store,
+    marks: &mut MarkedRows,
     rows: &[Id],
     left: Id,
     right: Id,
@@ -84,14 +116,19 @@ fn marked_row(
     requires left { IsId st.old left }
     requires right { IsId st.old right }
     requires label { l < length rows.now }
+    requires of_left { AreMarkedOf st.old 1 marks.old.left.entries }
+    requires of_right { AreMarkedOf st.old 2 marks.old.right.entries }
     ensures grows { Grows st.old st.new }
     ensures start { IfOk result (λ d. l ≡ 0 → HasLeaves st.new d (λ pk. merged (marked st.old left 1 pk) (marked st.old right 2 pk))) }
     ensures rest { IfOk result (λ d. 0 < l → HasLeaves st.new d (λ pk. marked st.old (slice_index rows.now l) (mark_of bound l) pk)) }
+    ensures of_left { OnOk result (AreMarkedOf st.new 1 marks.new.left.entries) }
+    ensures of_right { OnOk result (AreMarkedOf st.new 2 marks.new.right.entries) }
 {
     if l == 0 {
-        return marked_starts(st, left, right);
+        let d = marked_starts(st, left, right)?;
+        return Ok(d);
     }
-    marked_ends(st, rows[l], side_mark(bound, l))
+    marked_label(st, marks, rows[l], bound, l)
 }
 
 /// The marked ends of both starts.
@@ -106,21 +143,66 @@ fn marked_starts(st: &mut Store, left: Id, right: Id) -> Result<Id, AllocError>
     union(st, first, second)
 }
 
-/// The finals of a diagram, made exact and marked.
+/// The marked ends of the row of a label, which is below the bound where it is of the left side.
+fn marked_label(
+    st: &mut Store,
+    marks: &mut MarkedRows,
+    row: Id,
+    bound: usize,
+    l: usize,
+) -> Result<Id, AllocError>
+    requires row { IsId st.old row }
+    requires of_left { AreMarkedOf st.old 1 marks.old.left.entries }
+    requires of_right { AreMarkedOf st.old 2 marks.old.right.entries }
+    ensures grows { Grows st.old st.new }
+    ensures ok { IfOk result (λ r. HasLeaves st.new r (λ pk. marked st.old row (mark_of bound l) pk)) }
+    ensures of_left { OnOk result (AreMarkedOf st.new 1 marks.new.left.entries) }
+    ensures of_right { OnOk result (AreMarkedOf st.new 2 marks.new.right.entries) }
+{
+    if l < bound {
+        let r = marked_once(st, &mut marks.left, row, 1)?;
+        return Ok(r);
+    }
+    let r = marked_once(st, &mut marks.right, row, 2)?;
+    Ok(r)
+}
+
+/// The marked ends of a row, which are looked up where they were made before.
+fn marked_once(
+    st: &mut Store,
+    made: &mut HashMap<Id, Id>,
+    row: Id,
+    mark: u64,
+) -> Result<Id, AllocError>
+    requires row { IsId st.old row }
+    requires made { AreMarkedOf st.old mark made.old.entries }
+    ensures grows { Grows st.old st.new }
+    ensures ok { IfOk result (λ r. HasLeaves st.new r (λ pk. marked st.old row mark pk)) }
+    ensures made { OnOk result (AreMarkedOf st.new mark made.new.entries) }
+{
+    if let Some(r) = known(made, row) {
+        return Ok(r);
+    }
+    let r = marked_ends(st, row, mark)?;
+    made.insert(row, r)?;
+    Ok(r)
+}
+
+/// What the table has for a diagram.
+fn known(table: &HashMap<Id, Id>, d: Id) -> Option<Id>
+    ensures { result ≡ lookup (eqb d) table.now.entries }
+{
+    table.get(&d).copied()
+}
+
+/// The finals of a diagram, made exact and marked. They are marked first, since they are few of its outs.
 fn marked_ends(st: &mut Store, d: Id, mark: u64) -> Result<Id, AllocError>
     requires { IsId st.old d }
     ensures grows { Grows st.old st.new }
     ensures ok { IfOk result (λ r. HasLeaves st.new r (λ pk. marked st.old d mark pk)) }
 {
-    let exact = split(st, d)?;
-    retarget(st, exact, &[Some(mark)])
-}
-
-/// The mark of a label's side.
-fn side_mark(bound: usize, l: usize) -> u64
-    ensures { result ≡ mark_of bound l }
-{
-    if l < bound { 1 } else { 2 }
+    let finals = retarget(st, d, &[Some(mark)])?;
+    split(st, finals)
 }
 
 /// The diagrams of some labels.
@@ -133,6 +215,33 @@ fn ends_at(alloc: Global, ends: &[Id], labels: &[u64]) -> Result<List<Id>, Alloc
         ds.push(ends[*l as usize])?;
     }
     Ok(ds)
+}
+
+/// The diagrams in order, each once.
+fn each_once(ds: List<Id>) -> List<Id>
+    ensures members { (d : ℕ) → Contains result d ↔ Contains ds d }
+    ensures once { IsStrictlyIncreasing result }
+{
+    let mut all = ds.into_vec();
+    all.sort_unstable();
+    all.dedup();
+    List::from_vec(all)
+}
+
+/// What one side alone has of ends, which is looked up where it was made before.
+fn alone_once(st: &mut Store, seen: &mut HashMap<Id, Id>, ends: Id) -> Result<Id, AllocError>
+    requires ends { IsId st.old ends }
+    requires seen { AreAloneOf st.old seen.old.entries }
+    ensures grows { Grows st.old st.new }
+    ensures ok { IfOk result (λ r. HasLeaves st.new r (λ pk. alone (look st.old ends pk))) }
+    ensures seen { OnOk result (AreAloneOf st.new seen.new.entries) }
+{
+    if let Some(r) = known(seen, ends) {
+        return Ok(r);
+    }
+    let r = map_leaves(st, &Alone {}, ends)?;
+    seen.insert(ends, r)?;
+    Ok(r)
 }
 
 /// The ends of one side alone.

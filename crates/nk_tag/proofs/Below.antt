@@ -1,4 +1,4 @@
--- The numbers of the sets of so many odd levels, level by level.
+-- The numbers of the sets of so many levels, level by level.
 use Rattle.std.proofs.Common.{◌≡◌, ℕ, zero, suc, ◌+◌, ◌*◌, ◌/◌, ◌<◌, ◌≤◌, ◌⊎◌, inl, inr, ⊎_elim, List, [], ◌∷◌, ◌++◌, length, length-take-le, get_or, take, refl, sym, subst, arith}
 use Rattle.std.specs.Prelude.{AllPairs, Contains, slice_index_or}
 use Rattle.std.proofs.lemmas.List.Elements.{Contains-append_left, Contains-append_right, Contains-append_cases, Contains-get_or}
@@ -8,9 +8,9 @@ use Rattle.nk_field.proofs.Lists.{In, in_from_contains, contains_from_in, in_eit
 use Rattle.nk_field.proofs.Ascending.{first_before, rest_in_order, all_from_members}
 use Rattle.nk_policy.specs.Labels.{IsWithoutDoubles, AtLeast}
 use Rattle.nk_reach.specs.Pairs.{Named}
-use Rattle.nk_tag.specs.Numbers.{odd_level, IsAtOdd, IsFirst, IsNumberedBefore, AreNumbers}
+use Rattle.nk_tag.specs.Numbers.{IsNamedAt, IsFirstAt, IsNamedBefore, AreInOrder}
 use Rattle.nk_tag.specs.Steps.{IsAdded, AreBelow}
-use Rattle.nk_tag.proofs.Naming.{named_within, named_decided}
+use Rattle.nk_tag.proofs.Naming.{named_decided}
 
 -- no list stands before itself
 never_before : (xs : List ℕ) → IsListedBefore xs xs → ⊥
@@ -60,43 +60,43 @@ pairs_with R S xs h f i j d lt less =
     (in_from_contains xs (get_or xs j d) (Contains-get_or xs j d less))
     (h i j d lt less)
 
--- the first odd level of so many that names a set, if there is one
-search_first : (ls : List (List (ℕ × ℕ))) (s n : ℕ)
-    → ((j : ℕ) × (j < n) × IsFirst ls s j) ⊎ ((k : ℕ) → k < n → Named (odd_level ls k) s → ⊥)
-search_first ls s zero = inr (λ k lt h. omega (arith, lt))
-search_first ls s (suc n) = by (search_first ls s n) (named_decided (odd_level ls n) s)
+-- the first level of so many that names a set, if there is one
+search_first : (levels : ℕ → List (ℕ × ℕ)) (s n : ℕ)
+    → ((j : ℕ) × (j < n) × IsFirstAt levels s j) ⊎ ((k : ℕ) → k < n → Named (levels k) s → ⊥)
+search_first levels s zero = inr (λ k lt h. omega (arith, lt))
+search_first levels s (suc n) = by (search_first levels s n) (named_decided (levels n) s)
   where
-    by : ((j : ℕ) × (j < n) × IsFirst ls s j) ⊎ ((k : ℕ) → k < n → Named (odd_level ls k) s → ⊥)
-        → Decided (Named (odd_level ls n) s)
-        → ((j : ℕ) × (j < suc n) × IsFirst ls s j) ⊎ ((k : ℕ) → k < suc n → Named (odd_level ls k) s → ⊥)
+    by : ((j : ℕ) × (j < n) × IsFirstAt levels s j) ⊎ ((k : ℕ) → k < n → Named (levels k) s → ⊥)
+        → Decided (Named (levels n) s)
+        → ((j : ℕ) × (j < suc n) × IsFirstAt levels s j) ⊎ ((k : ℕ) → k < suc n → Named (levels k) s → ⊥)
     by (inl r) d = inl (r.0, omega (arith, r.1), r.2)
     by (inr none) (inl h) = inl (n, omega arith, record { named = h; first = none })
     by (inr none) (inr other) = inr (λ k lt h.
         ⊎_elim
-        (λ e. other (subst (λ i. Named (odd_level ls i) s) e h))
+        (λ e. other (subst (λ i. Named (levels i) s) e h))
         (λ ne. none k (omega (arith, lt, ne)) h)
         (numbers_decided k n))
 
--- the first odd level that names a set that is named
-first_of : (ls : List (List (ℕ × ℕ))) (s n : ℕ) → Named (odd_level ls n) s → (j : ℕ) × (j ≤ n) × IsFirst ls s j
-first_of ls s n h =
+-- the first level that names a set that is named
+first_of : (levels : ℕ → List (ℕ × ℕ)) (s n : ℕ) → Named (levels n) s → (j : ℕ) × (j ≤ n) × IsFirstAt levels s j
+first_of levels s n h =
     ⊎_elim
     (λ r. (r.0, omega (arith, r.1), r.2))
     (λ none. absurd (none n (omega arith) h))
-    (search_first ls s (suc n))
+    (search_first levels s (suc n))
 
 -- no level at all
-pub none_below : (ss : List (List ℕ)) (ls : List (List (ℕ × ℕ))) (r : List ℕ) → r ≡ [] → AreBelow ss ls 0 r
-none_below ss ls r e = subst (λ l. AreBelow ss ls 0 l) (sym e) record {
+pub none_below : (ss : List (List ℕ)) (levels : ℕ → List (ℕ × ℕ)) (r : List ℕ) → r ≡ [] → AreBelow levels ss 0 r
+none_below ss levels r e = subst (λ l. AreBelow levels ss 0 l) (sym e) record {
   exactly = λ s. (λ c. absurd (in_from_contains [] s c), λ h. absurd (omega (arith, h.1)));
   once = tt;
   in_order = λ i j d lt less. absurd (omega (arith, less));
 }
 
--- one odd level more
-pub below_more : (ss : List (List ℕ)) (ls : List (List (ℕ × ℕ))) (n : ℕ) (r new : List ℕ) → AreBelow ss ls n r
-    → IsAdded ss (odd_level ls n) r new → AreBelow ss ls (n + 1) new
-below_more ss ls n r new b a = subst (λ l. AreBelow ss ls (n + 1) l) (sym a.is) record {
+-- one level more
+pub below_more : (ss : List (List ℕ)) (levels : ℕ → List (ℕ × ℕ)) (n : ℕ) (r new : List ℕ) → AreBelow levels ss n r
+    → IsAdded ss (levels n) r new → AreBelow levels ss (n + 1) new
+below_more ss levels n r new b a = subst (λ l. AreBelow levels ss (n + 1) l) (sym a.is) record {
   exactly = λ s. (
     λ c.
         ⊎_elim
@@ -108,16 +108,16 @@ below_more ss ls n r new b a = subst (λ l. AreBelow ss ls (n + 1) l) (sym a.is)
   once = without_doubles (r ++ a.more)
       (apart_joined r a.more (apart_of r b.once) apart_more (λ s i k.
       ((a.which s).0 (contains_from_in a.more s k)).1 (contains_from_in r s i)));
-  in_order = pairs_joined (IsNumberedBefore ss ls) r a.more b.in_order
-      (pairs_with (λ s t. IsListedBefore (slice_index_or ss s []) (slice_index_or ss t [])) (IsNumberedBefore ss ls) a.more a.in_order
+  in_order = pairs_joined (IsNamedBefore levels ss) r a.more b.in_order
+      (pairs_with (λ s t. IsListedBefore (slice_index_or ss s []) (slice_index_or ss t [])) (IsNamedBefore levels ss) a.more a.in_order
       (λ s t i k h. (n, n, new_first s i, new_first t k, inr (refl, h))))
       (λ s t i k.
       let h = (b.exactly s).0 (contains_from_in r s i) in
-      let f = first_of ls s h.0 h.2 in
+      let f = first_of levels s h.0 h.2 in
       (f.0, n, f.2, new_first t k, inl (omega (arith, f.1, h.1))));
 }
   where
-    new_first : (s : ℕ) → In a.more s → IsFirst ls s n
+    new_first : (s : ℕ) → In a.more s → IsFirstAt levels s n
     new_first s i =
         let w = (a.which s).0 (contains_from_in a.more s i) in
         record { named = w.0; first = λ k lt h. w.1 ((b.exactly s).1 (k, lt, h)) }
@@ -126,7 +126,7 @@ below_more ss ls n r new b a = subst (λ l. AreBelow ss ls (n + 1) l) (sym a.is)
     apart_more = apart_from (λ s t. IsListedBefore (slice_index_or ss s []) (slice_index_or ss t []))
         (λ s h. never_before (slice_index_or ss s []) h) a.more a.in_order
 
-    joined : (s j : ℕ) → j < n + 1 → Named (odd_level ls j) s → Contains (r ++ a.more) s
+    joined : (s j : ℕ) → j < n + 1 → Named (levels j) s → Contains (r ++ a.more) s
     joined s j lt h =
         ⊎_elim
         (λ e.
@@ -134,34 +134,32 @@ below_more ss ls n r new b a = subst (λ l. AreBelow ss ls (n + 1) l) (sym a.is)
         (λ old. Contains-append_left r a.more s (contains_from_in r s old))
         (λ no.
         Contains-append_right r a.more s
-        ((a.which s).1 (subst (λ k. Named (odd_level ls k) s) e h, λ c. no (in_from_contains r s c))))
+        ((a.which s).1 (subst (λ k. Named (levels k) s) e h, λ c. no (in_from_contains r s c))))
         (in_decided numbers_decided r s))
         (λ ne. Contains-append_left r a.more s ((b.exactly s).1 (j, omega (arith, lt, ne), h)))
         (numbers_decided j n)
 
--- all odd levels
-pub all_below : (ss : List (List ℕ)) (ls : List (List (ℕ × ℕ))) (n : ℕ) (r : List ℕ) → length ls / 2 ≤ n
-    → AreBelow ss ls n r → AreNumbers ss ls r
-all_below ss ls n r many b = record {
+-- all levels that name a set
+pub all_below : (ss : List (List ℕ)) (levels : ℕ → List (ℕ × ℕ)) (n : ℕ) (r : List ℕ) → ((j s : ℕ) → Named (levels j) s → j < n)
+    → AreBelow levels ss n r → AreInOrder levels ss r
+all_below ss levels n r many b = record {
   exactly = λ s. (
     λ c. let h = (b.exactly s).0 c in (h.0, h.2),
-    λ h.
-        let lt = named_within ls (2 * h.0 + 1) s h.1 in
-        (b.exactly s).1 (h.0, omega (arith, lt, many), h.1),
+    λ h. (b.exactly s).1 (h.0, many h.0 s h.1, h.1),
   );
   once = b.once;
   in_order = b.in_order;
 }
 
 -- more than may be
-pub too_many : (ss : List (List ℕ)) (ls : List (List (ℕ × ℕ))) (n : ℕ) (r : List ℕ) (max : ℕ) → AreBelow ss ls n r
-    → max < length r → AtLeast (max + 1) (IsAtOdd ls)
-too_many ss ls n r max b lt =
+pub too_many : (ss : List (List ℕ)) (levels : ℕ → List (ℕ × ℕ)) (n : ℕ) (r : List ℕ) (max : ℕ) → AreBelow levels ss n r
+    → max < length r → AtLeast (max + 1) (IsNamedAt levels)
+too_many ss levels n r max b lt =
     let le : max + 1 ≤ length r = omega (arith, lt) in
     let f = front_apart (max + 1) r (apart_of r b.once) in (
       take (max + 1) r,
       length-take-le (max + 1) r le,
       without_doubles (take (max + 1) r) f.0,
-      all_from_members (IsAtOdd ls) (take (max + 1) r) (λ s i.
+      all_from_members (IsNamedAt levels) (take (max + 1) r) (λ s i.
           let h = (b.exactly s).0 (contains_from_in r s (f.1 s i)) in (h.0, h.2)),
     )

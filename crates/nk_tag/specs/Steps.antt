@@ -7,7 +7,7 @@ use Rattle.std.specs.declared.cmp.Ordering.{Ordering}
 use Rattle.nk_field.specs.Order.{IsListedBefore}
 use Rattle.nk_policy.specs.Labels.{IsWithoutDoubles}
 use Rattle.nk_reach.specs.Pairs.{Named}
-use Rattle.nk_tag.specs.Numbers.{odd_level, IsNumberedBefore}
+use Rattle.nk_tag.specs.Numbers.{IsNamedBefore}
 
 -- the members of an entry's set, beside its number
 abbrev pub set_of : List (List ℕ) → ℕ × ℕ → List ℕ × ℕ
@@ -28,8 +28,8 @@ pub record IsAdded (ss : List (List ℕ)) (level : List (ℕ × ℕ)) (old new :
   pub which : (s : ℕ) → Contains more s ↔ (Named level s × (Contains old s → ⊥))
   pub in_order : AllPairs (λ s t. IsListedBefore (slice_index_or ss s []) (slice_index_or ss t [])) more
 
--- the sets of so many odd levels, each once, in order
-pub record AreBelow (ss : List (List ℕ)) (ls : List (List (ℕ × ℕ))) (n : ℕ) (r : List ℕ) : Type 0 where
-  pub exactly : (s : ℕ) → Contains r s ↔ ((j : ℕ) × (j < n) × Named (odd_level ls j) s)
+-- the sets of so many levels, each once, in order
+pub record AreBelow (levels : ℕ → List (ℕ × ℕ)) (ss : List (List ℕ)) (n : ℕ) (r : List ℕ) : Type 0 where
+  pub exactly : (s : ℕ) → Contains r s ↔ ((j : ℕ) × (j < n) × Named (levels j) s)
   pub once : IsWithoutDoubles r
-  pub in_order : AllPairs (IsNumberedBefore ss ls) r
+  pub in_order : AllPairs (IsNamedBefore levels ss) r

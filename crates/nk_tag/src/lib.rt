@@ -1,8 +1,8 @@
-//! Tag numbers: the sets of labels at odd levels, in order.
+//! The sets of labels at levels, in order: tag numbers are the places of those at odd levels.
 #![tactic(auto)]
 
 mod error;
 mod numbers;
 
 pub use error::NumberError;
-pub use numbers::number;
+pub use numbers::{later_sets, number};

@@ -1,9 +1,9 @@
-//! Numbers of the sets at odd levels.
+//! The sets at levels in order: numbers of those at odd levels, and those behind the first level.
 ghost use Rattle.std.specs.Prelude.{◌≡◌, ◌≤◌, ◌<◌, ◌+◌, ◌*◌, ◌^◌, false, IfOk, IfErr, OnOk, [], length, map, All, nat_eq, slice_index_or};
 ghost use Rattle.std.specs.List.Sorted.{IsPermutation, IsSorted};
 ghost use Rattle.nk_reach.specs.Pairs.{Once};
 ghost use Rattle.indexmap.specs.IndexSet.{insert_all};
-ghost use Rattle.nk_tag.specs.Numbers.{AreEntries, AreNumbers, IsFault};
+ghost use Rattle.nk_tag.specs.Numbers.{AreEntries, AreNumbers, AreLaterSets, IsFault};
 ghost use Rattle.nk_tag.specs.Steps.{unseen, set_cmp, IsAdded};
 
 use crate::error::NumberError;
@@ -34,6 +34,21 @@ pub fn number(ss: &Sets, lv: &Levels, max: u64) -> Result<List<SetId>, NumberErr
     }
     let ids = set_ids(alloc, all.as_slice())?;
     Ok(ids)
+}
+
+/// The sets at levels behind the first one, each once: by the first of these levels that names them, inside a level by their
+/// members in dictionary order. The only error is that memory ran out.
+pub fn later_sets(ss: &Sets, lv: &Levels) -> Result<List<SetId>, AllocError>
+    requires { AreEntries ss.now lv.now.levels }
+    ensures { IfOk result (λ r. AreLaterSets ss.now lv.now.levels r) }
+{
+    let alloc = lv.levels.alloc();
+    let mut all = IndexSet::new(alloc);
+    for i in 1..lv.levels.len() {
+        add_level(alloc, ss, lv, i, &mut all)?;
+    }
+    let sets = set_ids(alloc, all.as_slice())?;
+    Ok(sets)
 }
 
 /// The numbers with those of the level at a place.

@@ -1,17 +1,18 @@
-use Rattle.std.proofs.Common.{◌+◌, ◌<◌, ◌≤◌, ◌/◌, length, refl, sym, subst, ◌∙◌, arith}
-use Rattle.nk_tag.specs.Numbers.{AreNumbers}
+use Rattle.std.proofs.Common.{◌+◌, ◌*◌, ◌<◌, ◌≤◌, ◌/◌, length, refl, sym, subst, ◌∙◌, arith}
+use Rattle.nk_tag.specs.Numbers.{odd_level, AreNumbers}
+use Rattle.nk_tag.proofs.Naming.{named_within}
 use Rattle.nk_tag.proofs.Below.{below_more, all_below, too_many}
 use Rattle.nk_tag.proofs.numbers.number.Goals as goal
 
 pub returns-then-len-max-clause-err : goal.returns-then-len-max-clause-err
 returns-then-len-max-clause-err c =
-    let more = below_more c.args.ss.now c.args.lv.now.levels c.loop-j.j c.loop-j.all.keys c.add_level.new.all.keys c.loop-j.invariant.below c.in_ok-add_level.ensures in
+    let more = below_more c.args.ss.now (odd_level c.args.lv.now.levels) c.loop-j.j c.loop-j.all.keys c.add_level.new.all.keys c.loop-j.invariant.below c.in_ok-add_level.ensures in
     let lt : c.args.max < length c.add_level.new.all.keys = omega (arith, c.len.ensures.len, c.if-len-max.true) in
-    (refl, too_many c.args.ss.now c.args.lv.now.levels (c.loop-j.j + 1) c.add_level.new.all.keys c.args.max more lt)
+    (refl, too_many c.args.ss.now (odd_level c.args.lv.now.levels) (c.loop-j.j + 1) c.add_level.new.all.keys c.args.max more lt)
 
 pub loop-j-preserved : goal.loop-j-preserved
 loop-j-preserved c = record {
-  below = below_more c.args.ss.now c.args.lv.now.levels c.loop-j.j c.loop-j.all.keys c.add_level.new.all.keys c.loop-j.invariant.below c.in_ok-add_level.ensures;
+  below = below_more c.args.ss.now (odd_level c.args.lv.now.levels) c.loop-j.j c.loop-j.all.keys c.add_level.new.all.keys c.loop-j.invariant.below c.in_ok-add_level.ensures;
   few = omega (arith, c.len.ensures.len, c.if-len-max.false);
 }
 
@@ -20,4 +21,5 @@ returns-clause-ok c =
     let many : length c.args.lv.now.levels / 2 ≤ c.loop-j.j = omega (arith, c.loop-j-test.false, c.len-j-end.ensures) in
     subst (λ l. AreNumbers c.args.ss.now c.args.lv.now.levels l)
     (sym (c.in_ok-ids.ensures ∙ c.as_slice.ensures.keys))
-    (all_below c.args.ss.now c.args.lv.now.levels c.loop-j.j c.loop-j.all.keys many c.loop-j.invariant.below)
+    (all_below c.args.ss.now (odd_level c.args.lv.now.levels) c.loop-j.j c.loop-j.all.keys
+    (λ j s h. let lt = named_within c.args.lv.now.levels (2 * j + 1) s h in omega (arith, lt, many)) c.loop-j.invariant.below)
