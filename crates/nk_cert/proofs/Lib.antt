@@ -14,3 +14,11 @@ pub mod Breaking
 pub mod Sided
 pub mod Beside
 pub mod Named
+pub mod Predicates
+pub mod RowSets
+pub mod Judging
+pub mod Finding
+pub mod Standing
+pub mod Making
+pub mod Moved
+pub mod Weighing

@@ -32,7 +32,11 @@ ghost use Rattle.nk_cert.specs.Checked.{IsSetAt, HasNoBad, StepsLeadToRows};
 
 /// Whoever made it, a certificate shows that both policies give the same histories on every packet in range.
 pub fn a_certificate_shows_equality()
-    ensures { (fields : FieldTable) (p q : Policy) → AreSides p q
+    ensures sides { (fields : FieldTable) (p q : Policy) → AreSides p q
+        → IsInRange p fields → IsInRange q fields
+        → (c : CertificateValue) → IsCertificate fields p q c → AreSame fields p q }
+    // So it does for policies as `check_policies` takes them, the right one's dups numbered on from the left one's.
+    ensures numbered { (fields : FieldTable) (p q : Policy) → AreNumbered p q
         → IsInRange p fields → IsInRange q fields
         → (c : CertificateValue) → IsCertificate fields p q c → AreSame fields p q }
 {}

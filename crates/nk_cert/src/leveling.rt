@@ -3,6 +3,7 @@ ghost use Rattle.std.specs.Prelude.{◌≡◌, ◌<◌, ◌∷◌, [], IfOk, len
 ghost use Rattle.nk_store.specs.Held.{IsId, Grows};
 ghost use Rattle.nk_determ.specs.Sets.{SetsGrow};
 ghost use Rattle.nk_reach.specs.Pairs.{AreRows};
+ghost use Rattle.nk_reach.specs.Sides.{IsGoalOf};
 ghost use Rattle.nk_cert.specs.Levelled.{AreSideLevels};
 
 use crate::pairing::Both;
@@ -37,6 +38,7 @@ pub fn levels_of_both(
     ensures grows { Grows st.old st.new }
     ensures sets { SetsGrow ss.old ss.new }
     ensures ok { IfOk result (λ l. AreSideLevels st.old both.now.rows both.now.left both.now.right bound st.new ss.new l.goal.ends l.levels.levels l.levels.broken) }
+    ensures goal { IfOk result (λ l. IsGoalOf st.new l.goal.ends l.goal.seen.entries) }
 {
     levels_of_rows(st, ss, both.rows.as_slice(), both.left, both.right, bound)
 }
@@ -57,6 +59,7 @@ fn levels_of_rows(
     ensures grows { Grows st.old st.new }
     ensures sets { SetsGrow ss.old ss.new }
     ensures ok { IfOk result (λ l. AreSideLevels st.old rows.now left right bound st.new ss.new l.goal.ends l.levels.levels l.levels.broken) }
+    ensures goal { IfOk result (λ l. IsGoalOf st.new l.goal.ends l.goal.seen.entries) }
 {
     let mut goal = OneSide::new(st, rows, left, right, bound)?;
     let from = identity(st)?;
@@ -67,7 +70,7 @@ fn levels_of_rows(
 }
 
 /// The set of the start alone.
-fn start_alone(alloc: Global) -> Result<List<u64>, AllocError>
+pub(crate) fn start_alone(alloc: Global) -> Result<List<u64>, AllocError>
     ensures { IfOk result (λ ls. ls ≡ 0 ∷ []) }
 {
     let mut ls = List::new(alloc);

@@ -1,9 +1,23 @@
-//! Certificates of equality: what they are, laws on what they show, and the automaton and the levels of two policies together.
+//! Certificates of equality: what they are and show, what is found of one, and the printed one; and the automaton and the
+//! levels of two policies together.
 #![tactic(auto)]
 
+mod checking;
+mod entries;
+mod error;
+mod judge;
 pub mod laws;
 mod leveling;
+mod naming;
+mod packets;
 mod pairing;
+mod printed;
+mod shape;
 
+pub use checking::check_policies;
+pub use error::CheckError;
 pub use leveling::{LevelsOfBoth, levels_of_both};
+pub use naming::check;
 pub use pairing::{Both, automaton_of_both, number_behind};
+pub use printed::certificate_of;
+pub use shape::{CertPart, Certificate, Verdict};

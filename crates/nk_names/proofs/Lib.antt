@@ -13,3 +13,4 @@ pub mod ReadingBack
 pub mod Topologies
 pub mod Writable
 pub mod Predicates
+pub mod PredicatesBack

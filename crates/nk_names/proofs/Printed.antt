@@ -45,49 +45,49 @@ atom_from (a_seq t) = paren (one_term t)
 atom_from (a_star f) = paren (one_term (one_factor f))
 atom_from (an_atom a) = a
 
--- the name of a field, and a number, in the first line
-abbrev pub word_for : FieldTable → ℕ → Word
-word_for fields f = record { text = name_of fields f; line = 1 }
+-- the name of a field, and a number, on a line
+abbrev pub word_for : ℕ → FieldTable → ℕ → Word
+word_for line fields f = record { text = name_of fields f; line = line }
 
-abbrev pub number_for : ℕ → Number
-number_for n = record { value = n; line = 1 }
+abbrev pub number_for : ℕ → ℕ → Number
+number_for line n = record { value = n; line = line }
 
 abbrev mutual
-  -- how a policy is written
-  pub form_of : FieldTable → Policy → Form
-  form_of fields (test f n) = an_atom (written_test (word_for fields f) (number_for n))
-  form_of fields (assign f n) = an_atom (written_set (word_for fields f) (number_for n))
-  form_of fields (sum_of ps) = sum_form fields ps
-  form_of fields (seq_of ps) = seq_form fields ps
-  form_of fields (not_of p) = an_atom (written_not 1 (atom_from (form_of fields p)))
-  form_of fields (star_of p) = a_star (starred (plain (atom_from (form_of fields p))))
-  form_of fields (dup l) = an_atom written_dup
-  form_of fields (link a m b n l) = an_atom (written_link (number_for a) (number_for m) (number_for b) (number_for n))
+  -- how a policy is written on a line
+  pub form_of : ℕ → FieldTable → Policy → Form
+  form_of line fields (test f n) = an_atom (written_test (word_for line fields f) (number_for line n))
+  form_of line fields (assign f n) = an_atom (written_set (word_for line fields f) (number_for line n))
+  form_of line fields (sum_of ps) = sum_form line fields ps
+  form_of line fields (seq_of ps) = seq_form line fields ps
+  form_of line fields (not_of p) = an_atom (written_not line (atom_from (form_of line fields p)))
+  form_of line fields (star_of p) = a_star (starred (plain (atom_from (form_of line fields p))))
+  form_of line fields (dup l) = an_atom written_dup
+  form_of line fields (link a m b n l) = an_atom (written_link (number_for line a) (number_for line m) (number_for line b) (number_for line n))
 
   -- a sum of these parts
-  pub sum_form : FieldTable → Policies → Form
-  sum_form fields no_part = an_atom written_drop
-  sum_form fields (part p ps) = a_sum (sum_on fields (one_term (term_from (form_of fields p))) ps)
+  pub sum_form : ℕ → FieldTable → Policies → Form
+  sum_form line fields no_part = an_atom written_drop
+  sum_form line fields (part p ps) = a_sum (sum_on line fields (one_term (term_from (form_of line fields p))) ps)
 
   -- a sequence of them
-  pub seq_form : FieldTable → Policies → Form
-  seq_form fields no_part = an_atom written_id
-  seq_form fields (part p ps) = a_seq (seq_on fields (one_factor (factor_from (form_of fields p))) ps)
+  pub seq_form : ℕ → FieldTable → Policies → Form
+  seq_form line fields no_part = an_atom written_id
+  seq_form line fields (part p ps) = a_seq (seq_on line fields (one_factor (factor_from (form_of line fields p))) ps)
 
   -- further parts of a sum
-  pub sum_on : FieldTable → Pol → Policies → Pol
-  sum_on fields before no_part = before
-  sum_on fields before (part p ps) = sum_on fields (plus before (term_from (form_of fields p))) ps
+  pub sum_on : ℕ → FieldTable → Pol → Policies → Pol
+  sum_on line fields before no_part = before
+  sum_on line fields before (part p ps) = sum_on line fields (plus before (term_from (form_of line fields p))) ps
 
   -- and of a sequence
-  pub seq_on : FieldTable → Term → Policies → Term
-  seq_on fields before no_part = before
-  seq_on fields before (part p ps) = seq_on fields (semi before (factor_from (form_of fields p))) ps
+  pub seq_on : ℕ → FieldTable → Term → Policies → Term
+  seq_on line fields before no_part = before
+  seq_on line fields before (part p ps) = seq_on line fields (semi before (factor_from (form_of line fields p))) ps
 
 -- ---- its text
 
 -- texts one behind the other
-text_append : (xs ys : List Lexeme) → text_of (xs ++ ys) ≡ text_of xs ++ text_of ys
+pub text_append : (xs ys : List Lexeme) → text_of (xs ++ ys) ≡ text_of xs ++ text_of ys
 text_append [] ys = refl
 text_append (x ∷ xs) ys =
     ap (λ l. bytes_of x ++ l) (text_append xs ys) ∙ sym (append_assoc (bytes_of x) (text_of xs) (text_of ys))
@@ -130,9 +130,9 @@ atom_text (a_seq t) = in_parentheses (one_term t)
 atom_text (a_star f) = in_parentheses (one_term (one_factor f))
 atom_text (an_atom a) = refl
 
-module _ (fields : FieldTable) where
+module _ (line : ℕ) (fields : FieldTable) where
   -- a form is what the policy is
-  sum_is : (p : Policy) → is_a_sum (form_of fields p) ≡ is_sum p
+  sum_is : (p : Policy) → is_a_sum (form_of line fields p) ≡ is_sum p
   sum_is (test f n) = refl
   sum_is (assign f n) = refl
   sum_is (sum_of no_part) = refl
@@ -144,7 +144,7 @@ module _ (fields : FieldTable) where
   sum_is (dup l) = refl
   sum_is (link a m b n l) = refl
 
-  seq_is : (p : Policy) → is_a_seq (form_of fields p) ≡ is_seq p
+  seq_is : (p : Policy) → is_a_seq (form_of line fields p) ≡ is_seq p
   seq_is (test f n) = refl
   seq_is (assign f n) = refl
   seq_is (sum_of no_part) = refl
@@ -156,7 +156,7 @@ module _ (fields : FieldTable) where
   seq_is (dup l) = refl
   seq_is (link a m b n l) = refl
 
-  star_is : (p : Policy) → is_a_star (form_of fields p) ≡ is_star p
+  star_is : (p : Policy) → is_a_star (form_of line fields p) ≡ is_star p
   star_is (test f n) = refl
   star_is (assign f n) = refl
   star_is (sum_of no_part) = refl
@@ -184,33 +184,33 @@ module _ (fields : FieldTable) where
   or_false false = refl
 
   -- the text of a part of a sum, where its own is the policy's
-  term_is : (p : Policy) (text : List ℕ) → form_text (form_of fields p) ≡ text
-      → text_of (lexemes_of_term (term_from (form_of fields p))) ≡ enclosed (is_sum p) text
+  term_is : (p : Policy) (text : List ℕ) → form_text (form_of line fields p) ≡ text
+      → text_of (lexemes_of_term (term_from (form_of line fields p))) ≡ enclosed (is_sum p) text
   term_is p text e =
-      term_text (form_of fields p) ∙ ap (λ b. enclosed b (form_text (form_of fields p))) (sum_is p) ∙ ap (enclosed (is_sum p)) e
+      term_text (form_of line fields p) ∙ ap (λ b. enclosed b (form_text (form_of line fields p))) (sum_is p) ∙ ap (enclosed (is_sum p)) e
 
   -- of a part of a sequence
-  factor_is : (p : Policy) (text : List ℕ) → form_text (form_of fields p) ≡ text
-      → text_of (lexemes_of_factor (factor_from (form_of fields p))) ≡ enclosed (is_sum p || is_seq p) text
+  factor_is : (p : Policy) (text : List ℕ) → form_text (form_of line fields p) ≡ text
+      → text_of (lexemes_of_factor (factor_from (form_of line fields p))) ≡ enclosed (is_sum p || is_seq p) text
   factor_is p text e =
-      factor_text (form_of fields p)
-      ∙ ap (λ b. enclosed (b || is_a_seq (form_of fields p)) (form_text (form_of fields p))) (sum_is p)
-      ∙ ap (λ b. enclosed (is_sum p || b) (form_text (form_of fields p))) (seq_is p)
+      factor_text (form_of line fields p)
+      ∙ ap (λ b. enclosed (b || is_a_seq (form_of line fields p)) (form_text (form_of line fields p))) (sum_is p)
+      ∙ ap (λ b. enclosed (is_sum p || b) (form_text (form_of line fields p))) (seq_is p)
       ∙ ap (enclosed (is_sum p || is_seq p)) e
 
   -- of what stands under a star
-  atom_is : (p : Policy) (text : List ℕ) → form_text (form_of fields p) ≡ text
-      → text_of (lexemes_of_atom (atom_from (form_of fields p))) ≡ enclosed (is_sum p || is_seq p || is_star p) text
+  atom_is : (p : Policy) (text : List ℕ) → form_text (form_of line fields p) ≡ text
+      → text_of (lexemes_of_atom (atom_from (form_of line fields p))) ≡ enclosed (is_sum p || is_seq p || is_star p) text
   atom_is p text e =
-      atom_text (form_of fields p)
-      ∙ ap (λ b. enclosed (b || is_a_seq (form_of fields p) || is_a_star (form_of fields p)) (form_text (form_of fields p))) (sum_is p)
-      ∙ ap (λ b. enclosed (is_sum p || b || is_a_star (form_of fields p)) (form_text (form_of fields p))) (seq_is p)
-      ∙ ap (λ b. enclosed (is_sum p || is_seq p || b) (form_text (form_of fields p))) (star_is p)
+      atom_text (form_of line fields p)
+      ∙ ap (λ b. enclosed (b || is_a_seq (form_of line fields p) || is_a_star (form_of line fields p)) (form_text (form_of line fields p))) (sum_is p)
+      ∙ ap (λ b. enclosed (is_sum p || b || is_a_star (form_of line fields p)) (form_text (form_of line fields p))) (seq_is p)
+      ∙ ap (λ b. enclosed (is_sum p || is_seq p || b) (form_text (form_of line fields p))) (star_is p)
       ∙ ap (enclosed (is_sum p || is_seq p || is_star p)) e
 
   -- and under a complement
-  negated_is : (p : Policy) (text : List ℕ) → is_predicate p ≡ true → form_text (form_of fields p) ≡ text
-      → text_of (lexemes_of_atom (atom_from (form_of fields p))) ≡ enclosed (is_sum p || is_seq p) text
+  negated_is : (p : Policy) (text : List ℕ) → is_predicate p ≡ true → form_text (form_of line fields p) ≡ text
+      → text_of (lexemes_of_atom (atom_from (form_of line fields p))) ≡ enclosed (is_sum p || is_seq p) text
   negated_is p text h e =
       atom_is p text e
       ∙ ap (λ b. enclosed (is_sum p || is_seq p || b) text) (no_star p h)
@@ -234,46 +234,46 @@ module _ (fields : FieldTable) where
 
   mutual
     -- what is written is the policy's text
-    pub text_is : (p : Policy) → NegatesPredicates p → form_text (form_of fields p) ≡ pol_bytes fields p
+    pub text_is : (p : Policy) → NegatesPredicates p → form_text (form_of line fields p) ≡ pol_bytes fields p
     text_is (test f n) h = test_text (name_of fields f) (decimal n)
     text_is (assign f n) h = set_text (name_of fields f) (decimal n)
     text_is (sum_of ps) h = sum_text ps h
     text_is (seq_of ps) h = seq_text ps h
     text_is (not_of p) h = ap (λ l. codes "~" ++ l) (negated_is p (pol_bytes fields p) h.0 (text_is p h.1))
     text_is (star_of p) h =
-        text_append (lexemes_of_atom (atom_from (form_of fields p))) (Lexeme.sign Sign.star ∷ [])
+        text_append (lexemes_of_atom (atom_from (form_of line fields p))) (Lexeme.sign Sign.star ∷ [])
         ∙ ap (λ l. l ++ codes "*") (atom_is p (pol_bytes fields p) (text_is p h))
     text_is (dup l) h = refl
     text_is (link a m b n l) h = link_text (decimal a) (decimal m) (decimal b) (decimal n)
 
-    pub sum_text : (ps : Policies) → AllNegatePredicates ps → form_text (sum_form fields ps) ≡ pol_bytes fields (sum_of ps)
+    pub sum_text : (ps : Policies) → AllNegatePredicates ps → form_text (sum_form line fields ps) ≡ pol_bytes fields (sum_of ps)
     sum_text no_part h = refl
     sum_text (part p ps) h =
-        sum_on_text (one_term (term_from (form_of fields p))) ps h.1
+        sum_on_text (one_term (term_from (form_of line fields p))) ps h.1
         ∙ ap (λ l. l ++ sum_bytes fields (codes " + ") ps) (term_is p (pol_bytes fields p) (text_is p h.0))
 
-    pub seq_text : (ps : Policies) → AllNegatePredicates ps → form_text (seq_form fields ps) ≡ pol_bytes fields (seq_of ps)
+    pub seq_text : (ps : Policies) → AllNegatePredicates ps → form_text (seq_form line fields ps) ≡ pol_bytes fields (seq_of ps)
     seq_text no_part h = refl
     seq_text (part p ps) h =
-        seq_on_text (one_factor (factor_from (form_of fields p))) ps h.1
+        seq_on_text (one_factor (factor_from (form_of line fields p))) ps h.1
         ∙ ap (λ l. l ++ seq_bytes fields (codes ";") ps) (factor_is p (pol_bytes fields p) (text_is p h.0))
 
     pub sum_on_text : (before : Pol) (ps : Policies) → AllNegatePredicates ps
-        → text_of (lexemes_of_pol (sum_on fields before ps)) ≡ text_of (lexemes_of_pol before) ++ sum_bytes fields (codes " + ") ps
+        → text_of (lexemes_of_pol (sum_on line fields before ps)) ≡ text_of (lexemes_of_pol before) ++ sum_bytes fields (codes " + ") ps
     sum_on_text before no_part h = sym (append-nil (text_of (lexemes_of_pol before)))
     sum_on_text before (part p ps) h =
-        sum_on_text (plus before (term_from (form_of fields p))) ps h.1
+        sum_on_text (plus before (term_from (form_of line fields p))) ps h.1
         ∙ ap (λ l. l ++ sum_bytes fields (codes " + ") ps)
-        (text_append (lexemes_of_pol before) (Lexeme.space ∷ Lexeme.sign Sign.plus ∷ Lexeme.space ∷ lexemes_of_term (term_from (form_of fields p)))
+        (text_append (lexemes_of_pol before) (Lexeme.space ∷ Lexeme.sign Sign.plus ∷ Lexeme.space ∷ lexemes_of_term (term_from (form_of line fields p)))
         ∙ ap (λ l. text_of (lexemes_of_pol before) ++ (codes " + " ++ l)) (term_is p (pol_bytes fields p) (text_is p h.0)))
         ∙ append_assoc (text_of (lexemes_of_pol before)) (codes " + " ++ enclosed (is_sum p) (pol_bytes fields p)) (sum_bytes fields (codes " + ") ps)
 
     pub seq_on_text : (before : Term) (ps : Policies) → AllNegatePredicates ps
-        → text_of (lexemes_of_term (seq_on fields before ps)) ≡ text_of (lexemes_of_term before) ++ seq_bytes fields (codes ";") ps
+        → text_of (lexemes_of_term (seq_on line fields before ps)) ≡ text_of (lexemes_of_term before) ++ seq_bytes fields (codes ";") ps
     seq_on_text before no_part h = sym (append-nil (text_of (lexemes_of_term before)))
     seq_on_text before (part p ps) h =
-        seq_on_text (semi before (factor_from (form_of fields p))) ps h.1
+        seq_on_text (semi before (factor_from (form_of line fields p))) ps h.1
         ∙ ap (λ l. l ++ seq_bytes fields (codes ";") ps)
-        (text_append (lexemes_of_term before) (Lexeme.sign Sign.semicolon ∷ lexemes_of_factor (factor_from (form_of fields p)))
+        (text_append (lexemes_of_term before) (Lexeme.sign Sign.semicolon ∷ lexemes_of_factor (factor_from (form_of line fields p)))
         ∙ ap (λ l. text_of (lexemes_of_term before) ++ (codes ";" ++ l)) (factor_is p (pol_bytes fields p) (text_is p h.0)))
         ∙ append_assoc (text_of (lexemes_of_term before)) (codes ";" ++ enclosed (is_sum p || is_seq p) (pol_bytes fields p)) (seq_bytes fields (codes ";") ps)

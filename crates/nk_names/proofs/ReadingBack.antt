@@ -32,7 +32,7 @@ use Rattle.nk_names.proofs.Printed.{Form, a_sum, a_seq, a_star, an_atom, pol_fro
 -- ---- no more is open at once than the policy is deep
 
 -- parentheses open no less
-pol_within : (f : Form) → nesting_of_pol (pol_from f) ≤ nesting_of_atom (atom_from f)
+pub pol_within : (f : Form) → nesting_of_pol (pol_from f) ≤ nesting_of_atom (atom_from f)
 pol_within (a_sum p) = omega arith
 pol_within (a_seq t) = omega arith
 pol_within (a_star f) = omega arith
@@ -50,10 +50,10 @@ factor_within (a_seq t) = omega arith
 factor_within (a_star f) = omega arith
 factor_within (an_atom a) = omega arith
 
-module _ (fields : FieldTable) where
+module _ (line : ℕ) (fields : FieldTable) where
   mutual
     -- with the policy's own parentheses fewer are open than it is deep
-    nests : (p : Policy) → nesting_of_atom (atom_from (form_of fields p)) + 1 ≤ depth_of p
+    pub nests : (p : Policy) → nesting_of_atom (atom_from (form_of line fields p)) + 1 ≤ depth_of p
     nests (test f n) = omega arith
     nests (assign f n) = omega arith
     nests (sum_of ps) = sum_nests ps
@@ -63,120 +63,120 @@ module _ (fields : FieldTable) where
     nests (dup l) = omega arith
     nests (link a m b n l) = omega arith
 
-    sum_nests : (ps : Policies) → nesting_of_atom (atom_from (sum_form fields ps)) + 1 ≤ 1 + depths_of ps
+    sum_nests : (ps : Policies) → nesting_of_atom (atom_from (sum_form line fields ps)) + 1 ≤ 1 + depths_of ps
     sum_nests no_part = omega arith
     sum_nests (part p ps) =
-        omega (arith, nests p, term_within (form_of fields p), sum_on_nests (one_term (term_from (form_of fields p))) ps)
+        omega (arith, nests p, term_within (form_of line fields p), sum_on_nests (one_term (term_from (form_of line fields p))) ps)
 
-    seq_nests : (ps : Policies) → nesting_of_atom (atom_from (seq_form fields ps)) + 1 ≤ 1 + depths_of ps
+    seq_nests : (ps : Policies) → nesting_of_atom (atom_from (seq_form line fields ps)) + 1 ≤ 1 + depths_of ps
     seq_nests no_part = omega arith
     seq_nests (part p ps) =
-        omega (arith, nests p, factor_within (form_of fields p), seq_on_nests (one_factor (factor_from (form_of fields p))) ps)
+        omega (arith, nests p, factor_within (form_of line fields p), seq_on_nests (one_factor (factor_from (form_of line fields p))) ps)
 
     sum_on_nests : (before : Pol) (ps : Policies)
-        → nesting_of_pol (sum_on fields before ps) + 1 ≤ max (nesting_of_pol before + 1) (depths_of ps)
+        → nesting_of_pol (sum_on line fields before ps) + 1 ≤ max (nesting_of_pol before + 1) (depths_of ps)
     sum_on_nests before no_part = omega arith
     sum_on_nests before (part p ps) =
-        omega (arith, nests p, term_within (form_of fields p), sum_on_nests (plus before (term_from (form_of fields p))) ps)
+        omega (arith, nests p, term_within (form_of line fields p), sum_on_nests (plus before (term_from (form_of line fields p))) ps)
 
     seq_on_nests : (before : Term) (ps : Policies)
-        → nesting_of_term (seq_on fields before ps) + 1 ≤ max (nesting_of_term before + 1) (depths_of ps)
+        → nesting_of_term (seq_on line fields before ps) + 1 ≤ max (nesting_of_term before + 1) (depths_of ps)
     seq_on_nests before no_part = omega arith
     seq_on_nests before (part p ps) =
-        omega (arith, nests p, factor_within (form_of fields p), seq_on_nests (semi before (factor_from (form_of fields p))) ps)
+        omega (arith, nests p, factor_within (form_of line fields p), seq_on_nests (semi before (factor_from (form_of line fields p))) ps)
 
--- ---- all of it stands in the first line
+-- ---- all of it stands on the line
 
-abbrev IsFormOn : Form → Type 0
-IsFormOn (a_sum p) = IsPolOn 1 p
-IsFormOn (a_seq t) = IsTermOn 1 t
-IsFormOn (a_star f) = IsFactorOn 1 f
-IsFormOn (an_atom a) = IsAtomOn 1 a
+abbrev IsFormOn : ℕ → Form → Type 0
+IsFormOn line (a_sum p) = IsPolOn line p
+IsFormOn line (a_seq t) = IsTermOn line t
+IsFormOn line (a_star f) = IsFactorOn line f
+IsFormOn line (an_atom a) = IsAtomOn line a
 
-pol_on : (f : Form) → IsFormOn f → IsPolOn 1 (pol_from f)
-pol_on (a_sum p) h = h
-pol_on (a_seq t) h = h
-pol_on (a_star f) h = h
-pol_on (an_atom a) h = h
+pub pol_on : (line : ℕ) (f : Form) → IsFormOn line f → IsPolOn line (pol_from f)
+pol_on line (a_sum p) h = h
+pol_on line (a_seq t) h = h
+pol_on line (a_star f) h = h
+pol_on line (an_atom a) h = h
 
-term_on : (f : Form) → IsFormOn f → IsTermOn 1 (term_from f)
-term_on (a_sum p) h = h
-term_on (a_seq t) h = h
-term_on (a_star f) h = h
-term_on (an_atom a) h = h
+term_on : (line : ℕ) (f : Form) → IsFormOn line f → IsTermOn line (term_from f)
+term_on line (a_sum p) h = h
+term_on line (a_seq t) h = h
+term_on line (a_star f) h = h
+term_on line (an_atom a) h = h
 
-factor_on : (f : Form) → IsFormOn f → IsFactorOn 1 (factor_from f)
-factor_on (a_sum p) h = h
-factor_on (a_seq t) h = h
-factor_on (a_star f) h = h
-factor_on (an_atom a) h = h
+factor_on : (line : ℕ) (f : Form) → IsFormOn line f → IsFactorOn line (factor_from f)
+factor_on line (a_sum p) h = h
+factor_on line (a_seq t) h = h
+factor_on line (a_star f) h = h
+factor_on line (an_atom a) h = h
 
-atom_on : (f : Form) → IsFormOn f → IsAtomOn 1 (atom_from f)
-atom_on (a_sum p) h = h
-atom_on (a_seq t) h = h
-atom_on (a_star f) h = h
-atom_on (an_atom a) h = h
+atom_on : (line : ℕ) (f : Form) → IsFormOn line f → IsAtomOn line (atom_from f)
+atom_on line (a_sum p) h = h
+atom_on line (a_seq t) h = h
+atom_on line (a_star f) h = h
+atom_on line (an_atom a) h = h
 
-module _ (fields : FieldTable) (writable : IsWritable fields) where
+module _ (line : ℕ) (fields : FieldTable) (writable : IsWritable fields) where
   -- a field's name is one
-  name_on : (f n : ℕ) → IsValue fields f n → IsWordOn 1 (word_for fields f)
+  name_on : (f n : ℕ) → IsValue fields f n → IsWordOn line (word_for line fields f)
   name_on f n v = (writable.names f [] (omega (arith, v.0, writable.table.named)), refl)
 
   -- a field's value can be written
-  number_on : (f n : ℕ) → IsValue fields f n → IsNumberOn 1 (number_for n)
+  number_on : (f n : ℕ) → IsValue fields f n → IsNumberOn line (number_for line n)
   number_on f n v =
       let most : slice_index fields.maxima f ≤ 281474976710655 = writable.maxima f 0 v.0 in
       let below : n ≤ slice_index fields.maxima f = v.1 in
       (omega arith, refl)
 
   mutual
-    fits : (p : Policy) → IsOver fields p → IsFormOn (form_of fields p)
+    pub fits : (p : Policy) → IsOver fields p → IsFormOn line (form_of line fields p)
     fits (test f n) h = (name_on f n h, number_on f n h)
     fits (assign f n) h = (name_on f n h, number_on f n h)
     fits (sum_of ps) h = sum_fits ps h
     fits (seq_of ps) h = seq_fits ps h
-    fits (not_of p) h = (refl, atom_on (form_of fields p) (fits p h))
-    fits (star_of p) h = atom_on (form_of fields p) (fits p h)
+    fits (not_of p) h = (refl, atom_on line (form_of line fields p) (fits p h))
+    fits (star_of p) h = atom_on line (form_of line fields p) (fits p h)
     fits (dup l) h = tt
     fits (link a m b n l) h = (number_on 0 a h.0, number_on 1 m h.1, number_on 0 b h.2, number_on 1 n h.3)
 
-    sum_fits : (ps : Policies) → AreOver fields ps → IsFormOn (sum_form fields ps)
+    sum_fits : (ps : Policies) → AreOver fields ps → IsFormOn line (sum_form line fields ps)
     sum_fits no_part h = tt
     sum_fits (part p ps) h =
-        sum_on_fits (one_term (term_from (form_of fields p))) ps (term_on (form_of fields p) (fits p h.0)) h.1
+        sum_on_fits (one_term (term_from (form_of line fields p))) ps (term_on line (form_of line fields p) (fits p h.0)) h.1
 
-    seq_fits : (ps : Policies) → AreOver fields ps → IsFormOn (seq_form fields ps)
+    seq_fits : (ps : Policies) → AreOver fields ps → IsFormOn line (seq_form line fields ps)
     seq_fits no_part h = tt
     seq_fits (part p ps) h =
-        seq_on_fits (one_factor (factor_from (form_of fields p))) ps (factor_on (form_of fields p) (fits p h.0)) h.1
+        seq_on_fits (one_factor (factor_from (form_of line fields p))) ps (factor_on line (form_of line fields p) (fits p h.0)) h.1
 
-    sum_on_fits : (before : Pol) (ps : Policies) → IsPolOn 1 before → AreOver fields ps → IsPolOn 1 (sum_on fields before ps)
+    sum_on_fits : (before : Pol) (ps : Policies) → IsPolOn line before → AreOver fields ps → IsPolOn line (sum_on line fields before ps)
     sum_on_fits before no_part b h = b
     sum_on_fits before (part p ps) b h =
-        sum_on_fits (plus before (term_from (form_of fields p))) ps (b, term_on (form_of fields p) (fits p h.0)) h.1
+        sum_on_fits (plus before (term_from (form_of line fields p))) ps (b, term_on line (form_of line fields p) (fits p h.0)) h.1
 
-    seq_on_fits : (before : Term) (ps : Policies) → IsTermOn 1 before → AreOver fields ps → IsTermOn 1 (seq_on fields before ps)
+    seq_on_fits : (before : Term) (ps : Policies) → IsTermOn line before → AreOver fields ps → IsTermOn line (seq_on line fields before ps)
     seq_on_fits before no_part b h = b
     seq_on_fits before (part p ps) b h =
-        seq_on_fits (semi before (factor_from (form_of fields p))) ps (b, factor_on (form_of fields p) (fits p h.0)) h.1
+        seq_on_fits (semi before (factor_from (form_of line fields p))) ps (b, factor_on line (form_of line fields p) (fits p h.0)) h.1
 
 -- ---- its syntax tree
 
 abbrev mutual
-  -- the syntax tree that a policy's text has
-  tree_for : FieldTable → Policy → tree.Tree
-  tree_for fields (test f n) = tree.test (word_for fields f) (number_for n)
-  tree_for fields (assign f n) = tree.assign (word_for fields f) (number_for n)
-  tree_for fields (sum_of ps) = tree.sum_of (trees_for fields ps)
-  tree_for fields (seq_of ps) = tree.seq_of (trees_for fields ps)
-  tree_for fields (not_of p) = tree.not_of (tree_for fields p) 1
-  tree_for fields (star_of p) = tree.star_of (tree_for fields p)
-  tree_for fields (dup l) = tree.dup
-  tree_for fields (link a m b n l) = tree.link (number_for a) (number_for m) (number_for b) (number_for n)
+  -- the syntax tree that a policy's text has on a line
+  pub tree_for : ℕ → FieldTable → Policy → tree.Tree
+  tree_for line fields (test f n) = tree.test (word_for line fields f) (number_for line n)
+  tree_for line fields (assign f n) = tree.assign (word_for line fields f) (number_for line n)
+  tree_for line fields (sum_of ps) = tree.sum_of (trees_for line fields ps)
+  tree_for line fields (seq_of ps) = tree.seq_of (trees_for line fields ps)
+  tree_for line fields (not_of p) = tree.not_of (tree_for line fields p) line
+  tree_for line fields (star_of p) = tree.star_of (tree_for line fields p)
+  tree_for line fields (dup l) = tree.dup
+  tree_for line fields (link a m b n l) = tree.link (number_for line a) (number_for line m) (number_for line b) (number_for line n)
 
-  trees_for : FieldTable → Policies → tree.Trees
-  trees_for fields no_part = tree.no_part
-  trees_for fields (part p ps) = tree.part (tree_for fields p) (trees_for fields ps)
+  pub trees_for : ℕ → FieldTable → Policies → tree.Trees
+  trees_for line fields no_part = tree.no_part
+  trees_for line fields (part p ps) = tree.part (tree_for line fields p) (trees_for line fields ps)
 
 -- the syntax tree of a form
 abbrev form_tree : Form → tree.Tree
@@ -221,57 +221,57 @@ one_before : (t : tree.Tree) (ts : tree.Trees) → trees_on (tree.part t tree.no
 one_before t ts = first_stays t tree.no_part ts ∙ ap (tree.part t) (none_before ts)
 
 -- two parts or more are a sum, and a sequence
-sum_of_some : (fields : FieldTable) (t : tree.Tree) (p : Policy) (ps : Policies) → IsNotOne (part p ps)
-    → tree.sum_from (tree.part t (trees_for fields ps)) ≡ tree.sum_of (tree.part t (trees_for fields ps))
-sum_of_some fields t p no_part h = absurd h
-sum_of_some fields t p (part q ps) h = refl
+sum_of_some : (line : ℕ) (fields : FieldTable) (t : tree.Tree) (p : Policy) (ps : Policies) → IsNotOne (part p ps)
+    → tree.sum_from (tree.part t (trees_for line fields ps)) ≡ tree.sum_of (tree.part t (trees_for line fields ps))
+sum_of_some line fields t p no_part h = absurd h
+sum_of_some line fields t p (part q ps) h = refl
 
-seq_of_some : (fields : FieldTable) (t : tree.Tree) (p : Policy) (ps : Policies) → IsNotOne (part p ps)
-    → tree.seq_from (tree.part t (trees_for fields ps)) ≡ tree.seq_of (tree.part t (trees_for fields ps))
-seq_of_some fields t p no_part h = absurd h
-seq_of_some fields t p (part q ps) h = refl
+seq_of_some : (line : ℕ) (fields : FieldTable) (t : tree.Tree) (p : Policy) (ps : Policies) → IsNotOne (part p ps)
+    → tree.seq_from (tree.part t (trees_for line fields ps)) ≡ tree.seq_of (tree.part t (trees_for line fields ps))
+seq_of_some line fields t p no_part h = absurd h
+seq_of_some line fields t p (part q ps) h = refl
 
-module _ (fields : FieldTable) where
+module _ (line : ℕ) (fields : FieldTable) where
   mutual
-    tree_is : (p : Policy) → HasNoLonePart p → form_tree (form_of fields p) ≡ tree_for fields p
+    pub tree_is : (p : Policy) → HasNoLonePart p → form_tree (form_of line fields p) ≡ tree_for line fields p
     tree_is (test f n) h = refl
     tree_is (assign f n) h = refl
     tree_is (sum_of ps) h = sum_tree ps h.0 h.1
     tree_is (seq_of ps) h = seq_tree ps h.0 h.1
-    tree_is (not_of p) h = ap (λ t. tree.not_of t 1) (tree_of_atom (form_of fields p) ∙ tree_is p h)
-    tree_is (star_of p) h = ap tree.star_of (tree_of_atom (form_of fields p) ∙ tree_is p h)
+    tree_is (not_of p) h = ap (λ t. tree.not_of t line) (tree_of_atom (form_of line fields p) ∙ tree_is p h)
+    tree_is (star_of p) h = ap tree.star_of (tree_of_atom (form_of line fields p) ∙ tree_is p h)
     tree_is (dup l) h = refl
     tree_is (link a m b n l) h = refl
 
-    sum_tree : (ps : Policies) → IsNotOne ps → HaveNoLonePart ps → form_tree (sum_form fields ps) ≡ tree.sum_of (trees_for fields ps)
+    sum_tree : (ps : Policies) → IsNotOne ps → HaveNoLonePart ps → form_tree (sum_form line fields ps) ≡ tree.sum_of (trees_for line fields ps)
     sum_tree no_part some h = refl
     sum_tree (part p ps) some h =
-        ap tree.sum_from (sum_on_tree (one_term (term_from (form_of fields p))) ps h.1
-        ∙ ap (λ t. trees_on (tree.part t tree.no_part) (trees_for fields ps)) (term_tree (form_of fields p) ∙ tree_is p h.0)
-        ∙ one_before (tree_for fields p) (trees_for fields ps))
-        ∙ sum_of_some fields (tree_for fields p) p ps some
+        ap tree.sum_from (sum_on_tree (one_term (term_from (form_of line fields p))) ps h.1
+        ∙ ap (λ t. trees_on (tree.part t tree.no_part) (trees_for line fields ps)) (term_tree (form_of line fields p) ∙ tree_is p h.0)
+        ∙ one_before (tree_for line fields p) (trees_for line fields ps))
+        ∙ sum_of_some line fields (tree_for line fields p) p ps some
 
-    seq_tree : (ps : Policies) → IsNotOne ps → HaveNoLonePart ps → form_tree (seq_form fields ps) ≡ tree.seq_of (trees_for fields ps)
+    seq_tree : (ps : Policies) → IsNotOne ps → HaveNoLonePart ps → form_tree (seq_form line fields ps) ≡ tree.seq_of (trees_for line fields ps)
     seq_tree no_part some h = refl
     seq_tree (part p ps) some h =
-        ap tree.seq_from (seq_on_tree (one_factor (factor_from (form_of fields p))) ps h.1
-        ∙ ap (λ t. trees_on (tree.part t tree.no_part) (trees_for fields ps)) (tree_of_factor (form_of fields p) ∙ tree_is p h.0)
-        ∙ one_before (tree_for fields p) (trees_for fields ps))
-        ∙ seq_of_some fields (tree_for fields p) p ps some
+        ap tree.seq_from (seq_on_tree (one_factor (factor_from (form_of line fields p))) ps h.1
+        ∙ ap (λ t. trees_on (tree.part t tree.no_part) (trees_for line fields ps)) (tree_of_factor (form_of line fields p) ∙ tree_is p h.0)
+        ∙ one_before (tree_for line fields p) (trees_for line fields ps))
+        ∙ seq_of_some line fields (tree_for line fields p) p ps some
 
     sum_on_tree : (before : Pol) (ps : Policies) → HaveNoLonePart ps
-        → terms_of (sum_on fields before ps) ≡ trees_on (terms_of before) (trees_for fields ps)
+        → terms_of (sum_on line fields before ps) ≡ trees_on (terms_of before) (trees_for line fields ps)
     sum_on_tree before no_part h = refl
     sum_on_tree before (part p ps) h =
-        sum_on_tree (plus before (term_from (form_of fields p))) ps h.1
-        ∙ ap (λ t. trees_on (tree.with_part (terms_of before) t) (trees_for fields ps)) (term_tree (form_of fields p) ∙ tree_is p h.0)
+        sum_on_tree (plus before (term_from (form_of line fields p))) ps h.1
+        ∙ ap (λ t. trees_on (tree.with_part (terms_of before) t) (trees_for line fields ps)) (term_tree (form_of line fields p) ∙ tree_is p h.0)
 
     seq_on_tree : (before : Term) (ps : Policies) → HaveNoLonePart ps
-        → factors_of (seq_on fields before ps) ≡ trees_on (factors_of before) (trees_for fields ps)
+        → factors_of (seq_on line fields before ps) ≡ trees_on (factors_of before) (trees_for line fields ps)
     seq_on_tree before no_part h = refl
     seq_on_tree before (part p ps) h =
-        seq_on_tree (semi before (factor_from (form_of fields p))) ps h.1
-        ∙ ap (λ t. trees_on (tree.with_part (factors_of before) t) (trees_for fields ps)) (tree_of_factor (form_of fields p) ∙ tree_is p h.0)
+        seq_on_tree (semi before (factor_from (form_of line fields p))) ps h.1
+        ∙ ap (λ t. trees_on (tree.with_part (factors_of before) t) (trees_for line fields ps)) (tree_of_factor (form_of line fields p) ∙ tree_is p h.0)
 
 -- ---- what it stands for
 
@@ -292,11 +292,11 @@ name_placed (x ∷ xs) (suc f) i lt d =
     other false e = e
 
 -- two that are none have no first
-none_first : (a b : MaybeFault) → a ≡ None → b ≡ None → first_of a b ≡ None
+pub none_first : (a b : MaybeFault) → a ≡ None → b ≡ None → first_of a b ≡ None
 none_first a b e f = ap (λ o. option_or o b) e ∙ f
 
 -- what isn't wrong is no fault
-no_fault : (b : Bool) (k : FaultKind) (line : ℕ) → b ≡ false → fault_if b k line ≡ None
+pub no_fault : (b : Bool) (k : FaultKind) (line : ℕ) → b ≡ false → fault_if b k line ≡ None
 no_fault b k line e = ap (λ c. fault_if c k line) e
 
 -- a number that is in range
@@ -314,7 +314,7 @@ range_of (x ∷ (y ∷ xs)) zero e lt = cc
 range_of (x ∷ (y ∷ xs)) (suc zero) e lt = cc
 range_of (x ∷ (y ∷ xs)) (suc (suc k)) e lt = absurd (omega arith)
 
-module _ (fields : FieldTable) (table : IsFieldTable fields) where
+module _ (line : ℕ) (fields : FieldTable) (table : IsFieldTable fields) where
   -- a field's name has its place
   named : (f n : ℕ) → IsValue fields f n → field_named fields (name_of fields f) ≡ Some f
   named f n v =
@@ -322,15 +322,15 @@ module _ (fields : FieldTable) (table : IsFieldTable fields) where
       ∙ name_placed fields.names f 0 (omega (arith, v.0, table.named)) table.distinct
       ∙ ap Some (omega arith)
 
-  place_is : (f n : ℕ) → IsValue fields f n → place_in fields (word_for fields f) ≡ f
+  place_is : (f n : ℕ) → IsValue fields f n → place_in fields (word_for line fields f) ≡ f
   place_is f n v = ap (λ o. unwrap_or o 0) (named f n v)
 
   -- a value in range is no fault
-  value_known : (f n : ℕ) → IsValue fields f n → no_value fields (word_for fields f) (number_for n) ≡ None
+  value_known : (f n : ℕ) → IsValue fields f n → no_value fields (word_for line fields f) (number_for line n) ≡ None
   value_known f n v =
       none_first _ _
-      (no_fault (is_none (field_named fields (name_of fields f))) kind.UnknownField 1 (ap is_none (named f n v)))
-      (not_above (most_in fields (word_for fields f)) (number_for n) (subst (λ k. n ≤ slice_index fields.maxima k) (sym (place_is f n v)) v.1))
+      (no_fault (is_none (field_named fields (name_of fields f))) kind.UnknownField line (ap is_none (named f n v)))
+      (not_above (most_in fields (word_for line fields f)) (number_for line n) (subst (λ k. n ≤ slice_index fields.maxima k) (sym (place_is f n v)) v.1))
 
   -- a switch's or a port's number is at most 65535
   end_fits : (k n : ℕ) → k < 2 → IsValue fields k n → n ≤ 65535
@@ -342,7 +342,7 @@ module _ (fields : FieldTable) (table : IsFieldTable fields) where
   module _ (lets : Lets) where
     mutual
       -- the policy that the tree stands for is the policy, but for the numbers of its dups
-      meant : (p : Policy) → IsOver fields p → (n : ℕ) → marked_from (policy_for fields lets (tree_for fields p)) n ≡ marked_from p n
+      pub meant : (p : Policy) → IsOver fields p → (n : ℕ) → marked_from (policy_for fields lets (tree_for line fields p)) n ≡ marked_from p n
       meant (test f v) h n = ap (λ k. test k v) (place_is f v h)
       meant (assign f v) h n = ap (λ k. assign k v) (place_is f v h)
       meant (sum_of ps) h n = ap sum_of (all_meant ps h n)
@@ -357,28 +357,28 @@ module _ (fields : FieldTable) (table : IsFieldTable fields) where
           ∙ ap (λ x. link a m b x n) (end_is 1 k (omega arith) h.3)
 
       -- the same of parts
-      all_meant : (ps : Policies) → AreOver fields ps → (n : ℕ) → all_marked_from (policies_for fields lets (trees_for fields ps)) n ≡ all_marked_from ps n
+      all_meant : (ps : Policies) → AreOver fields ps → (n : ℕ) → all_marked_from (policies_for fields lets (trees_for line fields ps)) n ≡ all_marked_from ps n
       all_meant no_part h n = refl
       all_meant (part p ps) h n =
-          let q = policy_for fields lets (tree_for fields p) in
+          let q = policy_for fields lets (tree_for line fields p) in
           let same : dups_of q ≡ dups_of p = sym (dups_marked q n) ∙ ap dups_of (meant p h.0 n) ∙ dups_marked p n in
-          ap (λ r. part r (all_marked_from (policies_for fields lets (trees_for fields ps)) (n + dups_of q))) (meant p h.0 n)
-          ∙ ap (λ d. part (marked_from p n) (all_marked_from (policies_for fields lets (trees_for fields ps)) (n + d))) same
+          ap (λ r. part r (all_marked_from (policies_for fields lets (trees_for line fields ps)) (n + dups_of q))) (meant p h.0 n)
+          ∙ ap (λ d. part (marked_from p n) (all_marked_from (policies_for fields lets (trees_for line fields ps)) (n + d))) same
           ∙ ap (part (marked_from p n)) (all_meant ps h.1 (n + dups_of p))
 
     -- it has the policy's depth and size, and is a predicate where that is
-    same_depth : (p : Policy) → IsOver fields p → depth_of (policy_for fields lets (tree_for fields p)) ≡ depth_of p
-    same_depth p h = sym (depth_marked (policy_for fields lets (tree_for fields p)) 1) ∙ ap depth_of (meant p h 1) ∙ depth_marked p 1
+    pub same_depth : (p : Policy) → IsOver fields p → depth_of (policy_for fields lets (tree_for line fields p)) ≡ depth_of p
+    same_depth p h = sym (depth_marked (policy_for fields lets (tree_for line fields p)) 1) ∙ ap depth_of (meant p h 1) ∙ depth_marked p 1
 
-    same_size : (p : Policy) → IsOver fields p → size_of (policy_for fields lets (tree_for fields p)) ≡ size_of p
-    same_size p h = sym (size_marked (policy_for fields lets (tree_for fields p)) 1) ∙ ap size_of (meant p h 1) ∙ size_marked p 1
+    same_size : (p : Policy) → IsOver fields p → size_of (policy_for fields lets (tree_for line fields p)) ≡ size_of p
+    same_size p h = sym (size_marked (policy_for fields lets (tree_for line fields p)) 1) ∙ ap size_of (meant p h 1) ∙ size_marked p 1
 
-    same_predicate : (p : Policy) → IsOver fields p → is_predicate (policy_for fields lets (tree_for fields p)) ≡ is_predicate p
-    same_predicate p h = sym (predicate_marked (policy_for fields lets (tree_for fields p)) 1) ∙ ap is_predicate (meant p h 1) ∙ predicate_marked p 1
+    pub same_predicate : (p : Policy) → IsOver fields p → is_predicate (policy_for fields lets (tree_for line fields p)) ≡ is_predicate p
+    same_predicate p h = sym (predicate_marked (policy_for fields lets (tree_for line fields p)) 1) ∙ ap is_predicate (meant p h 1) ∙ predicate_marked p 1
 
     mutual
       -- all names and numbers are known
-      known : (p : Policy) → IsOver fields p → unknown_in fields lets (tree_for fields p) ≡ None
+      pub known : (p : Policy) → IsOver fields p → unknown_in fields lets (tree_for line fields p) ≡ None
       known (test f v) h = value_known f v h
       known (assign f v) h = value_known f v h
       known (sum_of ps) h = all_known ps h
@@ -389,39 +389,39 @@ module _ (fields : FieldTable) (table : IsFieldTable fields) where
       known (link a m b k l) h =
           none_first _ _
           (none_first _ _
-          (none_first _ _ (not_above 65535 (number_for a) (end_fits 0 a (omega arith) h.0)) (not_above 65535 (number_for m) (end_fits 1 m (omega arith) h.1)))
-          (not_above 65535 (number_for b) (end_fits 0 b (omega arith) h.2)))
-          (not_above 65535 (number_for k) (end_fits 1 k (omega arith) h.3))
+          (none_first _ _ (not_above 65535 (number_for line a) (end_fits 0 a (omega arith) h.0)) (not_above 65535 (number_for line m) (end_fits 1 m (omega arith) h.1)))
+          (not_above 65535 (number_for line b) (end_fits 0 b (omega arith) h.2)))
+          (not_above 65535 (number_for line k) (end_fits 1 k (omega arith) h.3))
 
       -- the same of parts
-      all_known : (ps : Policies) → AreOver fields ps → unknown_among fields lets (trees_for fields ps) ≡ None
+      all_known : (ps : Policies) → AreOver fields ps → unknown_among fields lets (trees_for line fields ps) ≡ None
       all_known no_part h = refl
       all_known (part p ps) h = none_first _ _ (known p h.0) (all_known ps h.1)
 
     mutual
       -- each `~` stands over a predicate
-      placed : (p : Policy) → IsOver fields p → NegatesPredicates p → misplaced_in fields lets (tree_for fields p) ≡ None
+      placed : (p : Policy) → IsOver fields p → NegatesPredicates p → misplaced_in fields lets (tree_for line fields p) ≡ None
       placed (test f v) h c = refl
       placed (assign f v) h c = refl
       placed (sum_of ps) h c = all_placed ps h c
       placed (seq_of ps) h c = all_placed ps h c
       placed (not_of p) h c =
           none_first _ _
-          (no_fault (not (is_predicate (policy_for fields lets (tree_for fields p)))) kind.NotAPredicate 1 (ap not (same_predicate p h ∙ c.0)))
+          (no_fault (not (is_predicate (policy_for fields lets (tree_for line fields p)))) kind.NotAPredicate line (ap not (same_predicate p h ∙ c.0)))
           (placed p h c.1)
       placed (star_of p) h c = placed p h c
       placed (dup l) h c = refl
       placed (link a m b k l) h c = refl
 
       -- the same of parts
-      all_placed : (ps : Policies) → AreOver fields ps → AllNegatePredicates ps → misplaced_among fields lets (trees_for fields ps) ≡ None
+      all_placed : (ps : Policies) → AreOver fields ps → AllNegatePredicates ps → misplaced_among fields lets (trees_for line fields ps) ≡ None
       all_placed no_part h c = refl
       all_placed (part p ps) h c = none_first _ _ (placed p h.0 c.0) (all_placed ps h.1 c.1)
 
 -- ---- the `let`
 
 -- a test of a limit that isn't passed
-not_over : (m k : ℕ) → k ≤ m → nat_lt m k ≡ false
+pub not_over : (m k : ℕ) → k ≤ m → nat_lt m k ≡ false
 not_over m k le = grind (arith, nat_tests)
 
 -- a `let` without fault
@@ -439,40 +439,40 @@ let_fits fields lets w t line new known placed shallow small =
 
 -- the text of the form is the `let`'s
 let_text : (fields : FieldTable) (name : List ℕ) (p : Policy) → NegatesPredicates p
-    → text_of (lexemes_of_let (in_first_line name) (pol_from (form_of fields p))) ≡ let_bytes fields name p
+    → text_of (lexemes_of_let (in_first_line name) (pol_from (form_of 1 fields p))) ≡ let_bytes fields name p
 let_text fields name p h =
-    ap (λ l. codes "let " ++ (name ++ (codes " = " ++ l))) (text_is fields p h)
+    ap (λ l. codes "let " ++ (name ++ (codes " = " ++ l))) (text_is 1 fields p h)
     ∙ ap (λ l. codes "let " ++ l) (sym (append_assoc name (codes " = ") (pol_bytes fields p)))
 
 pub reads_printed : ReadsLetTexts → (fields : FieldTable) → IsWritable fields → (name : List ℕ) → IsName name
     → (p : Policy) → IsReadable fields p → IsReadBack fields name p
 reads_printed reads fields writable name is p h =
-    let form = form_of fields p in
+    let form = form_of 1 fields p in
     let within = pol_within form in
-    let nested : nesting_of_pol (pol_from form) ≤ 256 = omega (arith, within, nests fields p, h.shallow) in
-    let text = reads (in_first_line name) (pol_from form) (is, refl) (pol_on form (fits fields writable p h.over)) nested in
+    let nested : nesting_of_pol (pol_from form) ≤ 256 = omega (arith, within, nests 1 fields p, h.shallow) in
+    let text = reads (in_first_line name) (pol_from form) (is, refl) (pol_on 1 form (fits 1 fields writable p h.over)) nested in
     let table = writable.table in
     record {
       tokens = text.tokens;
-      tree = tree_for fields p;
+      tree = tree_for 1 fields p;
       cut = subst (λ l. tokens_of l ≡ Ok text.tokens) (let_text fields name p h.complements) text.cut;
-      read = text.read ∙ ap (λ t. Ok (definition (in_first_line name) t 1 ∷ [])) (tree_is fields p h.no_lone_part);
-      known = λ lets. known fields table lets p h.over;
-      placed = λ lets. placed fields table lets p h.over h.complements;
-      shallow = λ lets. omega (arith, same_depth fields table lets p h.over, h.shallow);
-      small = λ lets. omega (arith, same_size fields table lets p h.over, h.small);
-      meant = λ lets. meant fields table lets p h.over 1;
+      read = text.read ∙ ap (λ t. Ok (definition (in_first_line name) t 1 ∷ [])) (tree_is 1 fields p h.no_lone_part);
+      known = λ lets. known 1 fields table lets p h.over;
+      placed = λ lets. placed 1 fields table lets p h.over h.complements;
+      shallow = λ lets. omega (arith, same_depth 1 fields table lets p h.over, h.shallow);
+      small = λ lets. omega (arith, same_size 1 fields table lets p h.over, h.small);
+      meant = λ lets. meant 1 fields table lets p h.over 1;
       said = λ s e new. is_said s e new;
     }
   where
     is_said : (s : Said) → s.fields ≡ fields → policy_among s.lets name ≡ None
-        → said_with s (definition (in_first_line name) (tree_for fields p) 1) ≡ Ok (record s { lets = s.lets ++ (name, marked_from p 1) ∷ [] })
+        → said_with s (definition (in_first_line name) (tree_for 1 fields p) 1) ≡ Ok (record s { lets = s.lets ++ (name, marked_from p 1) ∷ [] })
     is_said s e new =
-        let t = tree_for fields p in
+        let t = tree_for 1 fields p in
         let none : let_fault fields s.lets (in_first_line name) t 1 ≡ None = let_fits fields s.lets (in_first_line name) t 1 new
-        (known fields writable.table s.lets p h.over) (placed fields writable.table s.lets p h.over h.complements)
-        (omega (arith, same_depth fields writable.table s.lets p h.over, h.shallow))
-        (omega (arith, same_size fields writable.table s.lets p h.over, h.small)) in
+        (known 1 fields writable.table s.lets p h.over) (placed 1 fields writable.table s.lets p h.over h.complements)
+        (omega (arith, same_depth 1 fields writable.table s.lets p h.over, h.shallow))
+        (omega (arith, same_size 1 fields writable.table s.lets p h.over, h.small)) in
         ap (λ fs. unless (let_fault fs s.lets (in_first_line name) t 1) (record s { lets = s.lets ++ (name, marked_from (policy_for fs s.lets t) 1) ∷ [] })) e
         ∙ ap (λ o. unless o (record s { lets = s.lets ++ (name, marked_from (policy_for fields s.lets t) 1) ∷ [] })) none
-        ∙ ap (λ q. Ok (record s { lets = s.lets ++ (name, q) ∷ [] })) (meant fields writable.table s.lets p h.over 1)
+        ∙ ap (λ q. Ok (record s { lets = s.lets ++ (name, q) ∷ [] })) (meant 1 fields writable.table s.lets p h.over 1)

@@ -1,19 +1,23 @@
 -- What a printed policy is read back as: that policy, its dups numbered anew from 1.
-use Rattle.std.specs.Prelude.{◌≡◌, ℕ, ◌≤◌, List, [], ◌∷◌, ◌++◌, None, Ok, All, codes}
+use Rattle.std.specs.Prelude.{◌≡◌, ℕ, ◌≤◌, true, List, [], ◌∷◌, ◌++◌, None, Ok, All, codes}
 use Rattle.nk_field.specs.Packet.{FieldTable, IsFieldTable, built_in}
 use Rattle.nk_lex.specs.declared.token.Token.{Token}
 use Rattle.nk_lex.specs.Lex.{tokens_of}
-use Rattle.nk_lex.specs.Spelling.{IsName}
+use Rattle.nk_lex.specs.Spelling.{IsName, text_of}
 use Rattle.nk_grammar.specs.declared.ast.Word.{Word}
 use Rattle.nk_grammar.specs.Tree.{Tree}
+use Rattle.nk_grammar.specs.Grammar.{Pol, pol_tree}
+use Rattle.nk_grammar.specs.Moved.{tree_moved}
+use Rattle.nk_grammar.specs.Nesting.{nesting_of_pol}
+use Rattle.nk_grammar.specs.Text.{lexemes_of_pol, IsPolOn}
 use Rattle.nk_grammar.specs.File.{Declaration, definition}
 use Rattle.nk_grammar.specs.FileMachine.{file_of}
-use Rattle.nk_policy.specs.Policy.{Policy, Policies, test, assign, sum_of, seq_of, not_of, star_of, dup, link, no_part, part, depth_of, size_of, marked_from}
+use Rattle.nk_policy.specs.Policy.{Policy, Policies, test, assign, sum_of, seq_of, not_of, star_of, dup, link, no_part, part, depth_of, size_of, is_predicate, marked_from}
 use Rattle.nk_policy.specs.Ranges.{IsOver}
 use Rattle.nk_policy.specs.Text.{pol_bytes}
 use Rattle.nk_names.specs.Complements.{NegatesPredicates}
 use Rattle.nk_names.specs.Meant.{Lets, policy_among, policy_for, unknown_in, misplaced_in}
-use Rattle.nk_names.specs.ProgramOf.{Said, said_with, program_of}
+use Rattle.nk_names.specs.ProgramOf.{Said, said_with, program_of, row_policy}
 
 -- What the fields of a text's program are: a field table, with maxima that a text can write, each name one by the lexical
 -- rules and no keyword.
@@ -86,6 +90,28 @@ pub record IsReadBack (fields : FieldTable) (name : List ℕ) (p : Policy) : Typ
 abbrev pub ReadsPrinted : Type 0
 ReadsPrinted = (fields : FieldTable) → IsWritable fields → (name : List ℕ) → IsName name
     → (p : Policy) → IsReadable fields p → IsReadBack fields name p
+
+-- The predicates whose text is read back in a row of a certificate: over the fields and in range, at most 256 deep, no sum or
+-- sequence of one part. They have any size.
+pub record IsReadablePredicate (fields : FieldTable) (p : Policy) : Type 0 where
+  pub predicate : is_predicate p ≡ true
+  pub over : IsOver fields p
+  pub shallow : depth_of p ≤ 256
+  pub no_lone_part : HasNoLonePart p
+
+-- A predicate as it is written on a line, with the parentheses that its text has. In a row it stands for the predicate, on
+-- that line and on each later one.
+pub record IsPredicateReadBack (fields : FieldTable) (line : ℕ) (p : Policy) : Type 0 where
+  pub written : Pol
+  pub on_line : IsPolOn line written
+  pub nested : nesting_of_pol written ≤ 256
+  pub text : text_of (lexemes_of_pol written) ≡ pol_bytes fields p
+  pub meant : (lines row : ℕ) → row_policy fields (tree_moved lines (pol_tree written)) row ≡ Ok p
+
+-- what is printed of a predicate is read back in a row as that predicate
+abbrev pub ReadsPrintedPredicates : Type 0
+ReadsPrintedPredicates = (fields : FieldTable) → IsWritable fields → (line : ℕ) (p : Policy)
+    → IsReadablePredicate fields p → IsPredicateReadBack fields line p
 
 -- (sw=1;pt:=2;1:2=>2:1 + ~(pt=1 + pt=2))*
 abbrev pub small_policy : Policy

@@ -2,9 +2,13 @@ use Rattle.std.proofs.Common.{◌∙◌, ap, subst}
 use Rattle.nk_store.proofs.Stores.{grows_on}
 use Rattle.nk_sets.specs.PacketSets.{has_out}
 use Rattle.nk_determ.specs.Sets.{IsSetOf}
+use Rattle.nk_reach.specs.Sides.{goal_on}
 use Rattle.nk_reach.proofs.Growing.{rows_grow, sets_same}
 use Rattle.nk_cert.proofs.Sided.{side_levels}
 use Rattle.nk_cert.proofs.leveling.levels_of_rows.Goals as goal
+
+pub levels-requires-clause-fits : goal.levels-requires-clause-fits
+levels-requires-clause-fits c = goal_on c.new.new.st c.identity.new.st c.in_ok-goal.goal.ends c.in_ok-goal.goal.seen.entries c.in_ok-goal.ensures.fits c.identity.ensures.grows
 
 pub levels-requires-clause-rows : goal.levels-requires-clause-rows
 levels-requires-clause-rows c =
@@ -19,4 +23,4 @@ returns-clause-ok c =
     (sets_same c.intern.new.self c.levels.new.ss c.in_ok-s.s c.levels.ensures.sets is.within ∙ is.members)
     c.in_ok-from.ensures.ok.id (λ pk r. ap has_out (c.in_ok-from.ensures.ok.leaf pk r.0))
     c.in_ok-goal.ensures.ids c.in_ok-goal.ensures.marked.count c.in_ok-goal.ensures.alone
-    c.in_ok-lv.ensures.fits c.in_ok-lv.ensures.labels c.in_ok-lv.ensures.same c.in_ok-lv.ensures.ok
+    c.in_ok-lv.ensures.fits.ids c.in_ok-lv.ensures.labels c.in_ok-lv.ensures.same c.in_ok-lv.ensures.ok

@@ -1,0 +1,61 @@
+//! What is found of a certificate of two named policies.
+ghost use Rattle.std.specs.Prelude.{◌≡◌, ◌+◌, ◌<◌, ◌^◌, IfOk};
+ghost use Rattle.nk_policy.specs.Policy.{marked_from, dups_of};
+ghost use Rattle.nk_policy.specs.Tree.{tree_of};
+ghost use Rattle.nk_policy.specs.Ranges.{IsOver};
+ghost use Rattle.nk_names.specs.Complements.{NegatesPredicates};
+ghost use Rattle.nk_cert.specs.Verdicts.{HasPredicates, IsFinding};
+ghost use Rattle.nk_cert.specs.Values.{certificate_value, finding_of};
+ghost use Rattle.nk_cert.specs.Answers.{IsChecked};
+
+use crate::checking::check_policies;
+use crate::error::CheckError;
+use crate::pairing::number_behind;
+use crate::shape::{Certificate, Verdict};
+use nk_field::Fields;
+use nk_names::Program;
+use nk_policy::{Pol, marked};
+use std::alloc::{AllocError, Global};
+
+/// What is found of a certificate of two named policies: that each row meets its four parts, or the first row that fails, and
+/// the first part in which it does. The right policy's dups are numbered on from the left one's. Names that are no policy's
+/// are refused; the only other error is that memory ran out.
+pub fn check(
+    alloc: Global,
+    program: &Program,
+    left: &str,
+    right: &str,
+    certificate: &Certificate,
+) -> Result<Verdict, CheckError>
+    requires { HasPredicates (certificate_value certificate.now) }
+    ensures { IsChecked program.now left.now right.now (certificate_value certificate.now) result }
+{
+    let Some(p) = program.find(left) else {
+        return Err(CheckError::NoPolicy);
+    };
+    let Some(q) = program.find(right) else {
+        return Err(CheckError::NoPolicy);
+    };
+    Ok(check_both(alloc, &program.fields, p, q, certificate)?)
+}
+
+/// What is found of a certificate of two policies, the right one's dups numbered on from the left one's.
+fn check_both(
+    alloc: Global,
+    fields: &Fields,
+    p: &Pol,
+    q: &Pol,
+    certificate: &Certificate,
+) -> Result<Verdict, AllocError>
+    requires numbered { marked_from (tree_of p.now) 1 ≡ tree_of p.now }
+    requires few { 1 + dups_of (tree_of p.now) + dups_of (tree_of q.now) < 2 ^ 32 }
+    requires left_complements { NegatesPredicates (tree_of p.now) }
+    requires left_over { IsOver fields.now (tree_of p.now) }
+    requires right_complements { NegatesPredicates (tree_of q.now) }
+    requires right_over { IsOver fields.now (tree_of q.now) }
+    requires predicates { HasPredicates (certificate_value certificate.now) }
+    ensures { IfOk result (λ v. IsFinding fields.now (tree_of p.now) (marked_from (tree_of q.now) (1 + dups_of (tree_of p.now))) (certificate_value certificate.now) (finding_of v)) }
+{
+    let behind = marked(alloc, q, number_behind(p))?;
+    check_policies(alloc, fields, p, &behind, certificate)
+}

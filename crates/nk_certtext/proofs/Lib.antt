@@ -1,0 +1,6 @@
+pub mod Printing
+pub mod ReadingBack
+pub mod RowsRead
+pub mod Predicates
+pub mod PrintedCertificates
+pub mod PrintedSets

@@ -1,0 +1,93 @@
+-- The certificate that the rows of a text make, or their first fault. Rows are taken in the order of the text.
+use Rattle.std.specs.Prelude.{◌≡◌, ℕ, Bool, true, not, ◌&&◌, ◌||◌, nat_lt, if◌then◌else◌, Option, Some, None, Ok, Err, List, [], ◌∷◌, ◌++◌, ⊤}
+use Rattle.std.specs.declared.result.Result.{Result}
+use Rattle.std.specs.List.{list_any}
+use Rattle.std.specs.Str.{bytes_eq}
+use Rattle.nk_field.specs.Packet.{FieldTable}
+use Rattle.nk_policy.specs.Policy.{Policy}
+use Rattle.nk_grammar.specs.Certified.{Row, row}
+use Rattle.nk_names.specs.declared.fault.NamesError.{NamesError}
+use Rattle.nk_names.specs.declared.fault.NamesError.TheVariants as names
+use Rattle.nk_names.specs.ProgramOf.{row_policy}
+use Rattle.nk_cert.specs.Certificates.{RowValue, CertificateValue}
+use Rattle.nk_certtext.specs.declared.error.CertError.{CertError}
+use Rattle.nk_certtext.specs.declared.error.CertError.TheVariants.{NoMemory, CertFault, Fault}
+
+-- a number above the last one, where there is one
+abbrev pub is_above : Option ℕ → ℕ → Bool
+is_above None n = true
+is_above (Some last) n = nat_lt last n
+
+-- each number is above the one before it
+abbrev pub ascend_after : Option ℕ → List ℕ → Bool
+ascend_after last [] = true
+ascend_after last (n ∷ ns) = is_above last n && ascend_after (Some n) ns
+
+-- the numbers ascend strictly
+abbrev pub ascend : List ℕ → Bool
+ascend ns = ascend_after None ns
+
+-- some of these rows has the positions
+abbrev pub have_positions : List RowValue → List ℕ → Bool
+have_positions rows ns = list_any (λ r. bytes_eq ns r.positions) rows
+
+-- positions that don't ascend, or that an earlier row has
+abbrev pub is_misplaced : (before : List RowValue) → List ℕ → Bool
+is_misplaced before ns = not (ascend ns) || have_positions before ns
+
+-- the fault of a predicate as one of a certificate
+abbrev pub fault_of : NamesError → CertError
+fault_of names.NoMemory = NoMemory
+fault_of (names.Fault kind line) = Fault kind line
+
+-- the rows with one more, or the fault of its predicate
+abbrev pub with_predicate : (before : List RowValue) → List ℕ → Result Policy NamesError → Result (List RowValue) CertError
+with_predicate before ns (Ok p) = Ok (before ++ record { positions = ns; predicate = p } ∷ [])
+with_predicate before ns (Err e) = Err (fault_of e)
+
+-- the rows with one more, or its first fault: of its positions, and then of its predicate
+abbrev pub with_row : FieldTable → (before : List RowValue) → Row → Result (List RowValue) CertError
+with_row fields before (row ns t line) = if is_misplaced before ns
+    then Err (CertFault line)
+    else with_predicate before ns (row_policy fields t line)
+
+-- the rest is read where there was no fault so far
+abbrev pub going_on : {X Y : Type 0} → Result X CertError → (X → Result Y CertError) → Result Y CertError
+going_on (Ok x) rest = rest x
+going_on (Err e) rest = Err e
+
+-- the rows behind those that were read before
+abbrev pub rows_after : FieldTable → List Row → (before : List RowValue) → Result (List RowValue) CertError
+rows_after fields [] before = Ok before
+rows_after fields (r ∷ rs) before = going_on (with_row fields before r) (rows_after fields rs)
+
+-- a certificate of the start row's predicate and the later rows
+abbrev pub with_rows : Policy → Result (List RowValue) CertError → Result CertificateValue CertError
+with_rows p (Ok rows) = Ok (record { start = p; rows = rows })
+with_rows p (Err e) = Err e
+
+-- the start row's predicate, and then the later rows
+abbrev pub from_start : FieldTable → Result Policy NamesError → List Row → Result CertificateValue CertError
+from_start fields (Ok p) later = with_rows p (rows_after fields later [])
+from_start fields (Err e) later = Err (fault_of e)
+
+-- the certificate of a text's rows, the start row first; without rows there is none
+abbrev pub certificate_of : FieldTable → List Row → Result CertificateValue CertError
+certificate_of fields [] = Err (CertFault 1)
+certificate_of fields (row ns t line ∷ later) = from_start fields (row_policy fields t line) later
+
+-- there is a first row, and it has no positions
+abbrev pub HasStartRow : List Row → Type 0
+HasStartRow [] = ⊥
+HasStartRow (row ns t line ∷ later) = ns ≡ []
+
+-- this is the fault of what is wanted; want of memory may come at any
+abbrev pub IsFault : {X : Type 0} → CertError → Result X CertError → Type 0
+IsFault NoMemory wanted = ⊤
+IsFault (CertFault line) wanted = wanted ≡ Err (CertFault line)
+IsFault (Fault kind line) wanted = wanted ≡ Err (Fault kind line)
+
+-- what is returned is what is wanted, seen so, or want of memory
+abbrev pub Returns : {X Y : Type 0} → (X → Y) → Result X CertError → Result Y CertError → Type 0
+Returns view (Ok x) wanted = wanted ≡ Ok (view x)
+Returns view (Err e) wanted = IsFault e wanted
