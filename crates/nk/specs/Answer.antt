@@ -5,8 +5,9 @@ use Rattle.nk.specs.declared.status.Status.{Status}
 use Rattle.nk.specs.declared.status.Status.TheVariants.{Done, Differs, Usage, Text, Refused}
 use Rattle.nk.specs.declared.status.Status.TheVariants.{ReadFault, NoMemory, TooLong}
 use Rattle.nk_words.specs.declared.words.Command.{Command}
-use Rattle.nk_words.specs.declared.words.Command.TheVariants.{Compile, Trace, Equal, Fly}
+use Rattle.nk_words.specs.declared.words.Command.TheVariants.{Compile, Trace, Equal, Check, Fly}
 use Rattle.nk.specs.Outcome.{Outcome, done, differs, text_refused, policy_refused}
+use Rattle.nk.specs.Checking.{IsCheckAnswer}
 use Rattle.nk.specs.Compiling.{IsCompileAnswer}
 use Rattle.nk.specs.Comparing.{IsEqualAnswer}
 use Rattle.nk.specs.Flying.{IsFlyAnswer}
@@ -54,6 +55,7 @@ abbrev pub IsOutcome : Command → List ℕ → Outcome → Type 0
 IsOutcome (Compile name) bytes outcome = IsCompileAnswer name bytes outcome
 IsOutcome (Trace hops packet) bytes outcome = IsTraceAnswer hops packet bytes outcome
 IsOutcome (Equal left right) bytes outcome = IsEqualAnswer left right bytes outcome
+IsOutcome (Check left right) bytes outcome = IsCheckAnswer left right bytes outcome
 IsOutcome (Fly seed steps packet) bytes outcome = IsFlyAnswer seed steps packet bytes outcome
 
 -- the answer is one that the command has to the input

@@ -1,5 +1,5 @@
--- What `equal LEFT RIGHT` answers to the bytes of a text: the first fault of the text, or that a name is no policy's, or
--- that both policies give the same histories on every packet, or the least history that one of them alone has.
+-- What `equal LEFT RIGHT` answers to the bytes of a text: the first fault of the text, or that a name is no policy's, or the
+-- printed certificate where both policies give the same histories on every packet, or the least history that one alone has.
 use Rattle.std.specs.Prelude.{◌≡◌, ◌⊎◌, ℕ, None, Some, List, ◌++◌, codes}
 use Rattle.nk_field.specs.Packet.{FieldTable}
 use Rattle.nk_field.specs.Order.{Found}
@@ -7,7 +7,12 @@ use Rattle.nk_policy.specs.Policy.{Policy}
 use Rattle.nk_names.specs.declared.Program.{Program}
 use Rattle.nk_names.specs.Named.{policy_named}
 use Rattle.nk_names.specs.ProgramOf.{Said, said_by}
-use Rattle.nk_cert.specs.Equality.{Side, on_left, on_right, AreSame, IsLeastDifference}
+use Rattle.nk_lex.specs.Joined.{joined}
+use Rattle.nk_cert.specs.Equality.{Side, on_left, on_right, IsLeastDifference}
+use Rattle.nk_cert.specs.Certificates.{CertificateValue}
+use Rattle.nk_certtext.specs.Text.{cert_bytes}
+use Rattle.nk_bisim.specs.Answers.{IsRelated}
+use Rattle.nk.specs.CertifiedText.{HoldsCertificate}
 use Rattle.nk.specs.Messages.{found_lines}
 use Rattle.nk.specs.Outcome.{Outcome, done, differs, text_refused, policy_refused}
 use Rattle.nk.specs.ProgramText.{Declares, HasFault}
@@ -26,15 +31,18 @@ pub record AreNamed (program : Program) (left right : List ℕ) (p q : Policy) :
   pub left_is : policy_named program left ≡ Some p
   pub right_is : policy_named program right ≡ Some q
 
--- the policies of these names give the same histories on every packet, and the text says so
+-- The policies of these names give the same histories on every packet, and the text is that of their printed certificate, which
+-- is one. Behind each text that declares the program, and a line feed, it is read as that certificate.
 pub record IsSame (said : Said) (left right text : List ℕ) : Type 0 where
   pub program : Program
   pub says : said_by program ≡ said
   pub left_policy : Policy
   pub right_policy : Policy
   pub named : AreNamed program left right left_policy right_policy
-  pub same : AreSame program.fields left_policy right_policy
-  pub told : text ≡ codes "equal\n"
+  pub certificate : CertificateValue
+  pub related : IsRelated program.fields left_policy right_policy certificate
+  pub told : text ≡ cert_bytes program.fields certificate
+  pub read : (bytes : List ℕ) → Declares bytes said → HoldsCertificate (joined bytes text) said certificate
 
 -- the text tells the least history that one of the policies of these names alone has, and which one
 pub record IsDifference (said : Said) (left right text : List ℕ) : Type 0 where

@@ -1,4 +1,6 @@
 pub mod Answer
+pub mod CertifiedText
+pub mod Checking
 pub mod Comparing
 pub mod Compiling
 pub mod Declarable
@@ -8,6 +10,7 @@ pub mod Following
 pub mod Messages
 pub mod Outcome
 pub mod ProgramText
+pub mod ReadCertified
 pub mod ReadText
 pub mod Reply
 pub mod Status

@@ -1,13 +1,16 @@
 //! The answer of `equal LEFT RIGHT`.
 ghost use Rattle.std.specs.Prelude.{◌≡◌, IfOk};
 ghost use Rattle.nk_names.specs.ProgramOf.{said_by};
+ghost use Rattle.nk_names.specs.ProgramValue.{IsProgram};
 ghost use Rattle.nk.specs.Comparing.{IsEqualAnswer, ToCompared};
 ghost use Rattle.nk.specs.Reply.{said};
 
 use crate::Said;
-use crate::messages::difference_message;
+use crate::messages::{difference_message, no_policy_message};
 use crate::program_text::{ReadText, read_program};
 use nk_bisim::{CompareError, Compared, compare};
+use nk_certtext::cert_text;
+use nk_certtext::laws::certificates_of_policies_are_read;
 use nk_names::Program;
 use std::alloc::{AllocError, Global};
 
@@ -33,16 +36,19 @@ fn answer_to_program(
     right: &str,
     program: &Program,
 ) -> Result<Said, AllocError>
+    requires is { IsProgram program.now.fields program.now.topo program.now.lets }
     ensures { IfOk result (λ s. ToCompared (said_by program.now) left.now right.now (said s)) }
 {
+    // This is a law: what is printed for two policies is read back.
+    certificates_of_policies_are_read();
     match compare(alloc, program, left, right) {
-        Ok(Compared::Same) => Ok(Said::Done(Vec::from_slice(alloc, b"equal\n")?)),
+        Ok(Compared::Related(certificate)) => {
+            Ok(Said::Done(cert_text(alloc, program, &certificate)?))
+        }
         Ok(Compared::Broken(found)) => {
             Ok(Said::Differs(difference_message(alloc, &program.fields, &found)?))
         }
-        Err(CompareError::NoPolicy) => {
-            Ok(Said::Refused(Vec::from_slice(alloc, b"refused C1: no policy\n")?))
-        }
+        Err(CompareError::NoPolicy) => Ok(Said::Refused(no_policy_message(alloc)?)),
         Err(CompareError::NoMemory) => Err(AllocError),
     }
 }

@@ -1,6 +1,8 @@
 //! The commands over bytes: what is read, what is answered, and how a run ends.
 #![tactic(auto)]
 
+mod certified_text;
+mod checking;
 mod comparing;
 mod compiling;
 mod flying;

@@ -66,6 +66,13 @@ fn tags_message(alloc: Global, found: u64) -> Result<Vec<u8>, AllocError>
     Ok(message)
 }
 
+/// The message for a name that is no policy's.
+pub(crate) fn no_policy_message(alloc: Global) -> Result<Vec<u8>, AllocError>
+    ensures { IfOk result (λ v. v.items ≡ codes "refused C1: no policy\n") }
+{
+    Vec::from_slice(alloc, b"refused C1: no policy\n")
+}
+
 /// Appends a packet and a history from it, with every field, each on a line of its own.
 fn push_found(
     alloc: Global,
@@ -108,7 +115,7 @@ pub(crate) fn refusal_message(
     ensures { IfOk result (λ v. v.items ≡ refusal_line fields.now reason.now) }
 {
     let message: &[u8] = match reason {
-        Refusal::NoPolicy => b"refused C1: no policy\n",
+        Refusal::NoPolicy => return no_policy_message(alloc),
         Refusal::NoTag => b"refused C2: no tag\n",
         Refusal::TagUsed => b"refused C3: tag used\n",
         Refusal::LooseDup => b"refused C4: loose dup\n",

@@ -8,6 +8,7 @@ ghost use Rattle.nk.specs.Ends.{LeavesAlone, TellsFaults};
 ghost use Rattle.nk.specs.Reply.{answer_in, said, IsReplyTo};
 
 use crate::Status;
+use crate::checking::check_answer;
 use crate::comparing::equal_answer;
 use crate::compiling::compile_answer;
 use crate::flying::fly_answer;
@@ -108,5 +109,6 @@ fn perform(alloc: Global, command: &Command, bytes: &[u8]) -> Result<Said, Alloc
             fly_answer(alloc, *seed, *steps, packet.as_str(), bytes)
         }
         Command::Equal(left, right) => equal_answer(alloc, left.as_str(), right.as_str(), bytes),
+        Command::Check(left, right) => check_answer(alloc, left.as_str(), right.as_str(), bytes),
     }
 }

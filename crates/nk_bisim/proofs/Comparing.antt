@@ -5,13 +5,16 @@ use Rattle.nk_field.specs.declared.packet.Packet.{Packet}
 use Rattle.nk_field.specs.Packet.{FieldTable}
 use Rattle.nk_field.specs.Order.{Found, IsLeast}
 use Rattle.nk_policy.specs.Policy.{Policy, marked_from, dups_of}
+use Rattle.nk_policy.specs.Ranges.{IsInRange}
 use Rattle.nk_policy.specs.Meaning.{Way, Gives}
 use Rattle.nk_policy.proofs.Remade.{marked_ways, marked_again}
 use Rattle.nk_store.specs.declared.node.Out.{Out}
-use Rattle.nk_store.specs.Held.{Held, AreTidy}
+use Rattle.nk_store.specs.Held.{Held, Grows, AreTidy}
 use Rattle.nk_store.proofs.Stores.{grows_on}
 use Rattle.nk_sets.specs.PacketSets.{is_in}
-use Rattle.nk_reach.specs.Pairs.{AreRows}
+use Rattle.nk_determ.specs.Sets.{Differ}
+use Rattle.nk_reach.specs.Pairs.{AreRows, EachPair, IsPair}
+use Rattle.nk_reach.specs.Rounds.{HaveSets}
 use Rattle.nk_reach.specs.Levels.{AreLevels}
 use Rattle.nk_reach.specs.Sides.{alone, ends_of}
 use Rattle.nk_reach.specs.Breaks.{IsBreak, Breaks}
@@ -26,19 +29,31 @@ use Rattle.nk_witness.proofs.Settling.{levels_now}
 use Rattle.nk_cert.specs.Equality.{on_left, on_right, AreSame, IsOfOneAlone, IsLeastDifference}
 use Rattle.nk_cert.specs.Equality.{Side as SideOfBoth}
 use Rattle.nk_cert.specs.Together.{either_of}
-use Rattle.nk_cert.specs.Levelled.{IsAutomatonOfBoth, HasEach, AreSideLevels, target_of}
+use Rattle.nk_cert.specs.Levelled.{IsAutomatonOfBoth, HasEach, AreLevelsOfBoth, AreSideLevels, target_of}
+use Rattle.nk_cert.specs.Certificates.{CertificateValue, IsCertificate}
+use Rattle.nk_cert.specs.FromLevels.{IsCertificateOf}
+use Rattle.nk_cert.specs.Printed.{IsPrinted}
+use Rattle.nk_cert.specs.Values.{certificate_value}
+use Rattle.nk_cert.proofs.FromLevels.{is_printed}
+use Rattle.nk_cert.proofs.Printing.{is_certificate}
+use Rattle.nk_cert.proofs.Together.{sides_of}
 use Rattle.nk_cert.proofs.Levels.{same_by_levels}
 use Rattle.nk_cert.proofs.Rows.{both_stand}
 use Rattle.nk_cert.proofs.Sided.{levels_of_policies, goal_now}
 use Rattle.nk_cert.proofs.Breaking.{least_difference}
-use Rattle.nk_bisim.specs.Answers.{whose, IsComparison}
+use Rattle.nk_bisim.specs.Answers.{whose, IsRelated, IsComparison}
 use Rattle.nk_bisim.specs.declared.answer.Compared.{Compared}
-use Rattle.nk_bisim.specs.declared.answer.Compared.TheVariants.{Same, Broken}
+use Rattle.nk_bisim.specs.declared.answer.Compared.TheVariants.{Related, Broken}
 
 -- both tell a side by one number
 same_target : (side : Side) → witness_target side ≡ target_of (whose side)
 same_target Left = refl
 same_target Right = refl
+
+-- entries over rows have sets of packets
+pub packets_are_sets : (st : Held) (ss : List (List ℕ)) (rows : ℕ) (ps : List (ℕ × ℕ)) → EachPair (IsPair st ss rows) ps → HaveSets st ps
+packets_are_sets st ss rows [] h = tt
+packets_are_sets st ss rows (p ∷ ps) h = (h.0.packets, packets_are_sets st ss rows ps h.1)
 
 -- what the goal finds bad in a store
 abbrev pub bad_in : Held → List ℕ → List ℕ → List ℕ → List Out
@@ -72,12 +87,21 @@ module _ (first : Held) (rows : List ℕ) (left right bound : ℕ) (new : Held) 
 
 module _ (fields : FieldTable) (first : Held) (rows : List ℕ) (left right bound : ℕ) (p q : Policy) (a : IsAutomatonOfBoth fields first rows left right p q) (is : bound ≡ 1 + dups_of p)
     (new : Held) (ss : List (List ℕ)) (ends : List ℕ) (ls : List (List (ℕ × ℕ))) (broken : Bool) (lv : AreSideLevels first rows left right bound new ss ends ls broken) where
-  -- without an end of one side alone both do the same
-  pub same_is : broken ≡ false → AreSame fields p q
-  same_is e =
-      let whole = subst (λ b. AreLevels lv.old new ss rows lv.set lv.start lv.bad ls b) e lv.levels in
-      same_by_levels fields p q rows left right first lv.old new ss lv.set lv.start lv.bad ls broken
-      (levels_of_policies fields first rows left right bound p q a is new ss ends ls broken lv) whole
+  -- without an end of one side alone both do the same, and what is made of the levels is the printed certificate
+  pub related_is :
+      broken ≡ false → Differ ss → IsInRange p fields → IsInRange q fields → (final : Held) → Grows new final
+      → (c : CertificateValue) → IsCertificateOf new final ss ls c → IsRelated fields p q c
+  related_is e differ rp rq final grew c made =
+      let levels = levels_of_policies fields first rows left right bound p q a is new ss ends ls broken lv in
+      let both = subst (λ b. AreLevelsOfBoth fields p q rows left right first lv.old new ss lv.set lv.start lv.bad ls b) e levels in
+      let same : AreSame fields p q = same_by_levels fields p q rows left right first lv.old new ss lv.set lv.start lv.bad ls false both both.levels in
+      let printed : IsPrinted fields p q c = is_printed fields p q rows left right first lv.old new final ss lv.set lv.start lv.bad ls both differ lv.grown grew c made in
+      let shows : IsCertificate fields p q c = is_certificate fields p q (sides_of p q a.numbered) rp rq same c printed in
+      record {
+        same = same;
+        printed = subst (λ r. IsPrinted fields p r c) (sym a.numbered.right) printed;
+        shows = subst (λ r. IsCertificate fields p r c) (sym a.numbered.right) shows;
+      }
 
   -- and what is least of all that break the goal is the least difference
   pub difference_is : AreTidy new → (side : Side) (f : Found)
@@ -135,12 +159,20 @@ module _ (fields : FieldTable) (p q : Policy) (n : ℕ) where
     λ h. (h.0, (renumbered f.start f.records f.last).1 h.1, h.2),
   )
 
+  -- the certificate of the one is that of the other
+  related_as_declared : (c : CertificateValue) → IsRelated fields p (marked_from q n) c → IsRelated fields p q c
+  related_as_declared c h = record {
+    same = λ pk ok w y.
+        let e = h.same pk ok w y in
+        let k = renumbered pk w y in
+        (λ g. k.0 (e.0 g), λ g. e.1 (k.1 g));
+    printed = subst (λ r. IsPrinted fields p r c) (marked_again q n (1 + dups_of p)) h.printed;
+    shows = subst (λ r. IsCertificate fields p r c) (marked_again q n (1 + dups_of p)) h.shows;
+  }
+
   -- so the comparison is that of the policies as they are declared
   pub as_declared : (r : Compared) → IsComparison fields p (marked_from q n) r → IsComparison fields p q r
-  as_declared Same h = λ pk ok w y.
-      let e = h pk ok w y in
-      let k = renumbered pk w y in
-      (λ g. k.0 (e.0 g), λ g. e.1 (k.1 g))
+  as_declared (Related c) h = related_as_declared (certificate_value c) h
   as_declared (Broken f) h = (
     (alone_of (whose f.side) (found_of f)).0 h.0,
     (

@@ -3,13 +3,13 @@ ghost use Rattle.std.specs.Prelude.{◌≡◌, ◌+◌, ◌<◌, ◌^◌, ℕ, I
 ghost use Rattle.nk_field.specs.Packet.{FieldTable};
 ghost use Rattle.nk_policy.specs.Policy.{Policy, marked_from, dups_of};
 ghost use Rattle.nk_policy.specs.Tree.{tree_of};
-ghost use Rattle.nk_policy.specs.Ranges.{IsOver};
+ghost use Rattle.nk_policy.specs.Ranges.{IsInRange, IsOver};
 ghost use Rattle.nk_names.specs.Complements.{NegatesPredicates};
 ghost use Rattle.nk_cert.specs.Levelled.{IsAutomatonOfBoth};
 ghost use Rattle.nk_bisim.specs.Answers.{IsComparison, IsCompared};
 
 use crate::answer::{CompareError, Compared};
-use nk_cert::{Both, automaton_of_both, levels_of_both, number_behind};
+use nk_cert::{Both, automaton_of_both, certificate_of, levels_of_both, number_behind};
 use nk_determ::Sets;
 use nk_field::Fields;
 use nk_names::Program;
@@ -19,7 +19,8 @@ use nk_witness::least_history;
 use std::alloc::{AllocError, Global};
 
 /// Whether two named policies give the same histories on every packet in range, located or not, the tag a field like any
-/// other; and where they don't, the least history that one of them alone has. Names that are no policy's are refused; the
+/// other; where they do, with the printed certificate, and where they don't, with the least history that one of them alone
+/// has. Names that are no policy's are refused; the
 /// only other error is that memory ran out.
 pub fn compare(
     alloc: Global,
@@ -66,12 +67,14 @@ fn compare_by_levels(st: &mut Store, both: &Both, bound: usize) -> Result<Compar
         × IsAutomatonOfBoth fields st.old both.now.rows both.now.left both.now.right p q × (bound ≡ 1 + dups_of p) }
     ensures { IfOk result (λ r. (fields : FieldTable) (p q : Policy)
         → IsAutomatonOfBoth fields st.old both.now.rows both.now.left both.now.right p q → bound ≡ 1 + dups_of p
-        → IsComparison fields p q r) }
+        → IsInRange p fields → IsInRange q fields → IsComparison fields p q r) }
 {
     let mut ss = Sets::new(st.alloc());
     let mut lv = levels_of_both(st, &mut ss, both, bound)?;
+    ss.differ();
     if !lv.levels.broken() {
-        return Ok(Compared::Same);
+        let certificate = certificate_of(st, &ss, &lv.levels)?;
+        return Ok(Compared::Related(certificate));
     }
     st.laws();
     let found = least_history(st, &mut ss, both.rows.as_slice(), &lv.levels, &mut lv.goal)?;

@@ -1,4 +1,4 @@
-//! Equality of two named policies of a program, with the least history of a difference.
+//! Equality of two named policies of a program, with a certificate or the least history of a difference.
 #![tactic(auto)]
 
 mod answer;

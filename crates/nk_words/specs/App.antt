@@ -33,7 +33,9 @@ unfoldable pub nk_app : App
 nk_app = with_subcommand
     (with_subcommand
     (with_subcommand
+    (with_subcommand
     (with_subcommand nk_top (leaf_shape (codes "compile") (codes "NAME" ∷ [])))
     (leaf_shape (codes "trace") (codes "HOPS" ∷ codes "PACKET" ∷ [])))
     (leaf_shape (codes "equal") (codes "LEFT" ∷ codes "RIGHT" ∷ [])))
+    (leaf_shape (codes "check") (codes "LEFT" ∷ codes "RIGHT" ∷ [])))
     (leaf_shape (codes "fly") (codes "SEED" ∷ codes "STEPS" ∷ codes "PACKET" ∷ []))

@@ -8,7 +8,7 @@ use Rattle.clap.specs.Walk.{Row, Text, first_of}
 use Rattle.clap.specs.Simple.{subcommand_of}
 use Rattle.clap.specs.Faults.{fault_of}
 use Rattle.nk_words.specs.declared.words.Command.{Command}
-use Rattle.nk_words.specs.declared.words.Command.TheVariants.{Compile, Trace, Equal, Fly}
+use Rattle.nk_words.specs.declared.words.Command.TheVariants.{Compile, Trace, Equal, Check, Fly}
 use Rattle.nk_words.specs.declared.words.WordsError.{WordsError}
 use Rattle.nk_words.specs.declared.words.WordsError.TheVariants.{NoMemory, Usage}
 use Rattle.nk_words.specs.App.{nk_app}
@@ -36,6 +36,11 @@ abbrev pub equal_of : List Row → Option Command
 equal_of rows = option_and_then (λ left. option_map (λ right. Equal left right) (first_of (codes "RIGHT") rows))
     (first_of (codes "LEFT") rows)
 
+-- the command `check LEFT RIGHT`, from what was found of its arguments
+abbrev pub check_of : List Row → Option Command
+check_of rows = option_and_then (λ left. option_map (λ right. Check left right) (first_of (codes "RIGHT") rows))
+    (first_of (codes "LEFT") rows)
+
 -- the command `fly SEED STEPS PACKET`, from what was found of its arguments
 abbrev pub fly_of : List Row → Option Command
 fly_of rows =
@@ -48,6 +53,7 @@ abbrev pub command_with : Text → List Row → Option Command
 command_with name rows = if bytes_eq name (codes "compile") then compile_of rows
     else if bytes_eq name (codes "trace") then trace_of rows
     else if bytes_eq name (codes "equal") then equal_of rows
+    else if bytes_eq name (codes "check") then check_of rows
     else if bytes_eq name (codes "fly") then fly_of rows else None
 
 -- the command of the subcommand that was found

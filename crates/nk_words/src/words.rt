@@ -6,7 +6,7 @@ ghost use Rattle.clap.specs.Simple.{app_of, subcommand_rows_of, with_rule, with_
 ghost use Rattle.clap.specs.Walk.{first_of, rows_of};
 ghost use Rattle.nk_words.specs.App.{leaf_app, leaf_shape, nk_app, nk_top, wanted};
 ghost use Rattle.nk_words.specs.Words.{Reads, command_found, command_of, command_with, compile_of};
-ghost use Rattle.nk_words.specs.Words.{equal_of, fly_of, number_of, texts, trace_of};
+ghost use Rattle.nk_words.specs.Words.{check_of, equal_of, fly_of, number_of, texts, trace_of};
 
 use crate::Bytes;
 use crate::number::number_from;
@@ -25,6 +25,8 @@ pub enum Command {
     Trace(u64, Bytes),
     /// `equal LEFT RIGHT`: whether the policies of these names do the same.
     Equal(Bytes, Bytes),
+    /// `check LEFT RIGHT`: what is found of a certificate that the policies of these names do the same.
+    Check(Bytes, Bytes),
     /// `fly SEED STEPS PACKET`: what leaves when the switches take turns as draws from the seed, 1 to 2147483646, say, for so
     /// many steps, 0 to 1000000. The packet is a text as `sw=1,pt=2,dst=3`.
     Fly(u64, u64, Bytes),
@@ -107,6 +109,7 @@ fn application<'a>(alloc: Global) -> Result<clap::Command<'a>, AllocError>
     let app = with_leaf(alloc, top(alloc), "compile", &["NAME"])?;
     let app = with_leaf(alloc, app, "trace", &["HOPS", "PACKET"])?;
     let app = with_leaf(alloc, app, "equal", &["LEFT", "RIGHT"])?;
+    let app = with_leaf(alloc, app, "check", &["LEFT", "RIGHT"])?;
     with_leaf(alloc, app, "fly", &["SEED", "STEPS", "PACKET"])
 }
 
@@ -144,6 +147,8 @@ fn command_named(alloc: Global, name: &str, found: &ArgMatches) -> Result<Comman
         trace(alloc, found)
     } else if name == "equal" {
         equal(alloc, found)
+    } else if name == "check" {
+        check(alloc, found)
     } else if name == "fly" {
         fly(alloc, found)
     } else {
@@ -175,6 +180,15 @@ fn equal(alloc: Global, found: &ArgMatches) -> Result<Command, WordsError>
     let left = text(alloc, found, "LEFT")?;
     let right = text(alloc, found, "RIGHT")?;
     Ok(Command::Equal(left, right))
+}
+
+/// `check LEFT RIGHT`.
+fn check(alloc: Global, found: &ArgMatches) -> Result<Command, WordsError>
+    ensures { Reads (check_of (rows_of (found_of found.now))) result }
+{
+    let left = text(alloc, found, "LEFT")?;
+    let right = text(alloc, found, "RIGHT")?;
+    Ok(Command::Check(left, right))
 }
 
 /// `fly SEED STEPS PACKET`.

@@ -1,6 +1,7 @@
 use Rattle.std.proofs.Common.{◌≡◌, ◌∙◌, sym, ap, subst, arith}
 use Rattle.std.proofs.lemmas.Result.{IfOk-weaker}
 use Rattle.nk_policy.specs.Policy.{marked_from, dups_of}
+use Rattle.nk_policy.specs.Ranges.{IsInRange}
 use Rattle.nk_policy.specs.Tree.{tree_of}
 use Rattle.nk_policy.proofs.Remade.{marked_dups}
 use Rattle.nk_names.proofs.Good.{over_marked, over_in_range, negates_marked}
@@ -34,9 +35,15 @@ automaton_of_both-requires-clause-right_fit c =
 
 pub returns : goal.returns
 returns c =
+    let fields = c.args.fields.now in
+    let q = tree_of c.args.q.now in
+    let n = c.number_behind-bound.result in
+    let right_range : IsInRange (tree_of c.in_ok-q.q) fields =
+    subst (λ r. IsInRange r fields) (sym c.in_ok-q.ensures) (over_in_range fields (marked_from q n) (over_marked fields q n c.requires.right_over)) in
     IfOk-weaker c.compare_by_levels.result _ _
     (λ r made.
-    as_declared c.args.fields.now (tree_of c.args.p.now) (tree_of c.args.q.now) c.number_behind-bound.result r
-    (subst (λ k. IsComparison c.args.fields.now (tree_of c.args.p.now) k r) c.in_ok-q.ensures
-    (made c.args.fields.now (tree_of c.args.p.now) (tree_of c.in_ok-q.q) (c.in_ok-both.ensures.ok c.args.fields.now c.in_ok-st.ensures.over) c.number_behind-bound.ensures)))
+    as_declared fields (tree_of c.args.p.now) q n r
+    (subst (λ k. IsComparison fields (tree_of c.args.p.now) k r) c.in_ok-q.ensures
+    (made fields (tree_of c.args.p.now) (tree_of c.in_ok-q.q) (c.in_ok-both.ensures.ok fields c.in_ok-st.ensures.over) c.number_behind-bound.ensures
+    (over_in_range fields (tree_of c.args.p.now) c.requires.left_over) right_range)))
     c.compare_by_levels.ensures
