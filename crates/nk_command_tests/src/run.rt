@@ -1,4 +1,5 @@
 //! Runs in memory.
+mod certified;
 mod compared;
 mod compiled;
 mod cut;

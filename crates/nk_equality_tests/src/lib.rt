@@ -1,6 +1,11 @@
-//! Tests of equality: pairs whose answer was worked out by hand, and random pairs against all their histories.
+//! Tests of equality: pairs whose answer was worked out by hand, random pairs against all their histories, and their
+//! certificates against the definition.
 #![tactic(auto)]
 
+#[cfg(test)]
+mod certificates;
+#[cfg(test)]
+mod definition;
 #[cfg(test)]
 mod draws;
 #[cfg(test)]
@@ -9,5 +14,7 @@ mod enumerated;
 mod pairs;
 #[cfg(test)]
 mod programs;
+#[cfg(test)]
+mod steps;
 #[cfg(test)]
 mod walks;

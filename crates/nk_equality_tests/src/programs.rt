@@ -31,6 +31,16 @@ pub fn declared(alloc: Global, text: &[u8]) -> Result<Program, NamesError> {
     }
 }
 
+/// The program with two policies, and one that is the first of them in other words.
+pub fn program_text(alloc: Global, left: &[u8], right: &[u8]) -> Result<Vec<u8>, AllocError> {
+    let mut text = Vec::from_slice(alloc, b"field a 1 field b 1\nlet l = ")?;
+    text.extend_from_slice(left)?;
+    text.extend_from_slice(b"\nlet r = ")?;
+    text.extend_from_slice(right)?;
+    text.extend_from_slice(b"\nlet s = (id + drop);l;(a=0 + ~a=0) + l\n")?;
+    Ok(text)
+}
+
 /// What is found, in words.
 fn found_text(alloc: Global, fields: &Fields, f: &Found) -> Result<Vec<u8>, AllocError> {
     let mut text = Vec::new(alloc);
@@ -52,7 +62,7 @@ pub fn told(
     right: &str,
 ) -> Result<Vec<u8>, AllocError> {
     match compare(alloc, program, left, right) {
-        Ok(Compared::Same) => Vec::from_slice(alloc, b"same"),
+        Ok(Compared::Related(_)) => Vec::from_slice(alloc, b"same"),
         Ok(Compared::Broken(f)) => found_text(alloc, &program.fields, &f),
         Err(CompareError::NoPolicy) => Vec::from_slice(alloc, b"no policy"),
         Err(CompareError::NoMemory) => Err(AllocError),

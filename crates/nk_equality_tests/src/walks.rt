@@ -2,23 +2,13 @@
 
 use crate::draws::{Draws, policies};
 use crate::enumerated::{Difference, RECORDS, least_difference};
-use crate::programs::declared;
+use crate::programs::{declared, program_text};
 use nk_bisim::{Compared, compare};
 use nk_names::Program;
 use nk_policy::Pol;
 use nk_witness::{Found, Side};
-use std::alloc::{AllocError, Global};
+use std::alloc::Global;
 use std::test::Fail;
-
-/// The program with two policies, and one that is the first of them in other words.
-fn program_text(alloc: Global, left: &[u8], right: &[u8]) -> Result<Vec<u8>, AllocError> {
-    let mut text = Vec::from_slice(alloc, b"field a 1 field b 1\nlet l = ")?;
-    text.extend_from_slice(left)?;
-    text.extend_from_slice(b"\nlet r = ")?;
-    text.extend_from_slice(right)?;
-    text.extend_from_slice(b"\nlet s = (id + drop);l;(a=0 + ~a=0) + l\n")?;
-    Ok(text)
-}
 
 /// Whether what is found is this difference.
 fn is_found(f: &Found, d: &Difference) -> bool {
@@ -28,8 +18,8 @@ fn is_found(f: &Found, d: &Difference) -> bool {
 /// Whether the answer is what all histories of so many records say.
 fn is_as_enumerated(answer: &Compared, least: &Option<Difference>) -> bool {
     match (answer, least) {
-        (Compared::Same, None) => true,
-        (Compared::Same, Some(_)) => false,
+        (Compared::Related(_), None) => true,
+        (Compared::Related(_), Some(_)) => false,
         (Compared::Broken(f), Some(d)) => is_found(f, d),
         (Compared::Broken(f), None) => f.history.records.len() > RECORDS,
     }

@@ -7,7 +7,7 @@ use std::alloc::{AllocError, Global};
 use std::{fs, io};
 
 /// The words of a command, the file that is its input, and the file with the answer.
-const RUNS: [(&[&str], &str, &str); 17] = [
+const RUNS: [(&[&str], &str, &str); 19] = [
     (
         &["compile", "allow"],
         "access-list.nk",
@@ -68,6 +68,16 @@ const RUNS: [(&[&str], &str, &str); 17] = [
         &["equal", "before", "loose"],
         "change.nk",
         "change.difference",
+    ),
+    (
+        &["check", "before", "after"],
+        "change.certified",
+        "change.check",
+    ),
+    (
+        &["check", "before", "after"],
+        "change-stale.certified",
+        "change-stale.check",
     ),
 ];
 

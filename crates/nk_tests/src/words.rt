@@ -17,6 +17,7 @@ fn command_in(alloc: Global, words: &[&str]) -> Result<Option<(u64, String)>, Fa
             String::from_str(alloc, packet.as_str())?,
         ))),
         Ok(Command::Equal(_, right)) => Ok(Some((0, String::from_str(alloc, right.as_str())?))),
+        Ok(Command::Check(_, right)) => Ok(Some((0, String::from_str(alloc, right.as_str())?))),
         Ok(Command::Fly(seed, _, packet)) => {
             Ok(Some((seed, String::from_str(alloc, packet.as_str())?)))
         }
@@ -27,13 +28,14 @@ fn command_in(alloc: Global, words: &[&str]) -> Result<Option<(u64, String)>, Fa
 
 #[test]
 fn words_that_give_a_command(rt: HostRuntime) -> Result<(), Fail> {
-    let table: [(&[&str], u64, &str); 7] = [
+    let table: [(&[&str], u64, &str); 8] = [
         (&["compile", "p"], 0, "p"),
         (&["compile", "--", "-p"], 0, "-p"),
         (&["compile", "-"], 0, "-"),
         (&["compile", ""], 0, ""),
         (&["trace", "0065535", "sw=1"], 65535, "sw=1"),
         (&["equal", "p", "q"], 0, "q"),
+        (&["check", "p", "q"], 0, "q"),
         (
             &["fly", "2147483646", "1000000", "sw=1"],
             2147483646,
@@ -51,7 +53,7 @@ fn words_that_give_a_command(rt: HostRuntime) -> Result<(), Fail> {
 
 #[test]
 fn words_that_give_no_command(rt: HostRuntime) -> Result<(), Fail> {
-    let table: [&[&str]; 16] = [
+    let table: [&[&str]; 18] = [
         &[],
         &["compile"],
         &["compile", "p", "q"],
@@ -67,6 +69,8 @@ fn words_that_give_no_command(rt: HostRuntime) -> Result<(), Fail> {
         &["trace", "", "sw=1"],
         &["equal", "p"],
         &["equal", "p", "q", "r"],
+        &["check", "p"],
+        &["check", "p", "q", "r"],
         &["fly", "1", "1"],
     ];
     for words in table {

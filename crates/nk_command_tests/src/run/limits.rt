@@ -30,7 +30,7 @@ fn chain(
 }
 
 /// The bytes, so often.
-fn repeated(alloc: Global, bytes: &[u8], times: usize) -> Result<Vec<u8>, Fail> {
+pub(super) fn repeated(alloc: Global, bytes: &[u8], times: usize) -> Result<Vec<u8>, Fail> {
     let mut text = Vec::new(alloc);
     for _ in 0..times {
         text.extend_from_slice(bytes)?;
