@@ -3,6 +3,9 @@ use Rattle.std.proofs.Common.{◌≡◌, ℕ, zero, suc, ◌+◌, ◌<◌, ◌�
 use Rattle.std.specs.Prelude.{All, map, remove, slice_get}
 use Rattle.std.specs.List.{flat_map, range_with_len}
 use Rattle.std.specs.List.Sorted.{IsPermutation}
+use Rattle.std.proofs.lemmas.List.Edits.{length-remove}
+use Rattle.std.proofs.lemmas.List.FromFn.{length-range_with_len}
+use Rattle.std.proofs.lemmas.Option.{slice_get_within}
 use Rattle.std.proofs.lemmas.List.Elements.{All-nil, All-cons, All-append, All-push, All-weaker}
 use Rattle.nk_field.proofs.Lists.{map_joined}
 use Rattle.nk_table.specs.declared.Tables.{Tables}
@@ -75,6 +78,10 @@ injected_sound t pks qks hs gs places qlaces ls pk p h f s =
             subst (λ l. All (λ i. i < length l) qlaces) (sym h)
             (subst (All (λ i. i < length (hs ++ more))) (sym f)
             (All-push (λ i. i < length (hs ++ more)) places (length hs) (wider hs more places s.there) within));
+        few =
+            let held : length qlaces ≡ length places + 1 = ap length f ∙ length-append places (length hs ∷ []) in
+            let all : length gs ≡ length hs + 1 = ap length h ∙ longer in
+            omega (arith, held, all, s.few);
         reached = event_reached (state_at t pks hs places ls) (state_at t qks gs qlaces ls) (inject pk) s.reached is;
       },
     )
@@ -116,6 +123,14 @@ stepped_sound t pks hs gs next places qlaces ls ms i p s here lt made h f m =
             (All-append (λ j. j < length (hs ++ next)) (remove places i) (range_with_len (length hs) (length next))
             (wider hs next (remove places i) kept)
             (below_end (length hs) (length next) (length (hs ++ next)) most)));
+        few =
+            let fewer = length-remove places i (slice_get_within places i p here) in
+            let held : length qlaces ≡ length (remove places i) + length next =
+            ap length f
+            ∙ length-append (remove places i) (range_with_len (length hs) (length next))
+            ∙ ap (λ n. length (remove places i) + n) (length-range_with_len (length hs) (length next)) in
+            let all : length gs ≡ length hs + length next = ap length h ∙ length-append hs next in
+            omega (arith, fewer, held, all, s.few);
         reached = event_reached (state_at t pks hs places ls) (state_at t pks gs qlaces ms) (step i) s.reached is;
       },
     )

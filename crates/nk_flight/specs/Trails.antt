@@ -1,5 +1,5 @@
 -- Copies as they are held: each by the place of its last hop, and each hop by the place of the one before it.
-use Rattle.std.specs.Prelude.{◌≡◌, ℕ, zero, suc, ◌<◌, ◌⊎◌, Option, Some, None, List, [], ◌∷◌, ◌++◌, map, length, slice_index, slice_index_or, All}
+use Rattle.std.specs.Prelude.{◌≡◌, ℕ, zero, suc, ◌<◌, ◌≤◌, ◌⊎◌, Option, Some, None, List, [], ◌∷◌, ◌++◌, map, length, slice_index, slice_index_or, All}
 use Rattle.nk_field.specs.Packet.{FieldTable, erased}
 use Rattle.nk_topo.specs.Topology.{link_from}
 use Rattle.nk_table.specs.declared.Tables.{Tables}
@@ -51,8 +51,9 @@ AreHops hs = (i : ℕ) → i < length hs → Follows hs i (hop_at hs i)
 abbrev pub state_at : Tables → List (List ℕ) → List Hop → List ℕ → List Left → FlightState
 state_at t pks hs places ls = state_of t pks (copies_at t.fields hs places) ls
 
--- hops go on from one another, each copy has one, and some events lead here from the start
+-- hops go on from one another, each copy has one, copies are no more than hops, and some events lead here from the start
 pub record IsSound (t : Tables) (pks : List (List ℕ)) (hs : List Hop) (places : List ℕ) (ls : List Left) : Type 0 where
   pub hops : AreHops hs
   pub there : All (λ i. i < length hs) places
+  pub few : length places ≤ length hs
   pub reached : IsReached (state_at t pks hs places ls)

@@ -8,6 +8,7 @@ ghost use Rattle.nk_flight.specs.Flights.{IsReached, nothing_in_flight, injected
 
 use crate::copies::{Flying, Left};
 use crate::hops::{Hop, copies_in, first_hop, handle};
+use crate::waiting::Waiting;
 use nk_field::Packet;
 use nk_sim::Finder;
 use nk_table::Tables;
@@ -22,7 +23,7 @@ pub struct Flight {
     finder: Finder,
     packets: Vec<Packet>,
     hops: Vec<Hop>,
-    flying: Vec<usize>,
+    flying: Waiting,
     left: Vec<Left>,
 }
 
@@ -33,9 +34,9 @@ impl Model for Flight {
 
     ghost Value = { FlightState };
 
-    ghost view = { λ f. state_at f.tables f.packets.items f.hops.items f.flying.items f.left.items };
+    ghost view = { λ f. state_at f.tables f.packets.items f.hops.items f.flying f.left.items };
 
-    ghost invariant = { λ f. IsSound f.tables f.packets.items f.hops.items f.flying.items f.left.items
+    ghost invariant = { λ f. IsSound f.tables f.packets.items f.hops.items f.flying f.left.items
         × Finds f.finder f.tables.tables };
 }
 
@@ -51,7 +52,7 @@ impl Flight {
             finder,
             packets: Vec::new(alloc),
             hops: Vec::new(alloc),
-            flying: Vec::new(alloc),
+            flying: Waiting::new(alloc),
             left: Vec::new(alloc),
         })
     }
@@ -70,11 +71,12 @@ impl Flight {
         ensures ok { OnOk result (self.new ≡ injected p.now self.old) }
         ensures err { OnErr result (self.new ≡ self.old) }
     {
+        let alloc = *self.packets.allocator();
         let number = self.packets.len() as u64 + 1;
-        let place = self.hops.len();
         self.packets.reserve(1)?;
         self.hops.reserve(1)?;
-        self.flying.push(place)?;
+        let places = places_from(alloc, self.hops.len(), 1)?;
+        self.flying.append(places)?;
         self.hops.push(first_hop(number, p)).unwrap();
         self.packets.push(*p).unwrap();
         Ok(number)
@@ -88,7 +90,7 @@ impl Flight {
         ensures err { OnErr result (self.new ≡ self.old) }
     {
         let alloc = *self.packets.allocator();
-        let place = self.flying[i];
+        let place = self.flying.at(i);
         let mut all = handle(
             alloc,
             &self.finder,
@@ -97,12 +99,12 @@ impl Flight {
             place,
         )?;
         self.hops.reserve(all.next.len())?;
-        let mut places = places_from(alloc, self.hops.len(), all.next.len())?;
-        self.flying.reserve(places.len())?;
-        self.left.append(&mut all.left)?;
-        let _handled = self.flying.remove(i);
+        self.left.reserve(all.left.len())?;
+        let places = places_from(alloc, self.hops.len(), all.next.len())?;
+        self.flying.append(places)?;
+        self.flying.take(i);
         self.hops.append(&mut all.next).unwrap();
-        self.flying.append(&mut places).unwrap();
+        self.left.append(&mut all.left).unwrap();
         Ok(())
     }
 
@@ -126,11 +128,12 @@ impl Flight {
         ensures { IfOk result (λ flying. flying.items ≡ self.now.flying) }
     {
         let alloc = *self.packets.allocator();
+        let places = self.flying.listed(alloc)?;
         copies_in(
             alloc,
             &self.tables.fields,
             self.hops.as_slice(),
-            self.flying.as_slice(),
+            places.as_slice(),
         )
     }
 

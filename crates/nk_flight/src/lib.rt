@@ -6,6 +6,7 @@ mod drawn;
 mod flight;
 mod hops;
 pub mod laws;
+mod waiting;
 
 pub use copies::{Flying, Left};
 pub use drawn::fly;
