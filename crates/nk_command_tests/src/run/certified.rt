@@ -263,7 +263,8 @@ fn checks(
 /// The number of the first row behind this text of which something else is found, from 0.
 fn first_wrong(alloc: Global, before: &[u8], rows: &[Row]) -> Result<Option<usize>, Fail> {
     for (number, (behind, status, answer)) in rows.iter().enumerate() {
-        let text = joined(alloc, &[before, behind])?;
+        let mut text = Vec::from_slice(alloc, before)?;
+        text.extend_from_slice(behind)?;
         if !checks(alloc, ("a", "b"), &text, *status, answer)? {
             return Ok(Some(number));
         }
@@ -319,7 +320,9 @@ fn certificates_of_other_policies(rt: HostRuntime) -> Result<(), Fail> {
 fn what_is_printed_is_valid(rt: HostRuntime) -> Result<(), Fail> {
     let alloc = rt.alloc();
     for (number, pair) in SAME.iter().enumerate() {
-        let text = joined(alloc, &[&pair_text(alloc, pair)?, b"\n", pair.3])?;
+        let mut text = pair_text(alloc, pair)?;
+        text.push(b'\n')?;
+        text.extend_from_slice(pair.3)?;
         assert!(rt;
             checks(alloc, ("l", "r"), &text, Status::Done, b"valid\n")?,
             "{number}"
