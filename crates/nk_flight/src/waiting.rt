@@ -6,7 +6,7 @@ use std::alloc::{AllocError, Global};
 use std::marker::Model;
 
 /// What comes in is put into the last block where that has fewer places than this; else it is a new block.
-const ENOUGH: usize = 512;
+const ENOUGH: usize = 2048;
 
 /// Some of the places, one behind the other. A contract sees it as their list.
 #[derive(Drop)]
