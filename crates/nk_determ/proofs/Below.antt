@@ -10,7 +10,7 @@ use Rattle.nk_determ.specs.Exact.{exact, exact_out, split_leaf}
 use Rattle.nk_determ.specs.Unchanged.{assigns, act_without, out_without, leaf_without, exact_below, out_below, split_below}
 
 -- what a test of two values says
-ltb_tells : (m n : ℕ) → ((ltb m n ≡ true) × (m < n)) ⊎ ((ltb m n ≡ false) × (n ≤ m))
+pub ltb_tells : (m n : ℕ) → ((ltb m n ≡ true) × (m < n)) ⊎ ((ltb m n ≡ false) × (n ≤ m))
 ltb_tells m n = by (ltb m n) refl
   where
     by : (b : Bool) → ltb m n ≡ b → ((ltb m n ≡ true) × (m < n)) ⊎ ((ltb m n ≡ false) × (n ≤ m))

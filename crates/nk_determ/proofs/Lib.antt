@@ -11,6 +11,7 @@ pub mod Followed
 pub mod Below
 pub mod Withouts
 pub mod Collected
+pub mod AssignedFields
 pub mod Changings
 pub mod Pieces
 pub mod Cut

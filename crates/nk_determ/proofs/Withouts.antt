@@ -12,13 +12,13 @@ use Rattle.nk_determ.proofs.Below.{gathered_alike, gathered_same}
 use Rattle.nk_algebra.proofs.Gathers.{map_ordered, every_unordered}
 
 -- a member of a list stays one before other items
-front : {X : Type 0} (xs ys : List X) (o : X) → Has xs o → Has (xs ++ ys) o
+pub front : {X : Type 0} (xs ys : List X) (o : X) → Has xs o → Has (xs ++ ys) o
 front [] ys o h = absurd h
 front (x ∷ xs) ys o (inl e) = inl e
 front (x ∷ xs) ys o (inr h) = inr (front xs ys o h)
 
 -- and behind them
-back : {X : Type 0} (xs ys : List X) (o : X) → Has ys o → Has (xs ++ ys) o
+pub back : {X : Type 0} (xs ys : List X) (o : X) → Has ys o → Has (xs ++ ys) o
 back [] ys o h = h
 back (x ∷ xs) ys o h = inr (back xs ys o h)
 

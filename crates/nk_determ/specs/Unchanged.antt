@@ -1,5 +1,5 @@
 -- Acts without the assignments to one field that don't change the packet.
-use Rattle.std.specs.Prelude.{◌≡◌, ℕ, ◌≤◌, min, Bool, true, cond, eqb, ltb, ◌&&◌, List, [], ◌∷◌, Some, slice_index}
+use Rattle.std.specs.Prelude.{◌≡◌, ℕ, ◌≤◌, map, min, Bool, true, cond, eqb, ltb, ◌&&◌, List, [], ◌∷◌, Some, slice_index}
 use Rattle.std.specs.List.{Contains, flat_map, list_any}
 use Rattle.std.specs.Map.{lookup}
 use Rattle.nk_field.specs.Act.{left_without}
@@ -51,17 +51,33 @@ act_values f act = flat_map (λ s. cond (eqb s.0 f) (s.1 ∷ []) []) act
 abbrev pub leaf_values : ℕ → List Out → List ℕ
 leaf_values f os = flat_map (λ o. act_values f o.act) os
 
+-- the fields that the act assigns
+abbrev pub act_fields : List (ℕ × ℕ) → List ℕ
+act_fields act = map (λ s. s.0) act
+
+-- the fields that the acts of a leaf assign
+abbrev pub leaf_fields : List Out → List ℕ
+leaf_fields os = flat_map (λ o. act_fields o.act) os
+
 -- each item of the first list is one of the second
 abbrev pub AreAmong : List ℕ → List ℕ → Type 0
 AreAmong xs ys = (v : ℕ) → Contains xs v → Contains ys v
 
--- what the acts of the diagram assign to the field f is among the values
-abbrev pub HasValues : ℕ → List ℕ → Held → ℕ → Type 0
-HasValues f vs st d = (pk : List ℕ) → AreAmong (leaf_values f (look st d pk)) vs
+-- what each leaf of the diagram has is among the items
+abbrev pub HasItems : (List Out → List ℕ) → List ℕ → Held → ℕ → Type 0
+HasItems F xs st d = (pk : List ℕ) → AreAmong (F (look st d pk)) xs
 
 -- that is so of each of these diagrams
-abbrev pub AllHaveValues : ℕ → List ℕ → Held → List ℕ → Type 0
-AllHaveValues f vs st ds = (d : ℕ) → list_any (eqb d) ds ≡ true → HasValues f vs st d
+abbrev pub AllHaveItems : (List Out → List ℕ) → List ℕ → Held → List ℕ → Type 0
+AllHaveItems F xs st ds = (d : ℕ) → list_any (eqb d) ds ≡ true → HasItems F xs st d
+
+-- what the acts of the diagram assign to the field f is among the values
+abbrev pub HasValues : ℕ → List ℕ → Held → ℕ → Type 0
+HasValues f vs st d = HasItems (leaf_values f) vs st d
+
+-- the fields that acts of the diagram assign are among these
+abbrev pub AssignsAmong : List ℕ → Held → ℕ → Type 0
+AssignsAmong fs st d = HasItems leaf_fields fs st d
 
 -- r has the leaves of d with their acts without the assignments to f that don't change the packet; it tests no field
 -- before f and those of d

@@ -1,72 +1,126 @@
-//! The values that the acts of a diagram assign to a field.
-ghost use Rattle.std.specs.Prelude.{◌≡◌, ℕ, ◌<◌, ◌≤◌, ◌++◌, true, false, IfOk, OnOk, length, slice_index_or};
-ghost use Rattle.std.specs.List.{Contains};
+//! What the acts of a diagram assign: to which fields, and which values to one of them.
+ghost use Rattle.std.specs.Prelude.{◌≡◌, ℕ, ◌<◌, ◌≤◌, ◌++◌, eqb, true, false, List as Items, IfOk, OnOk, length, slice_index_or};
+ghost use Rattle.std.specs.List.{Contains, list_any};
 ghost use Rattle.std.specs.List.Sorted.{IsNonDecreasing};
+ghost use Rattle.nk_store.specs.declared.node.Out.{Out};
 ghost use Rattle.nk_store.specs.Held.{IsId};
-ghost use Rattle.nk_determ.specs.Unchanged.{act_values, leaf_values, AreAmong, HasValues, AllHaveValues};
+ghost use Rattle.nk_determ.specs.Unchanged.{act_values, leaf_values, act_fields, leaf_fields, AreAmong, HasItems, AllHaveItems, HasValues, AssignsAmong};
 
 use nk_field::{Fid, List};
 use nk_store::{Id, Node, Out, Store};
 use std::alloc::AllocError;
 use std::collections::HashSet;
 
-/// The values that acts of a diagram assign to a field, ascending. Each node is visited once.
+/// What is collected of each leaf of a diagram.
+trait Collector {
+    ghost items: { Self → Items Out → Items ℕ };
+
+    /// Appends the items of a leaf, or those that are not there yet.
+    fn add(&self, found: &mut List<u64>, outs: &[Out]) -> Result<(), AllocError>
+        ensures more { AreAmong found.old found.new }
+        ensures ok { OnOk result (AreAmong (items self.now outs.now) found.new) };
+}
+
+/// The values that acts assign to a field.
+#[derive(Drop)]
+struct ValuesOf {
+    field: Fid,
+}
+
+impl Collector for ValuesOf {
+    ghost items = { λ s os. leaf_values s.field os };
+
+    fn add(&self, found: &mut List<u64>, outs: &[Out]) -> Result<(), AllocError> {
+        add_values(self.field, found, outs)
+    }
+}
+
+/// The places of the fields that acts assign, each once.
+#[derive(Drop)]
+struct FieldsOf {}
+
+impl Collector for FieldsOf {
+    ghost items = { λ _ os. leaf_fields os };
+
+    fn add(&self, found: &mut List<u64>, outs: &[Out]) -> Result<(), AllocError> {
+        add_fields(found, outs)
+    }
+}
+
+/// The values that acts of a diagram assign to a field, ascending.
 pub(crate) fn assigned(st: &Store, f: Fid, d: Id) -> Result<Vec<u64>, AllocError>
     requires { IsId st.now d }
     ensures has { IfOk result (λ vs. HasValues f vs.items st.now d) }
     ensures sorted { IfOk result (λ vs. IsNonDecreasing vs.items) }
 {
-    let mut seen = HashSet::new(st.alloc());
-    let mut found = List::new(st.alloc());
-    collect(st, f, &mut seen, &mut found, d)?;
+    let found = collect_all(st, &ValuesOf { field: f }, d)?;
     let mut values = found.into_vec();
     values.sort_unstable();
     Ok(values)
 }
 
-/// Appends the values that acts of a diagram assign to a field, unless that was done before.
+/// The places of the fields that acts of a diagram assign, each once.
+pub(crate) fn assigned_fields(st: &Store, d: Id) -> Result<List<u64>, AllocError>
+    requires { IsId st.now d }
+    ensures { IfOk result (λ fs. AssignsAmong fs st.now d) }
+{
+    collect_all(st, &FieldsOf {}, d)
+}
+
+/// What is collected of all leaves of a diagram. Each node is visited once.
+fn collect_all<C: Collector>(st: &Store, c: &C, d: Id) -> Result<List<u64>, AllocError>
+    requires { IsId st.now d }
+    ensures { IfOk result (λ xs. HasItems (C.items c.now) xs st.now d) }
+{
+    let mut seen = HashSet::new(st.alloc());
+    let mut found = List::new(st.alloc());
+    collect(st, c, &mut seen, &mut found, d)?;
+    Ok(found)
+}
+
+/// Collects of the leaves of a diagram, unless that was done before.
 #[cycle(collect)]
-fn collect(
+fn collect<C: Collector>(
     st: &Store,
-    f: Fid,
+    c: &C,
     seen: &mut HashSet<Id>,
     found: &mut List<u64>,
     d: Id,
 ) -> Result<(), AllocError>
     requires id { IsId st.now d }
-    requires seen { AllHaveValues f found.old st.now seen.old.keys }
+    requires seen { AllHaveItems (C.items c.now) found.old st.now seen.old.keys }
     ensures more { AreAmong found.old found.new }
-    ensures ok { OnOk result (HasValues f found.new st.now d) }
-    ensures seen { OnOk result (AllHaveValues f found.new st.now seen.new.keys) }
+    ensures ok { OnOk result (HasItems (C.items c.now) found.new st.now d) }
+    ensures seen { OnOk result (AllHaveItems (C.items c.now) found.new st.now seen.new.keys) }
 {
     if seen.contains(&d) {
         return Ok(());
     }
-    collect_new(st, f, seen, found, d)?;
+    collect_new(st, c, seen, found, d)?;
     seen.insert(d)?;
     Ok(())
 }
 
-/// Appends the values that acts of a diagram assign to a field.
+/// Collects of the leaves of a diagram.
 #[cycle(collect)]
-fn collect_new(
+fn collect_new<C: Collector>(
     st: &Store,
-    f: Fid,
+    c: &C,
     seen: &mut HashSet<Id>,
     found: &mut List<u64>,
     d: Id,
 ) -> Result<(), AllocError>
     requires id { IsId st.now d }
-    requires seen { AllHaveValues f found.old st.now seen.old.keys }
+    requires seen { AllHaveItems (C.items c.now) found.old st.now seen.old.keys }
     ensures more { AreAmong found.old found.new }
-    ensures ok { OnOk result (HasValues f found.new st.now d) }
-    ensures seen { OnOk result (AllHaveValues f found.new st.now seen.new.keys) }
+    ensures ok { OnOk result (HasItems (C.items c.now) found.new st.now d) }
+    ensures seen { OnOk result (AllHaveItems (C.items c.now) found.new st.now seen.new.keys) }
 {
     match st.view(d) {
-        Node::Leaf(outs) => collect_leaf(f, found, outs.as_slice()),
+        Node::Leaf(outs) => c.add(found, outs.as_slice()),
         Node::Case(_, parts) => {
             for part in parts.as_slice() {
-                collect(st, f, seen, found, part.1)?;
+                collect(st, c, seen, found, part.1)?;
             }
             Ok(())
         }
@@ -74,18 +128,18 @@ fn collect_new(
 }
 
 /// Appends what the acts of a leaf assign to a field.
-fn collect_leaf(f: Fid, found: &mut List<u64>, outs: &[Out]) -> Result<(), AllocError>
+fn add_values(f: Fid, found: &mut List<u64>, outs: &[Out]) -> Result<(), AllocError>
     ensures more { AreAmong found.old found.new }
     ensures ok { OnOk result (found.new ≡ found.old ++ leaf_values f outs.now) }
 {
     for o in outs {
-        collect_act(f, found, o.act.as_slice())?;
+        add_values_of(f, found, o.act.as_slice())?;
     }
     Ok(())
 }
 
 /// Appends what an act assigns to a field.
-fn collect_act(f: Fid, found: &mut List<u64>, sets: &[(Fid, u64)]) -> Result<(), AllocError>
+fn add_values_of(f: Fid, found: &mut List<u64>, sets: &[(Fid, u64)]) -> Result<(), AllocError>
     ensures more { AreAmong found.old found.new }
     ensures ok { OnOk result (found.new ≡ found.old ++ act_values f sets.now) }
 {
@@ -95,6 +149,46 @@ fn collect_act(f: Fid, found: &mut List<u64>, sets: &[(Fid, u64)]) -> Result<(),
         }
     }
     Ok(())
+}
+
+/// Appends the places of the fields that the acts of a leaf assign, where they are not there yet.
+fn add_fields(found: &mut List<u64>, outs: &[Out]) -> Result<(), AllocError>
+    ensures more { AreAmong found.old found.new }
+    ensures ok { OnOk result (AreAmong (leaf_fields outs.now) found.new) }
+{
+    for o in outs {
+        add_fields_of(found, o.act.as_slice())?;
+    }
+    Ok(())
+}
+
+/// Appends the places of the fields that an act assigns, where they are not there yet.
+fn add_fields_of(found: &mut List<u64>, sets: &[(Fid, u64)]) -> Result<(), AllocError>
+    ensures more { AreAmong found.old found.new }
+    ensures ok { OnOk result (AreAmong (act_fields sets.now) found.new) }
+{
+    for s in sets {
+        add_once(found, s.0.place() as u64)?;
+    }
+    Ok(())
+}
+
+/// Appends a number, where it is not there yet.
+fn add_once(found: &mut List<u64>, n: u64) -> Result<(), AllocError>
+    ensures more { AreAmong found.old found.new }
+    ensures ok { OnOk result (Contains found.new n) }
+{
+    if is_among(found, n) {
+        return Ok(());
+    }
+    found.push(n)
+}
+
+/// Whether a number is one of these.
+pub(crate) fn is_among(all: &List<u64>, n: u64) -> bool
+    ensures { result ≡ list_any (λ m. eqb m n) all.now }
+{
+    all.as_slice().iter().any(|m| *m == n)
 }
 
 /// Up to which value, from one on and at most the last, all are alike: the value alone where it is one of these, which

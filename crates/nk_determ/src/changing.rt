@@ -1,10 +1,11 @@
 //! Diagrams without the assignments to one field that don't change the packet.
 ghost use Rattle.std.specs.Prelude.{◌≡◌, ℕ, ◌<◌, ◌≤◌, map, min, cond, eqb, IfOk, OnOk, MatchOption, List as Items, slice_index};
+ghost use Rattle.std.specs.List.Sorted.{IsNonDecreasing};
 ghost use Rattle.std.specs.Map.{lookup};
 ghost use Rattle.nk_store.specs.Nodes.{child_at};
 ghost use Rattle.nk_store.specs.Held.{IsId, IsWhole, look, top, Grows, HasLeaves, AreParts};
 ghost use Rattle.nk_algebra.specs.Subs.{sub, IsSplit};
-ghost use Rattle.nk_determ.specs.Unchanged.{assigns, act_without, out_without, leaf_without, leaf_changing, AreChanging};
+ghost use Rattle.nk_determ.specs.Unchanged.{assigns, act_without, out_without, leaf_without, leaf_changing, HasValues, AreChanging};
 
 use crate::assigned::{assigned, next_cut};
 use nk_algebra::{LeafMap, map_leaves, part_near};
@@ -68,11 +69,6 @@ pub(crate) fn drop_unchanged(st: &mut Store, f: Fid, d: Id) -> Result<Id, AllocE
     ensures grows { Grows st.old st.new }
     ensures ok { IfOk result (λ r. HasLeaves st.new r (λ pk. leaf_changing st.old.maxes f pk (look st.old d pk))) }
 {
-    st.laws();
-    let values = assigned(st, f, d)?;
-    if values.is_empty() {
-        return Ok(d);
-    }
     let mut seen = HashMap::new(st.alloc());
     drop_once(st, &mut seen, f, d)
 }
@@ -180,29 +176,34 @@ fn drop_here(st: &mut Store, f: Fid, d: Id) -> Result<Id, AllocError>
     ensures later { IfOk result (λ r. f ≤ top st.new r) }
 {
     st.laws();
-    let pieces = pieces_of(st, f, d)?;
+    let values = assigned(st, f, d)?;
+    if values.is_empty() {
+        return Ok(d);
+    }
+    let pieces = pieces_of(st, f, values.as_slice(), d)?;
     st.case(f, pieces)
 }
 
-/// The parts of the diagram without those assignments, by the field itself: at each value without the assignments of that
-/// value.
-fn pieces_of(st: &mut Store, f: Fid, d: Id) -> Result<List<(u64, Id)>, AllocError>
+/// The parts of the diagram without those assignments, by the field itself: at each of the values that acts assign to it
+/// without the assignments of that value.
+fn pieces_of(st: &mut Store, f: Fid, values: &[u64], d: Id) -> Result<List<(u64, Id)>, AllocError>
     requires id { IsId st.old d }
     requires field { f < 18 }
     requires first { f ≤ top st.old d }
+    requires has { HasValues f values.now st.old d }
+    requires sorted { IsNonDecreasing values.now }
     ensures grows { Grows st.old st.new }
     ensures parts { IfOk result (λ ps. AreParts st.new f ps) }
     ensures ok { IfOk result (λ ps. (v : ℕ) (pk : Items ℕ) → IsWhole pk → look st.new (child_at 0 ps v) pk ≡ leaf_without f (min v (slice_index st.old.maxes f)) (look st.old (sub st.old f v d) pk)) }
 {
     st.laws();
-    let values = assigned(st, f, d)?;
     let max = st.max(f);
     let mut pieces = List::new(st.alloc());
     let mut near = 0;
     let mut from = 0;
     loop {
         let (last, child) = part_near(st, d, f, from, &mut near);
-        let (end, alone) = next_cut(values.as_slice(), from, last);
+        let (end, alone) = next_cut(values, from, last);
         let made = piece(st, f, from, alone, child)?;
         pieces.push((end, made))?;
         if end == max {

@@ -1,10 +1,13 @@
 //! Diagrams whose acts assign exactly the fields that they change.
-ghost use Rattle.std.specs.Prelude.{◌≡◌, ℕ, ◌↔◌, List as Items, IfOk, true};
+ghost use Rattle.std.specs.Prelude.{◌≡◌, ℕ, ◌<◌, ◌↔◌, cond, eqb, List as Items, IfOk, true};
+ghost use Rattle.std.specs.List.{list_any};
 ghost use Rattle.nk_store.specs.Held.{IsId, IsPacket, look, Grows, HasLeaves};
+ghost use Rattle.nk_determ.specs.Unchanged.{leaf_changing};
 ghost use Rattle.nk_determ.specs.Exact.{split_leaf, AreExact, Sends};
 
+use crate::assigned::{assigned_fields, is_among};
 use crate::changing::drop_unchanged;
-use nk_field::Fid;
+use nk_field::{Fid, List};
 use nk_store::{Id, Operation, Store};
 use std::alloc::AllocError;
 
@@ -34,18 +37,32 @@ fn divide(st: &mut Store, d: Id) -> Result<Id, AllocError>
     Ok(r)
 }
 
-/// The split diagram, made field by field.
+/// The split diagram, made field by field. Only the fields that some act assigns take a walk over it.
 fn divide_fields(st: &mut Store, d: Id) -> Result<Id, AllocError>
     requires { IsId st.old d }
     ensures grows { Grows st.old st.new }
     ensures ok { IfOk result (λ r. HasLeaves st.new r (λ pk. split_leaf st.old.maxes pk (look st.old d pk))) }
 {
     st.laws();
+    let fields = assigned_fields(st, d)?;
     let mut r = d;
     for place in 0..18 {
-        r = drop_unchanged(st, Fid::new(place), r)?;
+        r = drop_among(st, &fields, Fid::new(place), r)?;
     }
     Ok(r)
+}
+
+/// The diagram without the assignments to a field that don't change the packet, where the field's place is among these.
+fn drop_among(st: &mut Store, fields: &List<u64>, f: Fid, d: Id) -> Result<Id, AllocError>
+    requires id { IsId st.old d }
+    requires field { f < 18 }
+    ensures grows { Grows st.old st.new }
+    ensures ok { IfOk result (λ r. HasLeaves st.new r (λ pk. cond (list_any (λ m. eqb m f) fields.now) (leaf_changing st.old.maxes f pk (look st.old d pk)) (look st.old d pk))) }
+{
+    if is_among(fields, f.place() as u64) {
+        return drop_unchanged(st, f, d);
+    }
+    Ok(d)
 }
 
 /// Tells whether two diagrams whose acts are exact mean the same: their numbers are equal exactly then.

@@ -1,16 +1,16 @@
 use Rattle.std.proofs.Common.{ℕ, ◌+◌, ◌*◌, ◌<◌, get_or}
-use Rattle.nk_determ.specs.Unchanged.{AreAmong, HasValues, AllHaveValues}
+use Rattle.nk_determ.specs.Unchanged.{AreAmong, HasItems, AllHaveItems}
 use Rattle.nk_determ.proofs.assigned.+collect.Given as goal
 
 abbrev pub decreases-collect : goal.decreases-collect
-decreases-collect l = 2 * l.d + 1
+decreases-collect g l = 2 * l.d + 1
 
 abbrev pub decreases-collect_new : goal.decreases-collect_new
-decreases-collect_new l = 2 * l.d
+decreases-collect_new g l = 2 * l.d
 
 abbrev pub invariant-collect_new-loop-part : goal.invariant-collect_new-loop-part
-invariant-collect_new-loop-part l = record {
+invariant-collect_new-loop-part g l = record {
   more : AreAmong l.fn.found l.found;
-  seen : AllHaveValues l.f l.found l.st l.seen.keys;
-  done : (k : ℕ) → k < l.part-index → HasValues l.f l.found l.st (get_or l.part-items k (0, 0)).1;
+  seen : AllHaveItems (g.C.Collector.items l.c) l.found l.st l.seen.keys;
+  done : (k : ℕ) → k < l.part-index → HasItems (g.C.Collector.items l.c) l.found l.st (get_or l.part-items k (0, 0)).1;
 }

@@ -1,8 +1,9 @@
-use Rattle.std.proofs.Common.{subst, arith}
+use Rattle.std.proofs.Common.{cond, eqb, subst, arith}
+use Rattle.std.specs.List.{list_any}
 use Rattle.nk_store.specs.Held.{look, HasLeaves}
 use Rattle.nk_store.proofs.Stores.{grows_on, grows_same}
 use Rattle.nk_determ.specs.Unchanged.{leaf_changing, split_below}
-use Rattle.nk_determ.proofs.Fields.{fields_start, fields_step, fields_all}
+use Rattle.nk_determ.proofs.Fields.{fields_start, field_next, fields_all}
 use Rattle.nk_determ.proofs.splits.divide_fields.Goals as goal
 
 pub loop-place-init : goal.loop-place-init
@@ -13,9 +14,9 @@ loop-place-init c = record {
 
 pub loop-place-preserved : goal.loop-place-preserved
 loop-place-preserved c = record {
-  grows = grows_on _ _ _ c.loop-place.invariant.grows c.drop_unchanged.ensures.grows;
-  split = fields_step c.args.st.now c.loop-place.st c.drop_unchanged.new.st c.loop-place.place c.args.d c.loop-place.r c.in_ok-r.r c.loop-place.invariant.grows c.laws.ensures.tidy c.loop-place.invariant.split
-      (subst (λ k. HasLeaves c.drop_unchanged.new.st c.in_ok-r.r (λ pk. leaf_changing c.loop-place.st.maxes k pk (look c.loop-place.st c.loop-place.r pk))) c.new.ensures c.in_ok-r.ensures.ok);
+  grows = grows_on _ _ _ c.loop-place.invariant.grows c.drop_among.ensures.grows;
+  split = field_next c.args.st.now c.loop-place.st c.drop_among.new.st c.loop-place.place c.args.d c.loop-place.r c.in_ok-r.r c.in_ok-fields.fields c.loop-place.invariant.grows c.laws.ensures.tidy c.in_ok-fields.ensures c.loop-place.invariant.split
+      (subst (λ k. HasLeaves c.drop_among.new.st c.in_ok-r.r (λ pk. cond (list_any (λ m. eqb m k) c.in_ok-fields.fields) (leaf_changing c.loop-place.st.maxes k pk (look c.loop-place.st c.loop-place.r pk)) (look c.loop-place.st c.loop-place.r pk))) c.new.ensures c.in_ok-r.ensures.ok);
 }
 
 pub returns-clause-ok : goal.returns-clause-ok
