@@ -1,0 +1,37 @@
+//! Whether a history breaks a query.
+ghost use Rattle.std.specs.Prelude.{◌≡◌};
+ghost use Rattle.nk_policy.specs.After.{drop_policy};
+ghost use Rattle.nk_policy.specs.Tree.{tree_of};
+ghost use Rattle.nk_query.specs.Answers.{asked_of, IsAsked};
+
+use crate::error::QueryError;
+use crate::naming::question;
+use crate::shape::{Answer, Query};
+use nk_bisim::{Compared, compare_policies};
+use nk_names::Program;
+use nk_policy::{Pol, Pols};
+use std::alloc::Global;
+
+/// Whether a history of a policy from a packet in range, located or not, breaks a query: where none does, with the printed
+/// certificate that the question and `drop` give the same histories, else with the least history that breaks it (fewer records
+/// first, then the lesser start, then the records in turn, then the last packet). A waypoint is passed where a history has it as
+/// its start packet, among its records or as its last packet (Anderson et al., POPL 2014).
+/// It is refused as `question` refuses; the only other error is that memory ran out.
+pub fn ask(alloc: Global, program: &Program, query: &Query) -> Result<Answer, QueryError>
+    ensures { IsAsked program.now (asked_of query.now) result }
+{
+    let q = question(alloc, program, query)?;
+    let nothing = dropping(alloc);
+    match compare_policies(alloc, &program.fields, &q, &nothing)? {
+        Compared::Related(certificate) => Ok(Answer::Holds(certificate)),
+        Compared::Broken(found) => Ok(Answer::Breaks(found)),
+    }
+}
+
+/// The policy that drops each packet.
+#[tactic(auto, using(nk_policy::proofs::Trees::tree_of_sum))]
+pub(crate) fn dropping(alloc: Global) -> Pol
+    ensures { tree_of result ≡ drop_policy }
+{
+    Pol::Sum(Pols::new(Vec::new(alloc)))
+}

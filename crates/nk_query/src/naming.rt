@@ -1,0 +1,83 @@
+//! The question of a query about a program's policies.
+ghost use Rattle.std.specs.Prelude.{IfOk};
+ghost use Rattle.nk_policy.specs.Tree.{tree_of};
+ghost use Rattle.nk_query.specs.Asked.{apart as asks_apart, waypoint as asks_waypoint};
+ghost use Rattle.nk_query.specs.Answers.{asked_of, IsQuestion, IsFitFor};
+
+use crate::building::{apart, waypoint};
+use crate::error::QueryError;
+use crate::shape::Query;
+use nk_names::Program;
+use nk_policy::Pol;
+use std::alloc::Global;
+
+/// The question of a query: the policy whose histories are exactly those that break the query, its dups numbered from 1 in text
+/// order. For `apart` it is the sequence of `from`, the policy and `target`; for `waypoint` that of `from`, the complement of
+/// `middle`, the policy with each link literal written out and the complement before each dup, the complement once more, and
+/// `target` (reachability and waypoints by one policy: Anderson et al., POPL 2014). It may be more than 256 deep.
+/// A name that is no policy's is refused, then a policy that has to be a predicate and is none, then a question with more than
+/// 1,048,576 elements; the only other error is that memory ran out.
+pub fn question(alloc: Global, program: &Program, query: &Query) -> Result<Pol, QueryError>
+    ensures is { IsQuestion program.now (asked_of query.now) result }
+    ensures fit { IfOk result (λ q. IsFitFor program.now.fields (tree_of q)) }
+{
+    match query {
+        Query::Apart { name, from, target } => named_apart(alloc, program, name, from, target),
+        Query::Waypoint {
+            name,
+            from,
+            middle,
+            target,
+        } => named_waypoint(alloc, program, name, from, middle, target),
+    }
+}
+
+/// The question of `apart` for policies of these names.
+fn named_apart(
+    alloc: Global,
+    program: &Program,
+    name: &str,
+    from: &str,
+    target: &str,
+) -> Result<Pol, QueryError>
+    ensures is { IsQuestion program.now (asks_apart name.now from.now target.now) result }
+    ensures fit { IfOk result (λ q. IsFitFor program.now.fields (tree_of q)) }
+{
+    let Some(p) = program.find(name) else {
+        return Err(QueryError::NoPolicy);
+    };
+    let Some(a) = program.find(from) else {
+        return Err(QueryError::NoPolicy);
+    };
+    let Some(b) = program.find(target) else {
+        return Err(QueryError::NoPolicy);
+    };
+    apart(alloc, p, a, b)
+}
+
+/// The question of `waypoint` for policies of these names.
+fn named_waypoint(
+    alloc: Global,
+    program: &Program,
+    name: &str,
+    from: &str,
+    middle: &str,
+    target: &str,
+) -> Result<Pol, QueryError>
+    ensures is { IsQuestion program.now (asks_waypoint name.now from.now middle.now target.now) result }
+    ensures fit { IfOk result (λ q. IsFitFor program.now.fields (tree_of q)) }
+{
+    let Some(p) = program.find(name) else {
+        return Err(QueryError::NoPolicy);
+    };
+    let Some(a) = program.find(from) else {
+        return Err(QueryError::NoPolicy);
+    };
+    let Some(m) = program.find(middle) else {
+        return Err(QueryError::NoPolicy);
+    };
+    let Some(b) = program.find(target) else {
+        return Err(QueryError::NoPolicy);
+    };
+    waypoint(alloc, p, a, m, b)
+}
