@@ -1,16 +1,18 @@
 //! Whether a history breaks a query.
-ghost use Rattle.std.specs.Prelude.{◌≡◌};
+ghost use Rattle.std.specs.Prelude.{◌≡◌, true, IfOk};
 ghost use Rattle.nk_policy.specs.After.{drop_policy};
 ghost use Rattle.nk_policy.specs.Tree.{tree_of};
-ghost use Rattle.nk_query.specs.Answers.{asked_of, IsAsked};
+ghost use Rattle.nk_query.specs.Asked.{Question, are_predicates};
+ghost use Rattle.nk_query.specs.Answers.{asked_of, asked_policy, IsFitFor, IsAnswer, IsAsked};
 
 use crate::error::QueryError;
 use crate::naming::question;
 use crate::shape::{Answer, Query};
 use nk_bisim::{Compared, compare_policies};
+use nk_field::Fields;
 use nk_names::Program;
 use nk_policy::{Pol, Pols};
-use std::alloc::Global;
+use std::alloc::{AllocError, Global};
 
 /// Whether a history of a policy from a packet in range, located or not, breaks a query: where none does, with the printed
 /// certificate that the question and `drop` give the same histories, else with the least history that breaks it (fewer records
@@ -20,9 +22,19 @@ use std::alloc::Global;
 pub fn ask(alloc: Global, program: &Program, query: &Query) -> Result<Answer, QueryError>
     ensures { IsAsked program.now (asked_of query.now) result }
 {
-    let q = question(alloc, program, query)?;
+    match question(alloc, program, query) {
+        Ok(q) => Ok(answer_of(alloc, &program.fields, &q)?),
+        Err(e) => Err(e),
+    }
+}
+
+/// Whether a question has a history.
+fn answer_of(alloc: Global, fields: &Fields, q: &Pol) -> Result<Answer, AllocError>
+    requires { IsFitFor fields.now (tree_of q.now) }
+    ensures { IfOk result (λ a. (x : Question) → are_predicates x ≡ true → tree_of q.now ≡ asked_policy x → IsAnswer fields.now x a) }
+{
     let nothing = dropping(alloc);
-    match compare_policies(alloc, &program.fields, &q, &nothing)? {
+    match compare_policies(alloc, fields, q, &nothing)? {
         Compared::Related(certificate) => Ok(Answer::Holds(certificate)),
         Compared::Broken(found) => Ok(Answer::Breaks(found)),
     }

@@ -1,15 +1,20 @@
 //! What is found of a certificate that no history breaks a query.
+ghost use Rattle.std.specs.Prelude.{◌≡◌, true, IfOk};
+ghost use Rattle.nk_policy.specs.Tree.{tree_of};
 ghost use Rattle.nk_cert.specs.Verdicts.{HasPredicates};
-ghost use Rattle.nk_cert.specs.Values.{certificate_value};
-ghost use Rattle.nk_query.specs.Answers.{asked_of, IsQueryChecked};
+ghost use Rattle.nk_cert.specs.Values.{certificate_value, finding_of};
+ghost use Rattle.nk_query.specs.Asked.{Question, are_predicates};
+ghost use Rattle.nk_query.specs.Answers.{asked_of, asked_policy, IsFitFor, IsJudgedFor, IsQueryChecked};
 
 use crate::asking::dropping;
 use crate::error::QueryError;
 use crate::naming::question;
 use crate::shape::Query;
 use nk_cert::{Certificate, Verdict, check_policies};
+use nk_field::Fields;
 use nk_names::Program;
-use std::alloc::Global;
+use nk_policy::Pol;
+use std::alloc::{AllocError, Global};
 
 /// What is found of a certificate that the question of a query and `drop` give the same histories, whoever made it: that each row
 /// meets its four parts, so that no history breaks the query, or the first row that fails and the first part in which it does.
@@ -23,8 +28,24 @@ pub fn check_query(
     requires { HasPredicates (certificate_value certificate.now) }
     ensures { IsQueryChecked program.now (asked_of query.now) (certificate_value certificate.now) result }
 {
-    let q = question(alloc, program, query)?;
+    match question(alloc, program, query) {
+        Ok(q) => Ok(verdict_of(alloc, &program.fields, &q, certificate)?),
+        Err(e) => Err(e),
+    }
+}
+
+/// What is found of a certificate that a question has no history.
+fn verdict_of(
+    alloc: Global,
+    fields: &Fields,
+    q: &Pol,
+    certificate: &Certificate,
+) -> Result<Verdict, AllocError>
+    requires fit { IsFitFor fields.now (tree_of q.now) }
+    requires predicates { HasPredicates (certificate_value certificate.now) }
+    ensures { IfOk result (λ v. (x : Question) → are_predicates x ≡ true → tree_of q.now ≡ asked_policy x
+        → IsJudgedFor fields.now x (certificate_value certificate.now) (finding_of v)) }
+{
     let nothing = dropping(alloc);
-    let verdict = check_policies(alloc, &program.fields, &q, &nothing, certificate)?;
-    Ok(verdict)
+    check_policies(alloc, fields, q, &nothing, certificate)
 }

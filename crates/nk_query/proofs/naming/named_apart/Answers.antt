@@ -1,0 +1,21 @@
+use Rattle.std.proofs.Common.{sym}
+use Rattle.nk_policy.specs.Tree.{tree_of}
+use Rattle.nk_query.specs.Asked.{apart_of}
+use Rattle.nk_query.specs.Asked.{apart as asks_apart}
+use Rattle.nk_query.proofs.Named.{named_made, made_fit}
+use Rattle.nk_query.proofs.naming.named_apart.Goals as goal
+
+pub returns-clause-is : goal.returns-clause-is
+returns-clause-is c =
+    named_made c.args.program.now (asks_apart c.args.name.now c.args.from.now c.args.target.now)
+    (apart_of (tree_of c.in-Some.p.now) (tree_of c.in-Some-find.a.now) (tree_of c.in-Some-find-2.b.now))
+    (sym c.in-Some.ensures.found, sym c.in-Some-find.ensures.found, sym c.in-Some-find-2.ensures.found)
+    c.apart.result c.apart.ensures
+
+pub returns-clause-fit : goal.returns-clause-fit
+returns-clause-fit c =
+    made_fit c.args.program.now (asks_apart c.args.name.now c.args.from.now c.args.target.now)
+    (apart_of (tree_of c.in-Some.p.now) (tree_of c.in-Some-find.a.now) (tree_of c.in-Some-find-2.b.now))
+    c.find.ensures.is
+    (sym c.in-Some.ensures.found, sym c.in-Some-find.ensures.found, sym c.in-Some-find-2.ensures.found)
+    c.apart.result c.apart.ensures
