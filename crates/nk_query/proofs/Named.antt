@@ -2,7 +2,7 @@
 use Rattle.std.proofs.Common.{◌≡◌, ◌&&◌, ℕ, ◌-◌, ◌^◌, ◌≤◌, true, List, Some, Ok, Err, sym, subst, arith}
 use Rattle.std.specs.Prelude.{Result, IfOk}
 use Rattle.nk_field.specs.Packet.{FieldTable}
-use Rattle.nk_policy.specs.Policy.{Policy, is_predicate, size_of, dups_of, marked_from, MarksBelow}
+use Rattle.nk_policy.specs.Policy.{Policy, is_predicate, size_of, marked_from, MarksBelow}
 use Rattle.nk_policy.specs.Ranges.{IsOver}
 use Rattle.nk_policy.specs.Tree.{tree_of}
 use Rattle.nk_policy.specs.declared.policy.Pol.{Pol}
@@ -15,7 +15,7 @@ use Rattle.nk_names.specs.ProgramValue.{IsProgram, IsLet}
 use Rattle.nk_names.proofs.Good.{few_dups, dups_marked, marked_again, over_marked, negates_marked}
 use Rattle.nk_cert.proofs.Named.{let_named}
 use Rattle.nk_query.specs.Asked.{Asked, apart, waypoint, Question, apart_of, waypoint_of, NamesQuestion, are_predicates, question_policy}
-use Rattle.nk_query.specs.Answers.{CanBeAsked, IsNamedQuestion, asked_policy, IsHindrance, IsMade, IsQuestion, IsFitFor}
+use Rattle.nk_query.specs.Answers.{CanBeAsked, asked_policy, IsMade, IsQuestion, IsFitFor}
 use Rattle.nk_query.specs.declared.error.QueryError.{QueryError}
 use Rattle.nk_query.specs.declared.error.QueryError.TheVariants.{NoMemory, NoPolicy, NotAPredicate, TooLarge}
 use Rattle.nk_query.proofs.Staying.{avoiding_uses, avoiding_negates}

@@ -1,5 +1,5 @@
 -- What is answered to a query: the question, whether a history breaks it, and what is found of a certificate that none does.
-use Rattle.std.specs.Prelude.{◌≡◌, ◌+◌, ◌<◌, ◌≤◌, ◌^◌, true, false, List, ⊤, Result, Ok, Err}
+use Rattle.std.specs.Prelude.{◌≡◌, ◌+◌, ◌<◌, ◌≤◌, ◌^◌, true, false, ⊤, Result, Ok, Err}
 use Rattle.nk_field.specs.Packet.{FieldTable}
 use Rattle.nk_policy.specs.Policy.{Policy, size_of, dups_of, marked_from}
 use Rattle.nk_policy.specs.Ranges.{IsOver}
@@ -10,7 +10,7 @@ use Rattle.nk_names.specs.Complements.{NegatesPredicates}
 use Rattle.nk_names.specs.declared.Program.{Program}
 use Rattle.nk_witness.specs.Finds.{found_of}
 use Rattle.nk_cert.specs.Certificates.{CertificateValue}
-use Rattle.nk_cert.specs.Verdicts.{Finding, valid, invalid, IsFinding}
+use Rattle.nk_cert.specs.Verdicts.{Finding, valid, IsFinding}
 use Rattle.nk_cert.specs.Values.{certificate_value, finding_of}
 use Rattle.nk_cert.specs.declared.shape.Verdict.{Verdict}
 use Rattle.nk_bisim.specs.Answers.{IsRelated}

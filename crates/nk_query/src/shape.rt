@@ -2,8 +2,8 @@
 use nk_cert::Certificate;
 use nk_witness::Found;
 
-/// A query of a program's policies: which histories a policy may not have. Policies are told by their names, in the order of
-/// the command; all but the first are to be predicates.
+/// A query of a program's policies: which histories a policy may not have (reachability and waypoints: Anderson et al., POPL
+/// 2014). Policies are told by their names, in the order of the command; all but the first are to be predicates.
 #[derive(Clone, Copy)]
 pub enum Query<'a> {
     /// No history starts at a packet of `from` and ends at one of `target`: reachability, asked the other way.
