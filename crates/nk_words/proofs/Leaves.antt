@@ -2,7 +2,7 @@
 use Rattle.std.proofs.Common.{◌≡◌, ◌<◌, ◌+◌, ℕ, List, [], ◌∷◌, length, map, take, get_or, refl, Bor}
 use Rattle.std.proofs.lemmas.List.{map_more, map-append}
 use Rattle.clap.specs.Walk.{Text}
-use Rattle.clap.specs.Simple.{App, with_rule}
+use Rattle.clap.specs.Simple.{App, Shape, with_rule, with_subcommand}
 use Rattle.nk_words.specs.App.{leaf_app, wanted}
 
 -- a command with one more of its arguments
@@ -16,3 +16,9 @@ more_leaf name arguments i d a h e =
       map_more (λ (t : Bor Text). t.now) arguments i d h,
       map-append wanted (map (λ (t : Bor Text). t.now) (take i arguments)) ((get_or arguments i d).now ∷ []),
     ) refl
+
+-- an application with four more commands, one after another
+pub four_more : (s t u v : Shape) (o a b c d e : App) → a ≡ o → b ≡ with_subcommand a s → c ≡ with_subcommand b t
+    → d ≡ with_subcommand c u → e ≡ with_subcommand d v
+    → e ≡ with_subcommand (with_subcommand (with_subcommand (with_subcommand o s) t) u) v
+four_more s t u v o a b c d e same second third fourth fifth = rw (fifth, fourth, third, second, same) refl

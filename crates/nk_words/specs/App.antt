@@ -28,9 +28,9 @@ nk_top = record {
   subs = [];
 }
 
--- the program with all of its commands
-unfoldable pub nk_app : App
-nk_app = with_subcommand
+-- with the commands about one policy's tables and about two policies
+unfoldable pub nk_without_queries : App
+nk_without_queries = with_subcommand
     (with_subcommand
     (with_subcommand
     (with_subcommand
@@ -39,3 +39,13 @@ nk_app = with_subcommand
     (leaf_shape (codes "equal") (codes "LEFT" ∷ codes "RIGHT" ∷ [])))
     (leaf_shape (codes "check") (codes "LEFT" ∷ codes "RIGHT" ∷ [])))
     (leaf_shape (codes "fly") (codes "SEED" ∷ codes "STEPS" ∷ codes "PACKET" ∷ []))
+
+-- with all of its commands
+unfoldable pub nk_app : App
+nk_app = with_subcommand
+    (with_subcommand
+    (with_subcommand
+    (with_subcommand nk_without_queries (leaf_shape (codes "apart") (codes "NAME" ∷ codes "A" ∷ codes "B" ∷ [])))
+    (leaf_shape (codes "waypoint") (codes "NAME" ∷ codes "A" ∷ codes "W" ∷ codes "B" ∷ [])))
+    (leaf_shape (codes "check_apart") (codes "NAME" ∷ codes "A" ∷ codes "B" ∷ [])))
+    (leaf_shape (codes "check_waypoint") (codes "NAME" ∷ codes "A" ∷ codes "W" ∷ codes "B" ∷ []))

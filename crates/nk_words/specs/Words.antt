@@ -9,6 +9,7 @@ use Rattle.clap.specs.Simple.{subcommand_of}
 use Rattle.clap.specs.Faults.{fault_of}
 use Rattle.nk_words.specs.declared.words.Command.{Command}
 use Rattle.nk_words.specs.declared.words.Command.TheVariants.{Compile, Trace, Equal, Check, Fly}
+use Rattle.nk_words.specs.declared.words.Command.TheVariants.{Apart, Waypoint, CheckApart, CheckWaypoint}
 use Rattle.nk_words.specs.declared.words.WordsError.{WordsError}
 use Rattle.nk_words.specs.declared.words.WordsError.TheVariants.{NoMemory, Usage}
 use Rattle.nk_words.specs.App.{nk_app}
@@ -48,13 +49,41 @@ fly_of rows =
     (first_of (codes "PACKET") rows)) (number_of (codes "STEPS") 0 1000000 rows))
     (number_of (codes "SEED") 1 2147483646 rows)
 
+-- the texts of the arguments `NAME A B`, from what was found of them
+abbrev pub three_texts : List Row → Option (List ℕ × List ℕ × List ℕ)
+three_texts rows =
+    option_and_then (λ name. option_and_then (λ from. option_map (λ target. (name, from, target)) (first_of (codes "B") rows))
+    (first_of (codes "A") rows)) (first_of (codes "NAME") rows)
+
+-- the texts of the arguments `NAME A W B`, from what was found of them
+abbrev pub four_texts : List Row → Option (List ℕ × List ℕ × List ℕ × List ℕ)
+four_texts rows = option_and_then (λ t. option_map (λ middle. (t.0, t.1, middle, t.2)) (first_of (codes "W") rows)) (three_texts rows)
+
+-- the commands `apart NAME A B` and `check_apart NAME A B`
+abbrev pub apart_of : List Row → Option Command
+apart_of rows = option_map (λ t. Apart t.0 t.1 t.2) (three_texts rows)
+
+abbrev pub check_apart_of : List Row → Option Command
+check_apart_of rows = option_map (λ t. CheckApart t.0 t.1 t.2) (three_texts rows)
+
+-- the commands `waypoint NAME A W B` and `check_waypoint NAME A W B`
+abbrev pub waypoint_of : List Row → Option Command
+waypoint_of rows = option_map (λ t. Waypoint t.0 t.1 t.2 t.3) (four_texts rows)
+
+abbrev pub check_waypoint_of : List Row → Option Command
+check_waypoint_of rows = option_map (λ t. CheckWaypoint t.0 t.1 t.2 t.3) (four_texts rows)
+
 -- the command of this name, from what was found of its arguments
 abbrev pub command_with : Text → List Row → Option Command
 command_with name rows = if bytes_eq name (codes "compile") then compile_of rows
     else if bytes_eq name (codes "trace") then trace_of rows
     else if bytes_eq name (codes "equal") then equal_of rows
     else if bytes_eq name (codes "check") then check_of rows
-    else if bytes_eq name (codes "fly") then fly_of rows else None
+    else if bytes_eq name (codes "fly") then fly_of rows
+    else if bytes_eq name (codes "apart") then apart_of rows
+    else if bytes_eq name (codes "waypoint") then waypoint_of rows
+    else if bytes_eq name (codes "check_apart") then check_apart_of rows
+    else if bytes_eq name (codes "check_waypoint") then check_waypoint_of rows else None
 
 -- the command of the subcommand that was found
 abbrev pub command_found : Option (Text × List Row) → Option Command

@@ -4,9 +4,10 @@ ghost use Rattle.clap.specs.declared.builder.command.Command.TheViews.{out-Comma
 ghost use Rattle.clap.specs.Matches.{found_of};
 ghost use Rattle.clap.specs.Simple.{app_of, subcommand_rows_of, with_rule, with_subcommand};
 ghost use Rattle.clap.specs.Walk.{first_of, rows_of};
-ghost use Rattle.nk_words.specs.App.{leaf_app, leaf_shape, nk_app, nk_top, wanted};
+ghost use Rattle.nk_words.specs.App.{leaf_app, leaf_shape, nk_app, nk_top, nk_without_queries, wanted};
 ghost use Rattle.nk_words.specs.Words.{Reads, command_found, command_of, command_with, compile_of};
-ghost use Rattle.nk_words.specs.Words.{check_of, equal_of, fly_of, number_of, texts, trace_of};
+ghost use Rattle.nk_words.specs.Words.{apart_of, check_apart_of, check_of, check_waypoint_of, equal_of, fly_of};
+ghost use Rattle.nk_words.specs.Words.{four_texts, number_of, texts, three_texts, trace_of, waypoint_of};
 
 use crate::Bytes;
 use crate::number::number_from;
@@ -30,6 +31,14 @@ pub enum Command {
     /// `fly SEED STEPS PACKET`: what leaves when the switches take turns as draws from the seed, 1 to 2147483646, say, for so
     /// many steps, 0 to 1000000. The packet is a text as `sw=1,pt=2,dst=3`.
     Fly(u64, u64, Bytes),
+    /// `apart NAME A B`: whether no history of the policy leads from a packet of A to one of B.
+    Apart(Bytes, Bytes, Bytes),
+    /// `waypoint NAME A W B`: whether each history of the policy that does has a packet of W.
+    Waypoint(Bytes, Bytes, Bytes, Bytes),
+    /// `check_apart NAME A B`: what is found of a certificate that `apart` asks for.
+    CheckApart(Bytes, Bytes, Bytes),
+    /// `check_waypoint NAME A W B`: what is found of a certificate that `waypoint` asks for.
+    CheckWaypoint(Bytes, Bytes, Bytes, Bytes),
 }
 
 /// Why the words give no command.
@@ -101,16 +110,27 @@ fn top<'a>(alloc: Global) -> clap::Command<'a>
         .subcommand_required(true)
 }
 
-/// The program with all of its commands.
-#[tactic(auto, unfolding(crate::specs::App::nk_app))]
-fn application<'a>(alloc: Global) -> Result<clap::Command<'a>, AllocError>
-    ensures { IfOk result (λ c. app_of c ≡ nk_app) }
+/// The program with the commands about one policy's tables and about two policies.
+#[tactic(auto, unfolding(crate::specs::App::nk_without_queries))]
+fn without_queries<'a>(alloc: Global) -> Result<clap::Command<'a>, AllocError>
+    ensures { IfOk result (λ c. app_of c ≡ nk_without_queries) }
 {
     let app = with_leaf(alloc, top(alloc), "compile", &["NAME"])?;
     let app = with_leaf(alloc, app, "trace", &["HOPS", "PACKET"])?;
     let app = with_leaf(alloc, app, "equal", &["LEFT", "RIGHT"])?;
     let app = with_leaf(alloc, app, "check", &["LEFT", "RIGHT"])?;
     with_leaf(alloc, app, "fly", &["SEED", "STEPS", "PACKET"])
+}
+
+/// The program with all of its commands.
+fn application<'a>(alloc: Global) -> Result<clap::Command<'a>, AllocError>
+    ensures { IfOk result (λ c. app_of c ≡ nk_app) }
+{
+    let app = without_queries(alloc)?;
+    let app = with_leaf(alloc, app, "apart", &["NAME", "A", "B"])?;
+    let app = with_leaf(alloc, app, "waypoint", &["NAME", "A", "W", "B"])?;
+    let app = with_leaf(alloc, app, "check_apart", &["NAME", "A", "B"])?;
+    with_leaf(alloc, app, "check_waypoint", &["NAME", "A", "W", "B"])
 }
 
 /// The command that the words give. `Usage` comes exactly where they give none.
@@ -151,6 +171,14 @@ fn command_named(alloc: Global, name: &str, found: &ArgMatches) -> Result<Comman
         check(alloc, found)
     } else if name == "fly" {
         fly(alloc, found)
+    } else if name == "apart" {
+        apart(alloc, found)
+    } else if name == "waypoint" {
+        waypoint(alloc, found)
+    } else if name == "check_apart" {
+        check_apart(alloc, found)
+    } else if name == "check_waypoint" {
+        check_waypoint(alloc, found)
     } else {
         Err(WordsError::Usage)
     }
@@ -199,6 +227,57 @@ fn fly(alloc: Global, found: &ArgMatches) -> Result<Command, WordsError>
     let steps = number_at(found, "STEPS", 0, 1000000)?;
     let packet = text(alloc, found, "PACKET")?;
     Ok(Command::Fly(seed, steps, packet))
+}
+
+/// `apart NAME A B`.
+fn apart(alloc: Global, found: &ArgMatches) -> Result<Command, WordsError>
+    ensures { Reads (apart_of (rows_of (found_of found.now))) result }
+{
+    let (name, from, target) = three(alloc, found)?;
+    Ok(Command::Apart(name, from, target))
+}
+
+/// `waypoint NAME A W B`.
+fn waypoint(alloc: Global, found: &ArgMatches) -> Result<Command, WordsError>
+    ensures { Reads (waypoint_of (rows_of (found_of found.now))) result }
+{
+    let (name, from, middle, target) = four(alloc, found)?;
+    Ok(Command::Waypoint(name, from, middle, target))
+}
+
+/// `check_apart NAME A B`.
+fn check_apart(alloc: Global, found: &ArgMatches) -> Result<Command, WordsError>
+    ensures { Reads (check_apart_of (rows_of (found_of found.now))) result }
+{
+    let (name, from, target) = three(alloc, found)?;
+    Ok(Command::CheckApart(name, from, target))
+}
+
+/// `check_waypoint NAME A W B`.
+fn check_waypoint(alloc: Global, found: &ArgMatches) -> Result<Command, WordsError>
+    ensures { Reads (check_waypoint_of (rows_of (found_of found.now))) result }
+{
+    let (name, from, middle, target) = four(alloc, found)?;
+    Ok(Command::CheckWaypoint(name, from, middle, target))
+}
+
+/// The texts of the arguments `NAME A B`.
+fn three(alloc: Global, found: &ArgMatches) -> Result<(Bytes, Bytes, Bytes), WordsError>
+    ensures { Reads (three_texts (rows_of (found_of found.now))) result }
+{
+    let name = text(alloc, found, "NAME")?;
+    let from = text(alloc, found, "A")?;
+    let target = text(alloc, found, "B")?;
+    Ok((name, from, target))
+}
+
+/// The texts of the arguments `NAME A W B`.
+fn four(alloc: Global, found: &ArgMatches) -> Result<(Bytes, Bytes, Bytes, Bytes), WordsError>
+    ensures { Reads (four_texts (rows_of (found_of found.now))) result }
+{
+    let (name, from, target) = three(alloc, found)?;
+    let middle = text(alloc, found, "W")?;
+    Ok((name, from, middle, target))
 }
 
 /// The word of an argument.
