@@ -5,11 +5,11 @@ use Rattle.std.specs.Prelude.{Some, None}
 use Rattle.nk_words.specs.declared.words.Command.{Command}
 use Rattle.nk_words.specs.Words.{command_of}
 use Rattle.nk.specs.declared.status.Status.{Status}
-use Rattle.nk.specs.declared.status.Status.TheVariants.{ReadFault, WriteFault, NoMemory}
+use Rattle.nk.specs.declared.status.Status.TheVariants.{ReadFault, Usage, WriteFault, NoMemory}
 use Rattle.nk.specs.Outcome.{Outcome, done, differs, text_refused, policy_refused}
 use Rattle.nk.specs.Answer.{Answer, IsOutcome, IsOutcomeOf, answer_of, limit, too_long}
 use Rattle.nk.specs.Use.{FailedAt, HasRisen, IsUntouched, Use}
-use Rattle.nk.specs.Ends.{Ends, IsCauseTo, IsCaused, IsComplete, IsFixedBy, IsRead, IsSent}
+use Rattle.nk.specs.Ends.{Ends, IsCauseTo, IsCaused, IsComplete, IsFixedBy, IsRead, IsSent, IsUsage}
 
 -- a fact of the answer that words and input fix, where its outcome is known
 outcome_caused : (words : List (List ℕ)) (source out err : Use) (c : Command)
@@ -131,6 +131,13 @@ caused words source out err s h = elim h.delivered [
   | inl d ↦ rw d.0 (sent_caused words source out err h.answer h.answer.status refl h.meant d.1)
   | inr f ↦ rw f.0 (record { answer = h.answer; meant = h.meant; failed = f.1 })
 ]
+
+-- words that are told as no command are none
+pub no_command : (words : List (List ℕ)) (source out err : Use) (s : Status)
+    → Ends words source out err s → s ≡ Usage → command_of words ≡ None
+no_command words source out err s h e =
+    let told : IsUsage words source out err = subst (IsCaused words source out err) e (caused words source out err s h) in
+    told.none
 
 -- where the source did not fail, the answer is the one that is fixed, or memory ran out
 fixed_or_no_memory : (c : Option Command) (source : Use) (a : Answer) (s : Status)

@@ -6,11 +6,15 @@ use Rattle.nk.specs.declared.status.Status.TheVariants.{Done, Differs, Usage, Te
 use Rattle.nk.specs.declared.status.Status.TheVariants.{ReadFault, NoMemory, TooLong}
 use Rattle.nk_words.specs.declared.words.Command.{Command}
 use Rattle.nk_words.specs.declared.words.Command.TheVariants.{Compile, Trace, Equal, Check, Fly}
+use Rattle.nk_words.specs.declared.words.Command.TheVariants.{Apart, Waypoint, CheckApart, CheckWaypoint}
+use Rattle.nk_query.specs.Asked.{apart, waypoint}
 use Rattle.nk.specs.Outcome.{Outcome, done, differs, text_refused, policy_refused}
+use Rattle.nk.specs.Asking.{IsAskAnswer}
 use Rattle.nk.specs.Checking.{IsCheckAnswer}
 use Rattle.nk.specs.Compiling.{IsCompileAnswer}
 use Rattle.nk.specs.Comparing.{IsEqualAnswer}
 use Rattle.nk.specs.Flying.{IsFlyAnswer}
+use Rattle.nk.specs.Judging.{IsJudgeAnswer}
 use Rattle.nk.specs.Tracing.{IsTraceAnswer}
 
 -- a status and its text
@@ -57,6 +61,10 @@ IsOutcome (Trace hops packet) bytes outcome = IsTraceAnswer hops packet bytes ou
 IsOutcome (Equal left right) bytes outcome = IsEqualAnswer left right bytes outcome
 IsOutcome (Check left right) bytes outcome = IsCheckAnswer left right bytes outcome
 IsOutcome (Fly seed steps packet) bytes outcome = IsFlyAnswer seed steps packet bytes outcome
+IsOutcome (Apart name from target) bytes outcome = IsAskAnswer (apart name from target) bytes outcome
+IsOutcome (Waypoint name from middle target) bytes outcome = IsAskAnswer (waypoint name from middle target) bytes outcome
+IsOutcome (CheckApart name from target) bytes outcome = IsJudgeAnswer (apart name from target) bytes outcome
+IsOutcome (CheckWaypoint name from middle target) bytes outcome = IsJudgeAnswer (waypoint name from middle target) bytes outcome
 
 -- the answer is one that the command has to the input
 abbrev pub IsOutcomeOf : Command → List ℕ → Answer → Type 0

@@ -31,18 +31,22 @@ pub record AreNamed (program : Program) (left right : List ℕ) (p q : Policy) :
   pub left_is : policy_named program left ≡ Some p
   pub right_is : policy_named program right ≡ Some q
 
--- The policies of these names give the same histories on every packet, and the text is that of their printed certificate, which
--- is one. Behind each text that declares the program, and a line feed, it is read as that certificate.
+-- Two policies of a program's fields give the same histories on every packet, and the text is that of their printed certificate,
+-- which is one. Behind each text that declares the program, and a line feed, it is read as that certificate.
+pub record TellsRelated (program : Program) (p q : Policy) (text : List ℕ) : Type 0 where
+  pub certificate : CertificateValue
+  pub related : IsRelated program.fields p q certificate
+  pub told : text ≡ cert_bytes program.fields certificate
+  pub read : (bytes : List ℕ) → Declares bytes (said_by program) → HoldsCertificate (joined bytes text) (said_by program) certificate
+
+-- the policies of these names do so
 pub record IsSame (said : Said) (left right text : List ℕ) : Type 0 where
   pub program : Program
   pub says : said_by program ≡ said
   pub left_policy : Policy
   pub right_policy : Policy
   pub named : AreNamed program left right left_policy right_policy
-  pub certificate : CertificateValue
-  pub related : IsRelated program.fields left_policy right_policy certificate
-  pub told : text ≡ cert_bytes program.fields certificate
-  pub read : (bytes : List ℕ) → Declares bytes said → HoldsCertificate (joined bytes text) said certificate
+  pub tells : TellsRelated program left_policy right_policy text
 
 -- the text tells the least history that one of the policies of these names alone has, and which one
 pub record IsDifference (said : Said) (left right text : List ℕ) : Type 0 where

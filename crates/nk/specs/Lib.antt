@@ -1,4 +1,5 @@
 pub mod Answer
+pub mod Asking
 pub mod CertifiedText
 pub mod Checking
 pub mod Comparing
@@ -7,6 +8,7 @@ pub mod Declarable
 pub mod Ends
 pub mod Flying
 pub mod Following
+pub mod Judging
 pub mod Messages
 pub mod Outcome
 pub mod ProgramText

@@ -1,5 +1,5 @@
 -- What is said of a text or a policy that is refused.
-use Rattle.std.specs.Prelude.{ℕ, List, true, ◌++◌, codes, decimal}
+use Rattle.std.specs.Prelude.{◌≡◌, ℕ, List, true, ◌++◌, codes, decimal}
 use Rattle.nk_field.specs.Packet.{FieldTable}
 use Rattle.nk_field.specs.Order.{Found}
 use Rattle.nk_field.specs.Texts.{history_bytes, packet_bytes}
@@ -8,6 +8,8 @@ use Rattle.nk_names.specs.declared.fault.FaultKind.TheVariants as kind
 use Rattle.nk_compile.specs.declared.refusal.Refusal.{Refusal}
 use Rattle.nk_compile.specs.declared.refusal.Refusal.TheVariants as refusal
 use Rattle.nk_compile.specs.Refusals.{found_from}
+use Rattle.nk_query.specs.declared.error.QueryError.{QueryError}
+use Rattle.nk_query.specs.declared.error.QueryError.TheVariants as query
 
 -- the line of a text's fault
 abbrev pub fault_line : ℕ → List ℕ → List ℕ
@@ -49,3 +51,10 @@ refusal_line fields refusal.NoSuchLink = codes "refused C6: no such link\n"
 refusal_line fields (refusal.OffEdge start history) =
     codes "refused C7: off edge\n" ++ found_lines fields (found_from start history)
 refusal_line fields (refusal.TooManyTags found) = codes "refused C8: too many tags, found " ++ decimal found ++ codes "\n"
+
+-- the line of why a query is refused. Want of memory is no refusal.
+abbrev pub TellsQuery : QueryError → List ℕ → Type 0
+TellsQuery query.NoPolicy text = text ≡ codes "refused C1: no policy\n"
+TellsQuery query.NotAPredicate text = text ≡ codes "refused C14: not a predicate\n"
+TellsQuery query.TooLarge text = text ≡ codes "refused C13: expanded too large\n"
+TellsQuery query.NoMemory text = ⊥

@@ -1,18 +1,17 @@
 //! The answer of `check LEFT RIGHT`.
-ghost use Rattle.std.specs.Prelude.{◌≡◌, IfOk};
+ghost use Rattle.std.specs.Prelude.{IfOk};
 ghost use Rattle.nk_names.specs.ProgramOf.{said_by};
 ghost use Rattle.nk_names.specs.ProgramValue.{IsProgram};
-ghost use Rattle.nk_cert.specs.Values.{certificate_value, part_of};
+ghost use Rattle.nk_cert.specs.Values.{certificate_value};
 ghost use Rattle.nk_cert.specs.Verdicts.{HasPredicates};
-ghost use Rattle.nk.specs.Checking.{IsCheckAnswer, ToChecked, invalid_line, part_word};
+ghost use Rattle.nk.specs.Checking.{IsCheckAnswer, ToChecked};
 ghost use Rattle.nk.specs.Reply.{said};
 
 use crate::Said;
 use crate::certified_text::{ReadCertified, read_certified};
-use crate::messages::no_policy_message;
-use itoa::Buffer;
+use crate::messages::{invalid_message, no_policy_message};
 use nk_cert::laws::a_certificate_shows_equality;
-use nk_cert::{CertPart, Certificate, CheckError, Verdict, check};
+use nk_cert::{Certificate, CheckError, Verdict, check};
 use nk_names::Program;
 use std::alloc::{AllocError, Global};
 
@@ -54,31 +53,5 @@ fn answer_to_certificate(
         }
         Err(CheckError::NoPolicy) => Ok(Said::Refused(no_policy_message(alloc)?)),
         Err(CheckError::NoMemory) => Err(AllocError),
-    }
-}
-
-/// The message for a certificate's row that fails, with its line feed.
-fn invalid_message(alloc: Global, row: u64, part: CertPart) -> Result<Vec<u8>, AllocError>
-    ensures { IfOk result (λ v. v.items ≡ invalid_line row (part_of part)) }
-{
-    let mut buffer = Buffer::new();
-    let mut message = Vec::new(alloc);
-    message.extend_from_slice(b"invalid row ")?;
-    message.extend_from_slice(buffer.format(row).as_bytes())?;
-    message.extend_from_slice(b": ")?;
-    message.extend_from_slice(word_of(part).as_bytes())?;
-    message.extend_from_slice(b"\n")?;
-    Ok(message)
-}
-
-/// The word for a part of a row.
-fn word_of(part: CertPart) -> &'static str
-    ensures { result.now ≡ part_word (part_of part) }
-{
-    match part {
-        CertPart::Position => "position",
-        CertPart::Start => "start",
-        CertPart::Finals => "finals",
-        CertPart::Hop => "hop",
     }
 }

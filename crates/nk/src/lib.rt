@@ -1,12 +1,14 @@
 //! The commands over bytes: what is read, what is answered, and how a run ends.
 #![tactic(auto)]
 
+mod asking;
 mod certified_text;
 mod checking;
 mod comparing;
 mod compiling;
 mod flying;
 mod following;
+mod judging;
 mod messages;
 mod program_text;
 mod reply;

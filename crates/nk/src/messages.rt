@@ -1,18 +1,23 @@
-//! The messages for texts and policies that are refused.
+//! What is said of texts, policies and queries that are refused, of differences and breaks, and of rows that fail.
 ghost use Rattle.std.specs.Prelude.{◌≡◌, ◌++◌, IfOk, OnOk, codes, decimal};
 ghost use Rattle.nk_bisim.specs.Answers.{whose};
+ghost use Rattle.nk_cert.specs.Values.{part_of};
 ghost use Rattle.nk_compile.specs.Refusals.{found_from};
 ghost use Rattle.nk_witness.specs.Finds.{found_of};
+ghost use Rattle.nk.specs.Asking.{broken_lines};
+ghost use Rattle.nk.specs.Checking.{invalid_line, part_word};
 ghost use Rattle.nk.specs.Comparing.{difference_lines, side_line};
 ghost use Rattle.nk.specs.Outcome.{text_refused};
-ghost use Rattle.nk.specs.Messages.{fault_line, fault_words, found_lines, refusal_line};
+ghost use Rattle.nk.specs.Messages.{TellsQuery, fault_line, fault_words, found_lines, refusal_line};
 ghost use Rattle.nk.specs.Reply.{said};
 
 use crate::Said;
 use itoa::Buffer;
+use nk_cert::CertPart;
 use nk_compile::Refusal;
 use nk_field::{Fields, History, Packet, history_text, packet_text};
 use nk_names::FaultKind;
+use nk_query::QueryError;
 use nk_witness::{Found, Side};
 use std::alloc::{AllocError, Global};
 
@@ -92,16 +97,17 @@ fn push_found(
     out.extend_from_slice(b"\n")
 }
 
-/// The message for a policy with a history that ends off each edge port.
-fn off_edge_message(
+/// A message with this head that tells a history and the packet that it starts from.
+fn found_message(
     alloc: Global,
+    head: &[u8],
     fields: &Fields,
     start: &Packet,
     history: &History,
 ) -> Result<Vec<u8>, AllocError>
-    ensures { IfOk result (λ v. v.items ≡ codes "refused C7: off edge\n" ++ found_lines fields.now (found_from start.now history.now)) }
+    ensures { IfOk result (λ v. v.items ≡ head.now ++ found_lines fields.now (found_from start.now history.now)) }
 {
-    let mut message = Vec::from_slice(alloc, b"refused C7: off edge\n")?;
+    let mut message = Vec::from_slice(alloc, head)?;
     push_found(alloc, &mut message, fields, start, history)?;
     Ok(message)
 }
@@ -122,7 +128,7 @@ pub(crate) fn refusal_message(
         Refusal::SwitchSet => b"refused C5: switch set\n",
         Refusal::NoSuchLink => b"refused C6: no such link\n",
         Refusal::OffEdge { start, history } => {
-            return off_edge_message(alloc, fields, start, history);
+            return found_message(alloc, b"refused C7: off edge\n", fields, start, history);
         }
         Refusal::TooManyTags { found } => return tags_message(alloc, *found),
     };
@@ -143,6 +149,29 @@ pub(crate) fn difference_message(
     Ok(message)
 }
 
+/// What is said of a history that breaks a query.
+pub(crate) fn broken_message(
+    alloc: Global,
+    fields: &Fields,
+    found: &Found,
+) -> Result<Vec<u8>, AllocError>
+    ensures { IfOk result (λ v. v.items ≡ broken_lines fields.now (found_of found.now)) }
+{
+    found_message(alloc, b"broken\n", fields, &found.start, &found.history)
+}
+
+/// The message for a query that is refused. Of want of memory there is none.
+pub(crate) fn query_message(alloc: Global, cause: QueryError) -> Result<Vec<u8>, AllocError>
+    ensures { IfOk result (λ v. TellsQuery cause v.items) }
+{
+    match cause {
+        QueryError::NoPolicy => no_policy_message(alloc),
+        QueryError::NotAPredicate => Vec::from_slice(alloc, b"refused C14: not a predicate\n"),
+        QueryError::TooLarge => Vec::from_slice(alloc, b"refused C13: expanded too large\n"),
+        QueryError::NoMemory => Err(AllocError),
+    }
+}
+
 /// Which policy alone has a history.
 fn side_words(side: Side) -> &'static [u8]
     ensures { result.now ≡ side_line (whose side) }
@@ -150,6 +179,36 @@ fn side_words(side: Side) -> &'static [u8]
     match side {
         Side::Left => b"left alone\n",
         Side::Right => b"right alone\n",
+    }
+}
+
+/// The message for a certificate's row that fails, with its line feed.
+pub(crate) fn invalid_message(
+    alloc: Global,
+    row: u64,
+    part: CertPart,
+) -> Result<Vec<u8>, AllocError>
+    ensures { IfOk result (λ v. v.items ≡ invalid_line row (part_of part)) }
+{
+    let mut buffer = Buffer::new();
+    let mut message = Vec::new(alloc);
+    message.extend_from_slice(b"invalid row ")?;
+    message.extend_from_slice(buffer.format(row).as_bytes())?;
+    message.extend_from_slice(b": ")?;
+    message.extend_from_slice(word_of(part).as_bytes())?;
+    message.extend_from_slice(b"\n")?;
+    Ok(message)
+}
+
+/// The word for a part of a row.
+fn word_of(part: CertPart) -> &'static str
+    ensures { result.now ≡ part_word (part_of part) }
+{
+    match part {
+        CertPart::Position => "position",
+        CertPart::Start => "start",
+        CertPart::Finals => "finals",
+        CertPart::Hop => "hop",
     }
 }
 

@@ -13,7 +13,7 @@ use nk_io::{Sink, write_all};
 pub enum Said {
     /// It is done: the answer.
     Done(Vec<u8>),
-    /// What was compared differs: how.
+    /// What was compared differs, what was checked isn't valid or what was asked is broken: how.
     Differs(Vec<u8>),
     /// The text of the input is refused: the message.
     Text(Vec<u8>),

@@ -7,7 +7,7 @@ ghost use Rattle.nk.specs.Status.{code_of};
 pub enum Status {
     /// The command's answer is on `out`.
     Done,
-    /// What was compared differs, and `out` says how.
+    /// What was compared differs, what was checked isn't valid or what was asked is broken, and `out` says how.
     Differs,
     /// The words are not those of a command.
     Usage,

@@ -8,10 +8,12 @@ ghost use Rattle.nk.specs.Ends.{LeavesAlone, TellsFaults};
 ghost use Rattle.nk.specs.Reply.{answer_in, said, IsReplyTo};
 
 use crate::Status;
+use crate::asking::{apart_query, ask_answer, waypoint_query};
 use crate::checking::check_answer;
 use crate::comparing::equal_answer;
 use crate::compiling::compile_answer;
 use crate::flying::fly_answer;
+use crate::judging::judge_answer;
 use crate::reply::{Reply, Said, deliver};
 use crate::tracing::trace_answer;
 use nk_io::{ReadError, Sink, Source, read_all};
@@ -110,5 +112,17 @@ fn perform(alloc: Global, command: &Command, bytes: &[u8]) -> Result<Said, Alloc
         }
         Command::Equal(left, right) => equal_answer(alloc, left.as_str(), right.as_str(), bytes),
         Command::Check(left, right) => check_answer(alloc, left.as_str(), right.as_str(), bytes),
+        Command::Apart(name, from, target) => {
+            ask_answer(alloc, &apart_query(name, from, target), bytes)
+        }
+        Command::Waypoint(name, from, middle, target) => {
+            ask_answer(alloc, &waypoint_query(name, from, middle, target), bytes)
+        }
+        Command::CheckApart(name, from, target) => {
+            judge_answer(alloc, &apart_query(name, from, target), bytes)
+        }
+        Command::CheckWaypoint(name, from, middle, target) => {
+            judge_answer(alloc, &waypoint_query(name, from, middle, target), bytes)
+        }
     }
 }

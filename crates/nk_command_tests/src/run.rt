@@ -1,4 +1,5 @@
 //! Runs in memory.
+mod asked;
 mod certified;
 mod compared;
 mod compiled;

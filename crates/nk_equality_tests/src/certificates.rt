@@ -6,7 +6,7 @@ ghost use Rattle.nk_cert.specs.Values.{certificate_value};
 ghost use Rattle.nk_cert.specs.Verdicts.{HasPredicates};
 
 use crate::definition::{Row, Sides, found_of};
-use crate::draws::{Draws, policies};
+use crate::draws::{Draws, TWO_FIELDS, policies};
 use crate::enumerated::packet_of;
 use crate::programs::{declared, program_text};
 use crate::steps::{Steps, push_steps};
@@ -220,7 +220,7 @@ fn have_predicates(rows: &[(List<u64>, Pol)]) -> bool
 }
 
 /// Whether each row of the certificate has a predicate.
-fn is_over_predicates(c: &Certificate) -> bool
+pub fn is_over_predicates(c: &Certificate) -> bool
     ensures { result ≡ true → HasPredicates (certificate_value c.now) }
 {
     is_predicate(&c.start) && have_predicates(c.rows.as_slice())
@@ -326,7 +326,7 @@ fn holds_beside(alloc: Global, left: &[u8], right: &[u8]) -> Result<bool, Fail> 
 /// Whether that holds of the random policies of a seed, each beside the next one.
 fn holds_of_seed(alloc: Global, seed: u64) -> Result<bool, Fail> {
     let mut draws = Draws::new(seed);
-    let texts = policies(alloc, 8, &mut draws)?;
+    let texts = policies(alloc, TWO_FIELDS, 8, &mut draws)?;
     let texts = texts.as_slice();
     for i in 1..texts.len() {
         if !holds_beside(alloc, texts[i - 1].as_slice(), texts[i].as_slice())? {

@@ -1,4 +1,4 @@
-//! Texts of random policies over two fields of two values.
+//! Texts of random policies.
 use std::alloc::{AllocError, Global};
 
 /// Numbers drawn one after the other: each is 48271 times the one before, modulo 2147483647.
@@ -20,14 +20,23 @@ impl Draws {
     }
 }
 
-/// The tests.
-const TESTS: [&[u8]; 6] = [b"a=0", b"a=1", b"b=0", b"b=1", b"~(a=1;b=0)", b"~a=0 + b=1"];
+/// What policies are made of, besides dups.
+#[derive(Clone, Copy)]
+pub struct Atoms {
+    /// The tests.
+    pub tests: &'static [&'static [u8]],
+    /// What changes a packet: assignments, and links.
+    pub deeds: &'static [&'static [u8]],
+}
 
-/// The assignments.
-const DEEDS: [&[u8]; 4] = [b"a:=0", b"a:=1", b"b:=0", b"b:=1"];
+/// Those over two fields of two values.
+pub const TWO_FIELDS: Atoms = Atoms {
+    tests: &[b"a=0", b"a=1", b"b=0", b"b=1", b"~(a=1;b=0)", b"~a=0 + b=1"],
+    deeds: &[b"a:=0", b"a:=1", b"b:=0", b"b:=1"],
+};
 
 /// One of the texts.
-fn one_of<'a>(texts: &[&'a [u8]], draws: &mut Draws) -> &'a [u8] {
+pub fn one_of<'a>(texts: &[&'a [u8]], draws: &mut Draws) -> &'a [u8] {
     match texts.get(draws.below(texts.len() as u64) as usize) {
         Some(text) => text,
         None => b"id",
@@ -57,7 +66,12 @@ fn put_two(
 }
 
 /// A policy: a dup, a test, an assignment, or one that is made of those before it.
-fn next_policy(alloc: Global, texts: &[Vec<u8>], draws: &mut Draws) -> Result<Vec<u8>, AllocError> {
+fn next_policy(
+    alloc: Global,
+    atoms: Atoms,
+    texts: &[Vec<u8>],
+    draws: &mut Draws,
+) -> Result<Vec<u8>, AllocError> {
     let mut text = Vec::new(alloc);
     match draws.below(8) {
         0 | 1 => put_two(&mut text, texts, b" + ", draws)?,
@@ -69,20 +83,25 @@ fn next_policy(alloc: Global, texts: &[Vec<u8>], draws: &mut Draws) -> Result<Ve
         }
         5 => {
             text.extend_from_slice(b"(")?;
-            text.extend_from_slice(one_of(&TESTS, draws))?;
+            text.extend_from_slice(one_of(atoms.tests, draws))?;
             text.extend_from_slice(b")")?;
         }
-        6 => text.extend_from_slice(one_of(&DEEDS, draws))?,
+        6 => text.extend_from_slice(one_of(atoms.deeds, draws))?,
         _ => text.extend_from_slice(b"dup")?,
     }
     Ok(text)
 }
 
 /// Policies, each made of those before it.
-pub fn policies(alloc: Global, count: u32, draws: &mut Draws) -> Result<Vec<Vec<u8>>, AllocError> {
+pub fn policies(
+    alloc: Global,
+    atoms: Atoms,
+    count: u32,
+    draws: &mut Draws,
+) -> Result<Vec<Vec<u8>>, AllocError> {
     let mut texts = Vec::new(alloc);
     for _ in 0..count {
-        let text = next_policy(alloc, &texts, draws)?;
+        let text = next_policy(alloc, atoms, &texts, draws)?;
         texts.push(text)?;
     }
     Ok(texts)

@@ -6,8 +6,8 @@ use std::alloc::{AllocError, Global};
 /// The most records of a history.
 pub const RECORDS: usize = 4;
 
-/// More than there are histories of so many records over four packets.
-const HISTORIES: usize = 2000;
+/// More than there are histories of so many records from a packet here.
+const HISTORIES: usize = 20000;
 
 /// Puts a history at the end, if it isn't there.
 fn push_once(all: &mut Vec<History>, h: History) -> Result<(), AllocError> {
@@ -23,20 +23,46 @@ fn at(h: &History, last: Packet) -> Result<History, AllocError> {
     Ok(History { records, last })
 }
 
-/// Puts the history with its last packet recorded, unless it has the most records.
-fn push_recorded(h: &History, all: &mut Vec<History>) -> Result<(), AllocError> {
+/// The history with its last packet recorded; nothing where it has the most records.
+fn recorded(h: &History) -> Result<Option<History>, AllocError> {
     if h.records.len() >= RECORDS {
-        return Ok(());
+        return Ok(None);
     }
     let mut records = h.records.copy()?;
     records.push(h.last)?;
-    push_once(
-        all,
-        History {
-            records,
-            last: h.last,
-        },
-    )
+    let last = h.last;
+    Ok(Some(History { records, last }))
+}
+
+/// Puts the history with its last packet recorded, unless it has the most records.
+fn push_recorded(h: &History, all: &mut Vec<History>) -> Result<(), AllocError> {
+    match recorded(h)? {
+        Some(g) => push_once(all, g),
+        None => Ok(()),
+    }
+}
+
+/// Whether a packet is at a port of a switch.
+fn is_at(pk: &Packet, place: (u16, u16)) -> bool {
+    pk.get(Fid::SWITCH) == u64::from(place.0) && pk.get(Fid::PORT) == u64::from(place.1)
+}
+
+/// Puts the history over a link, where it ends at the link's first port: the packet is recorded there and at the second port.
+fn push_crossed(
+    h: &History,
+    from: (u16, u16),
+    to: (u16, u16),
+    all: &mut Vec<History>,
+) -> Result<(), AllocError> {
+    if !is_at(&h.last, from) {
+        return Ok(());
+    }
+    let Some(mut g) = recorded(h)? else {
+        return Ok(());
+    };
+    g.last.put(Fid::SWITCH, u64::from(to.0));
+    g.last.put(Fid::PORT, u64::from(to.1));
+    push_recorded(&g, all)
 }
 
 /// Goes on from a history by the policy: puts each history to which it leads, each once.
@@ -64,7 +90,7 @@ fn push_ends(
         Pol::Not(q) => push_unless(alloc, q, h, all),
         Pol::Star(q) => push_rounds(alloc, q, h, all),
         Pol::Dup(_) => push_recorded(h, all),
-        Pol::Link(_, _, _, _, _) => Ok(()),
+        Pol::Link(a, m, b, n, _) => push_crossed(h, (*a, *m), (*b, *n), all),
     }
 }
 
@@ -153,7 +179,7 @@ pub fn packet_of(number: u64) -> Packet {
 }
 
 /// The histories of a policy from a packet, each once.
-fn histories_from(alloc: Global, p: &Pol, pk: &Packet) -> Result<Vec<History>, AllocError> {
+pub fn histories_from(alloc: Global, p: &Pol, pk: &Packet) -> Result<Vec<History>, AllocError> {
     let mut all = Vec::new(alloc);
     let begun = History {
         records: List::new(alloc),
@@ -175,7 +201,7 @@ pub struct Difference {
 }
 
 /// Whether the first comes before the second: fewer records, then the lesser start, then the history in order.
-fn is_before(a: &Difference, b: &Difference) -> bool {
+pub fn is_before(a: &Difference, b: &Difference) -> bool {
     let (few, many) = (a.history.records.len(), b.history.records.len());
     few < many || few == many && (a.start < b.start || a.start == b.start && a.history < b.history)
 }

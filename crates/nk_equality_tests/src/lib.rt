@@ -1,5 +1,5 @@
 //! Tests of equality: pairs whose answer was worked out by hand, random pairs against all their histories, and their
-//! certificates against the definition.
+//! certificates against the definition; random queries over small networks against all their histories.
 #![tactic(auto)]
 
 #[cfg(test)]
@@ -14,6 +14,8 @@ mod enumerated;
 mod pairs;
 #[cfg(test)]
 mod programs;
+#[cfg(test)]
+mod queries;
 #[cfg(test)]
 mod steps;
 #[cfg(test)]

@@ -1,6 +1,6 @@
 //! Random pairs of policies, against all their histories of up to four records.
 
-use crate::draws::{Draws, policies};
+use crate::draws::{Draws, TWO_FIELDS, policies};
 use crate::enumerated::{Difference, RECORDS, least_difference};
 use crate::programs::{declared, program_text};
 use nk_bisim::{Compared, compare};
@@ -46,7 +46,7 @@ fn agree_on(alloc: Global, left: &[u8], right: &[u8]) -> Result<bool, Fail> {
 /// Whether that holds of the random policies of a seed, each beside the next one.
 fn all_agree(alloc: Global, seed: u64) -> Result<bool, Fail> {
     let mut draws = Draws::new(seed);
-    let texts = policies(alloc, 12, &mut draws)?;
+    let texts = policies(alloc, TWO_FIELDS, 12, &mut draws)?;
     let texts = texts.as_slice();
     for i in 1..texts.len() {
         if !agree_on(alloc, texts[i - 1].as_slice(), texts[i].as_slice())? {

@@ -7,7 +7,7 @@ use std::alloc::{AllocError, Global};
 use std::{fs, io};
 
 /// The words of a command, the file that is its input, and the file with the answer.
-const RUNS: [(&[&str], &str, &str); 19] = [
+const RUNS: [(&[&str], &str, &str); 23] = [
     (
         &["compile", "allow"],
         "access-list.nk",
@@ -78,6 +78,26 @@ const RUNS: [(&[&str], &str, &str); 19] = [
         &["check", "before", "after"],
         "change-stale.certified",
         "change-stale.check",
+    ),
+    (
+        &["waypoint", "guarded", "office", "firewall", "servers"],
+        "waypoint.nk",
+        "waypoint.holds",
+    ),
+    (
+        &["waypoint", "quick", "office", "firewall", "servers"],
+        "waypoint.nk",
+        "waypoint.broken",
+    ),
+    (
+        &["check_waypoint", "guarded", "office", "firewall", "servers"],
+        "waypoint.certified",
+        "waypoint.check",
+    ),
+    (
+        &["apart", "guarded", "login", "servers"],
+        "waypoint.nk",
+        "waypoint.apart",
     ),
 ];
 

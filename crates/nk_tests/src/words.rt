@@ -3,23 +3,31 @@ use nk_words::{Command, WordsError, read_words};
 use std::alloc::Global;
 use std::test::Fail;
 
-/// What the words give: the command's first number, and its last text; nothing where they give no command. Where a command
-/// has no number, 0 stands for it.
+/// The command's first number, or 0 where it has none, and its last text.
+fn told(command: &Command) -> (u64, &str) {
+    match command {
+        Command::Trace(hops, packet) => (*hops, packet.as_str()),
+        Command::Fly(seed, _, packet) => (*seed, packet.as_str()),
+        Command::Compile(last)
+        | Command::Equal(_, last)
+        | Command::Check(_, last)
+        | Command::Apart(_, _, last)
+        | Command::Waypoint(_, _, _, last)
+        | Command::CheckApart(_, _, last)
+        | Command::CheckWaypoint(_, _, _, last) => (0, last.as_str()),
+    }
+}
+
+/// What is told of the command that the words give; nothing where they give none.
 fn command_in(alloc: Global, words: &[&str]) -> Result<Option<(u64, String)>, Fail> {
     let mut given = Vec::new(alloc);
     for word in words {
         given.push(String::from_str(alloc, word)?)?;
     }
     match read_words(alloc, &given) {
-        Ok(Command::Compile(name)) => Ok(Some((0, String::from_str(alloc, name.as_str())?))),
-        Ok(Command::Trace(hops, packet)) => Ok(Some((
-            hops,
-            String::from_str(alloc, packet.as_str())?,
-        ))),
-        Ok(Command::Equal(_, right)) => Ok(Some((0, String::from_str(alloc, right.as_str())?))),
-        Ok(Command::Check(_, right)) => Ok(Some((0, String::from_str(alloc, right.as_str())?))),
-        Ok(Command::Fly(seed, _, packet)) => {
-            Ok(Some((seed, String::from_str(alloc, packet.as_str())?)))
+        Ok(command) => {
+            let (number, last) = told(&command);
+            Ok(Some((number, String::from_str(alloc, last)?)))
         }
         Err(WordsError::Usage) => Ok(None),
         Err(error) => Err(error.into()),
@@ -28,7 +36,7 @@ fn command_in(alloc: Global, words: &[&str]) -> Result<Option<(u64, String)>, Fa
 
 #[test]
 fn words_that_give_a_command(rt: HostRuntime) -> Result<(), Fail> {
-    let table: [(&[&str], u64, &str); 8] = [
+    let table: [(&[&str], u64, &str); 12] = [
         (&["compile", "p"], 0, "p"),
         (&["compile", "--", "-p"], 0, "-p"),
         (&["compile", "-"], 0, "-"),
@@ -36,6 +44,10 @@ fn words_that_give_a_command(rt: HostRuntime) -> Result<(), Fail> {
         (&["trace", "0065535", "sw=1"], 65535, "sw=1"),
         (&["equal", "p", "q"], 0, "q"),
         (&["check", "p", "q"], 0, "q"),
+        (&["apart", "p", "a", "b"], 0, "b"),
+        (&["waypoint", "p", "a", "w", "b"], 0, "b"),
+        (&["check_apart", "p", "a", "b"], 0, "b"),
+        (&["check_waypoint", "p", "a", "w", "b"], 0, "b"),
         (
             &["fly", "2147483646", "1000000", "sw=1"],
             2147483646,
@@ -53,7 +65,7 @@ fn words_that_give_a_command(rt: HostRuntime) -> Result<(), Fail> {
 
 #[test]
 fn words_that_give_no_command(rt: HostRuntime) -> Result<(), Fail> {
-    let table: [&[&str]; 18] = [
+    let table: [&[&str]; 20] = [
         &[],
         &["compile"],
         &["compile", "p", "q"],
@@ -72,6 +84,8 @@ fn words_that_give_no_command(rt: HostRuntime) -> Result<(), Fail> {
         &["check", "p"],
         &["check", "p", "q", "r"],
         &["fly", "1", "1"],
+        &["apart", "p", "a", "w", "b"],
+        &["check_waypoint", "p", "a", "b"],
     ];
     for words in table {
         assert!(rt; command_in(rt.alloc(), words)?.is_none());

@@ -35,9 +35,9 @@ pub enum Command {
     Apart(Bytes, Bytes, Bytes),
     /// `waypoint NAME A W B`: whether each history of the policy that does has a packet of W.
     Waypoint(Bytes, Bytes, Bytes, Bytes),
-    /// `check_apart NAME A B`: what is found of a certificate that `apart` asks for.
+    /// `check_apart NAME A B`: what is found of a certificate that no history of the policy does.
     CheckApart(Bytes, Bytes, Bytes),
-    /// `check_waypoint NAME A W B`: what is found of a certificate that `waypoint` asks for.
+    /// `check_waypoint NAME A W B`: what is found of a certificate that each history of the policy that does has a packet of W.
     CheckWaypoint(Bytes, Bytes, Bytes, Bytes),
 }
 

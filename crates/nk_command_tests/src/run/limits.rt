@@ -6,7 +6,7 @@ use std::test::Fail;
 
 /// Lines `let NAMEI = P` for I from 1 to `last`, behind `let NAME0 = FIRST`: P is the policy before, then the
 /// sign, and behind that the policy before again, where it is to stand twice.
-fn chain(
+pub(super) fn chain(
     alloc: Global,
     name: &str,
     first: &str,

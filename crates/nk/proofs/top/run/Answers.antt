@@ -1,5 +1,5 @@
 use Rattle.nk.specs.Ends.{Ends}
-use Rattle.nk.proofs.Endings.{caused, complete}
+use Rattle.nk.proofs.Endings.{caused, complete, no_command}
 use Rattle.nk.proofs.top.run.Goals as goal
 
 -- all of them follow from how the run ends
@@ -20,3 +20,12 @@ returns-clause-complete g c =
       delivered = c.deliver.ensures.delivered;
     } in
     complete _ _ _ _ _ ends
+
+pub returns-clause-usage : goal.returns-clause-usage
+returns-clause-usage g c =
+    let ends : Ends _ _ _ _ c.deliver.result = record {
+      answer = _;
+      meant = c.decide-reply.ensures.meant;
+      delivered = c.deliver.ensures.delivered;
+    } in
+    no_command _ _ _ _ _ ends
