@@ -250,7 +250,7 @@ fn questions_at_the_limits(rt: HostRuntime) -> Result<(), Fail> {
     for (words, answer) in refused {
         assert!(rt; comes_to(alloc, words, &large, Status::Refused, b"", answer)?);
     }
-    let deep = chain(alloc, "a", "id", 255, false, ";id")?;
+    let deep = chain(alloc, "a", "id", 255, false, "*")?;
     let deep = joined(alloc, &[&deep, b"let z = id\nlet n = drop\n"])?;
     let words: &[&str] = &["apart", "a255", "z", "n"];
     assert!(rt; comes_to(alloc, words, &deep, Status::Done, START, b"")?);
