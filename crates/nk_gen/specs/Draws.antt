@@ -1,0 +1,29 @@
+-- The generator of draws: the minimal standard of Park and Miller (Communications of the ACM 31, 1988) with the multiplier
+-- of Park, Miller and Stockmeyer (Communications of the ACM 36, 1993).
+use Rattle.std.specs.Prelude.{ℕ, zero, suc, ◌+◌, ◌*◌, ◌%◌, List, [], ◌∷◌, take, drop, slice_index}
+
+-- the draw after this one
+abbrev pub next_draw : ℕ → ℕ
+next_draw x = (48271 * x) % 2147483647
+
+-- so many draws behind a seed, in their order
+abbrev pub draws : ℕ → ℕ → List ℕ
+draws seed zero = []
+draws seed (suc n) = next_draw seed ∷ draws (next_draw seed) n
+
+-- all draws of a network of so many switches: one for the home of each switch, then one for the chord of each switch, then
+-- the key
+abbrev pub all_draws : ℕ → ℕ → List ℕ
+all_draws size seed = draws seed (2 * size + 1)
+
+-- the draws for homes, switch by switch
+abbrev pub home_draws : ℕ → ℕ → List ℕ
+home_draws size seed = take size (all_draws size seed)
+
+-- the draws for chords, switch by switch
+abbrev pub chord_draws : ℕ → ℕ → List ℕ
+chord_draws size seed = take size (drop size (all_draws size seed))
+
+-- the key: the draw behind these
+abbrev pub key : ℕ → ℕ → ℕ
+key size seed = slice_index (all_draws size seed) (2 * size)

@@ -1,0 +1,4 @@
+pub mod Draws
+pub mod Network
+pub mod Text
+pub mod Flags
