@@ -2,6 +2,8 @@
 #![tactic(auto)]
 
 mod drawn;
+#[cfg(test)]
+mod generated;
 mod network;
 mod program;
 mod text;
