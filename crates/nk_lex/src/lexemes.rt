@@ -108,13 +108,13 @@ fn lexeme(
     ensures fits { IfOk result (λ p. (0 < p.0) × (p.0 ≤ length bytes.now)) }
 {
     let [first, rest @ ..] = bytes else {
-        return Err(LexError::NoMemory);
+        unreachable!()
     };
     match front_at(*first, rest) {
         Front::Blank(len) => Ok((len, None)),
         Front::Name(len) => match word(alloc, &bytes[..len], at, line) {
             Ok(token) => Ok((len, Some(token))),
-            Err(_) => Err(LexError::NoMemory),
+            Err(AllocError) => Err(LexError::NoMemory),
         },
         Front::Number(len) => match number(alloc, &bytes[..len], at, line) {
             Ok(token) => Ok((len, Some(token))),

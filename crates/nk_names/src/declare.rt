@@ -156,8 +156,9 @@ fn with_switch(
     let mut topo = topo;
     match topo.add_switch(number, ports.as_slice()) {
         Ok(()) => Ok(Names { fields, topo, lets }),
+        Err(TopoError::NoMemory) => Err(NamesError::NoMemory),
         // The switch is new, and no port stands twice.
-        Err(_) => Err(NamesError::NoMemory),
+        Err(_) => unreachable!(),
     }
 }
 
@@ -179,7 +180,8 @@ fn with_link(names: Names, a: Number, m: Number, b: Number, n: Number) -> Result
         Err(TopoError::NoSuchPort(LinkEnd::Target)) => (FaultKind::NoSuchPort, n.line),
         Err(TopoError::SourceTwice) => (FaultKind::SourceTwice, m.line),
         Err(TopoError::TargetTwice) => (FaultKind::TargetTwice, n.line),
-        Err(_) => return Err(NamesError::NoMemory),
+        Err(TopoError::NoMemory) => return Err(NamesError::NoMemory),
+        Err(TopoError::SwitchTwice | TopoError::PortTwice) => unreachable!(),
     };
     Err(NamesError::Fault { kind, line })
 }

@@ -119,8 +119,9 @@ fn with_switch(
     let mut topo = topo;
     match topo.add_switch(number, numbers.as_slice()) {
         Ok(()) => Ok(Names { fields, topo }),
+        Err(TopoError::NoMemory) => Err(ReadError::NoMemory),
         // The switch is new, and no port stands twice.
-        Err(_) => Err(ReadError::NoMemory),
+        Err(_) => unreachable!(),
     }
 }
 
@@ -153,7 +154,8 @@ fn with_link(names: Names, a: Number, m: Number, b: Number, n: Number) -> Result
         Err(TopoError::NoSuchPort(LinkEnd::Target)) => n.line,
         Err(TopoError::SourceTwice) => m.line,
         Err(TopoError::TargetTwice) => n.line,
-        Err(_) => return Err(ReadError::NoMemory),
+        Err(TopoError::NoMemory) => return Err(ReadError::NoMemory),
+        Err(TopoError::SwitchTwice | TopoError::PortTwice) => unreachable!(),
     };
     Err(ReadError::TableFault { line })
 }
