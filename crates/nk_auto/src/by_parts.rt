@@ -19,7 +19,7 @@ use std::alloc::AllocError;
 /// order. It is the automaton of each policy of which these are the parts and whose dups are numbered in text order. The
 /// plain way: each part is drawn alone, so what several dups have behind them is drawn once for each of them. The only
 /// error is that memory ran out.
-pub fn automaton_of_parts(st: &mut Store, parts: &Parts) -> Result<List<Id>, AllocError>
+pub fn automaton(st: &mut Store, parts: &Parts) -> Result<List<Id>, AllocError>
     ensures grows { Grows st.old st.new }
     ensures ok { IfOk result (λ rows. (p : Policy) (first : ℕ) → AreParts parts.now p → IsDrawable st.old p first →
         IsAutomaton st.new rows first p) }

@@ -9,9 +9,9 @@ mod rows;
 mod silence;
 mod states;
 
-pub use by_parts::automaton_of_parts;
+pub use by_parts::automaton;
 pub use going_on::continued;
 pub use making::diagram;
 pub use rows::continued_with_rows;
 pub use silence::silent;
-pub use states::automaton;
+pub use states::policy_automaton;

@@ -16,7 +16,7 @@ use std::alloc::{AllocError, Global};
 /// The automaton of a policy whose dups are numbered from `first` on in text order: the start's diagram, then one for
 /// each dup, ascending. A diagram sends to target 0 the packets at which the policy ends without a record, and to
 /// target l those that it records next, at its dup l. The only error is that memory ran out.
-pub fn automaton(st: &mut Store, p: &Pol, first: u32) -> Result<List<Id>, AllocError>
+pub fn policy_automaton(st: &mut Store, p: &Pol, first: u32) -> Result<List<Id>, AllocError>
     requires from { 1 ≤ first }
     requires numbered { marked_from (tree_of p.now) first ≡ tree_of p.now }
     requires few { first + dups_of (tree_of p.now) ≤ 2 ^ 32 }

@@ -8,7 +8,7 @@ ghost use Rattle.nk_auto.specs.Continued.{IsFit};
 ghost use Rattle.nk_cert.specs.Levelled.{IsAutomatonOfBoth};
 
 use nk_algebra::union;
-use nk_auto::automaton;
+use nk_auto::policy_automaton;
 use nk_field::List;
 use nk_policy::{Pol, dups};
 use nk_store::{Id, Store};
@@ -37,8 +37,8 @@ pub fn automaton_of_both(st: &mut Store, p: &Pol, q: &Pol) -> Result<Both, Alloc
     ensures ok { IfOk result (λ b. (fields : FieldTable) → IsOver fields st.old
         → IsAutomatonOfBoth fields st.new b.rows b.left b.right (tree_of p.now) (tree_of q.now)) }
 {
-    let mut rows = automaton(st, p, 1)?;
-    let others = automaton(st, q, number_behind(p))?;
+    let mut rows = policy_automaton(st, p, 1)?;
+    let others = policy_automaton(st, q, number_behind(p))?;
     let left = *rows.at(0);
     let right = *others.at(0);
     let start = union(st, left, right)?;

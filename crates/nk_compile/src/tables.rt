@@ -21,7 +21,7 @@ use crate::refusal::{CompileError, Refusal};
 use crate::sight::seen;
 use crate::tagging::tag_tables;
 use crate::wrong_ends::wrong_ends;
-use nk_auto::automaton;
+use nk_auto::policy_automaton;
 use nk_determ::{SetId, Sets};
 use nk_field::{Fid, Fields, List};
 use nk_policy::Pol;
@@ -94,7 +94,7 @@ fn numbers(ss: &Sets, lv: &Levels, max: u64) -> Result<List<SetId>, CompileError
     ensures err { IfErr result (IsTagFault lv.now.levels max) }
 {
     match number(ss, lv, max) {
-        Ok(tags) => Ok(tags),
+        Ok(tags) => Ok(tags.sets),
         Err(e) => Err(fault(e)),
     }
 }
@@ -152,7 +152,7 @@ fn tables_of(
     let _few = fields.declared();
     let _switches = topo.switches();
     let mut st = Store::new(alloc, fields)?;
-    let rows = automaton(&mut st, p, 1)?;
+    let rows = policy_automaton(&mut st, p, 1)?;
     tables_from(&mut st, topo, tag, p, rows.as_slice())
 }
 

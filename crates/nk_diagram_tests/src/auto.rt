@@ -1,6 +1,6 @@
 //! The diagrams of small policies.
 use nk_algebra::identity;
-use nk_auto::{automaton, continued, diagram, silent};
+use nk_auto::{continued, diagram, policy_automaton, silent};
 use nk_field::{Fid, Fields, Packet};
 use nk_policy::{Pol, Pols};
 use nk_store::Store;
@@ -62,7 +62,7 @@ fn two_states_of_a_dup(rt: HostRuntime) -> Result<(), Fail> {
     let alloc = rt.alloc();
     let fields = Fields::new(alloc)?;
     let mut st = Store::new(alloc, &fields)?;
-    let states = automaton(&mut st, &Pol::Dup(1), 1)?;
+    let states = policy_automaton(&mut st, &Pol::Dup(1), 1)?;
     assert_eq!(rt; states.len(), 2);
     Ok(())
 }

@@ -1,7 +1,7 @@
 //! The automaton of a policy over many switches takes memory linear in the policy.
 
 use crate::numbered::{MOST_DUPS, numbered};
-use nk_auto::automaton;
+use nk_auto::policy_automaton;
 use nk_field::{Fid, Fields};
 use nk_policy::{Pol, Pols, dups};
 use nk_store::Store;
@@ -85,7 +85,7 @@ fn nodes_and_states(alloc: Global, switches: u16) -> Result<(usize, usize), Fail
         return Ok((0, 0));
     }
     let p = numbered(alloc, &raw)?;
-    let states = automaton(&mut st, &p, 1)?;
+    let states = policy_automaton(&mut st, &p, 1)?;
     Ok((st.len(), states.len()))
 }
 

@@ -9,7 +9,7 @@ ghost use Rattle.nk_deriv.specs.Part.{NegatesPredicates, AllNegatePredicates};
 
 use crate::draws::{Draws, policy};
 use crate::numbered::{MOST_DUPS, numbered};
-use nk_auto::{automaton, automaton_of_parts};
+use nk_auto::{automaton, policy_automaton};
 use nk_deriv::derivatives::parts;
 use nk_determ::split;
 use nk_field::{Fid, Fields, History, List, Packet};
@@ -256,8 +256,8 @@ fn both_automata(alloc: Global, st: &mut Store, p: &Pol) -> Result<(List<Id>, Li
     requires few { 1 + dups_of (tree_of p.now) ≤ 2 ^ 32 }
     ensures { IfOk result (λ r. AreIds st.new r.0 × AreIds st.new r.1) }
 {
-    let by_parts = automaton_of_parts(st, &parts(alloc, p)?)?;
-    let by_policy = automaton(st, p, 1)?;
+    let by_parts = automaton(st, &parts(alloc, p)?)?;
+    let by_policy = policy_automaton(st, p, 1)?;
     Ok((by_policy, by_parts))
 }
 

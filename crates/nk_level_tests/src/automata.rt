@@ -11,7 +11,7 @@ ghost use Rattle.nk_reach.specs.Pairs.{AreRows};
 ghost use Rattle.nk_tag.specs.Numbers.{AreEntries};
 
 use nk_algebra::empty;
-use nk_auto::automaton;
+use nk_auto::policy_automaton;
 use nk_determ::{SetId, Sets};
 use nk_field::{Fid, List};
 use nk_policy::{Pol, dups, is_predicate, marked};
@@ -74,7 +74,7 @@ fn drawn(st: &mut Store, p: &Pol) -> Result<List<Id>, AllocError>
     ensures grows { Grows st.old st.new }
     ensures rows { IfOk result (λ rows. AreRows st.new rows) }
 {
-    let rows = automaton(st, p, 1)?;
+    let rows = policy_automaton(st, p, 1)?;
     Ok(rows)
 }
 

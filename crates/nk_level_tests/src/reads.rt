@@ -1,9 +1,8 @@
 //! What levels hold.
 use nk_determ::{SetId, Sets};
-use nk_field::List;
 use nk_reach::Levels;
 use nk_store::Id;
-use nk_tag::NumberError;
+use nk_tag::{NumberError, Tags};
 
 /// Whether the set has these labels.
 pub fn has_labels(ss: &Sets, s: SetId, labels: &[u64]) -> bool {
@@ -32,6 +31,6 @@ pub fn is_level_of(ss: &Sets, lv: &Levels, i: usize, labels: &[u64], x: Id) -> b
 }
 
 /// Whether there were no numbers since two sets are more than may be.
-pub fn is_one_too_many(r: Result<List<SetId>, NumberError>) -> bool {
+pub fn is_one_too_many(r: Result<Tags, NumberError>) -> bool {
     r.err() == Some(NumberError::TooManyTags { found: 2 })
 }

@@ -25,7 +25,7 @@ pub fn are_two(ss: &Sets, lv: &Levels, first: u64, second: u64) -> Result<bool, 
     if lv.broken() {
         return Ok(false);
     }
-    let ids = number(ss, lv, 7)?;
+    let ids = number(ss, lv, 7)?.sets;
     Ok(
         ids.len() == 2
             && has_labels(ss, *ids.at(0), &[first])

@@ -14,14 +14,21 @@ use nk_reach::Levels;
 use nk_store::Id;
 use std::alloc::{AllocError, Global};
 
+/// The sets that tags stand for: tag t's at place t - 1.
+#[derive(Drop)]
+pub struct Tags {
+    /// The sets in the order of the tags, each once.
+    pub sets: List<SetId>,
+}
+
 /// The sets at odd levels, each once: by the first odd level that names them, inside a level by their members in
 /// dictionary order; there are at most `max`. Where there are more, the error tells one more than that.
-pub fn number(ss: &Sets, lv: &Levels, max: u64) -> Result<List<SetId>, NumberError>
+pub fn number(ss: &Sets, lv: &Levels, max: u64) -> Result<Tags, NumberError>
     requires not_broken { lv.now.broken ≡ false }
     requires entries { AreEntries ss.now lv.now.levels }
     requires below_last { max + 1 < 2 ^ 64 }
-    ensures ok { IfOk result (λ r. AreNumbers ss.now lv.now.levels r) }
-    ensures few { IfOk result (λ r. length r ≤ max) }
+    ensures ok { IfOk result (λ t. AreNumbers ss.now lv.now.levels t.sets) }
+    ensures few { IfOk result (λ t. length t.sets ≤ max) }
     ensures err { IfErr result (λ e. IsFault lv.now.levels max e) }
 {
     let alloc = lv.levels.alloc();
@@ -32,8 +39,8 @@ pub fn number(ss: &Sets, lv: &Levels, max: u64) -> Result<List<SetId>, NumberErr
             return Err(NumberError::TooManyTags { found: max + 1 });
         }
     }
-    let ids = set_ids(alloc, all.as_slice())?;
-    Ok(ids)
+    let sets = set_ids(alloc, all.as_slice())?;
+    Ok(Tags { sets })
 }
 
 /// The sets at levels behind the first one, each once: by the first of these levels that names them, inside a level by their

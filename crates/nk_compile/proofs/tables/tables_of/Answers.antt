@@ -7,8 +7,8 @@ pub tables_from-requires : goal.tables_from-requires
 tables_from-requires c = record {
   begun = (
     c.args.fields.now,
-    begun_is c.args.fields.now c.args.topo.now c.args.tag (tree_of c.args.p.now) c.in_ok-st.st c.automaton.new.st c.in_ok-rows.rows c.as_slice.result.now
-        c.declared-few.ensures.is c.requires.tag c.switches-switches.ensures.is c.requires.numbered c.requires.seen c.in_ok-st.ensures.over c.automaton.ensures.grows
+    begun_is c.args.fields.now c.args.topo.now c.args.tag (tree_of c.args.p.now) c.in_ok-st.st c.policy_automaton.new.st c.in_ok-rows.rows c.as_slice.result.now
+        c.declared-few.ensures.is c.requires.tag c.switches-switches.ensures.is c.requires.numbered c.requires.seen c.in_ok-st.ensures.over c.policy_automaton.ensures.grows
         c.in_ok-rows.ensures.ok c.as_slice.ensures c.requires.complements c.requires.range c.requires.room,
   );
 }
@@ -16,13 +16,13 @@ tables_from-requires c = record {
 pub returns-clause-made : goal.returns-clause-made
 returns-clause-made c =
     IfOk-weaker c.tables_from.result _ _ (λ ts made. made c.args.fields.now (
-    begun_is c.args.fields.now c.args.topo.now c.args.tag (tree_of c.args.p.now) c.in_ok-st.st c.automaton.new.st c.in_ok-rows.rows c.as_slice.result.now
-    c.declared-few.ensures.is c.requires.tag c.switches-switches.ensures.is c.requires.numbered c.requires.seen c.in_ok-st.ensures.over c.automaton.ensures.grows
+    begun_is c.args.fields.now c.args.topo.now c.args.tag (tree_of c.args.p.now) c.in_ok-st.st c.policy_automaton.new.st c.in_ok-rows.rows c.as_slice.result.now
+    c.declared-few.ensures.is c.requires.tag c.switches-switches.ensures.is c.requires.numbered c.requires.seen c.in_ok-st.ensures.over c.policy_automaton.ensures.grows
     c.in_ok-rows.ensures.ok c.as_slice.ensures c.requires.complements c.requires.range c.requires.room)) c.tables_from.ensures.made
 
 pub returns-clause-error : goal.returns-clause-error
 returns-clause-error c =
     IfErr-weaker c.tables_from.result _ _ (λ e why. why c.args.fields.now (
-    begun_is c.args.fields.now c.args.topo.now c.args.tag (tree_of c.args.p.now) c.in_ok-st.st c.automaton.new.st c.in_ok-rows.rows c.as_slice.result.now
-    c.declared-few.ensures.is c.requires.tag c.switches-switches.ensures.is c.requires.numbered c.requires.seen c.in_ok-st.ensures.over c.automaton.ensures.grows
+    begun_is c.args.fields.now c.args.topo.now c.args.tag (tree_of c.args.p.now) c.in_ok-st.st c.policy_automaton.new.st c.in_ok-rows.rows c.as_slice.result.now
+    c.declared-few.ensures.is c.requires.tag c.switches-switches.ensures.is c.requires.numbered c.requires.seen c.in_ok-st.ensures.over c.policy_automaton.ensures.grows
     c.in_ok-rows.ensures.ok c.as_slice.ensures c.requires.complements c.requires.range c.requires.room)) c.tables_from.ensures.error

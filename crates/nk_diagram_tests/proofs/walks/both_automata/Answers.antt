@@ -7,7 +7,7 @@ use Rattle.nk_diagram_tests.proofs.walks.both_automata.Goals as goal
 pub returns : goal.returns
 returns c =
     let p = tree_of c.args.p.now in
-    let fit = subst (λ m. IsFit m p) (sym c.automaton_of_parts.ensures.grows.maxes) c.requires.fit in (
-      automaton_ids c.automaton.new.st c.in_ok-by_policy.by_policy p (c.in_ok-by_policy.ensures.ok fit),
-      λ k lt. c.automaton.ensures.grows.ids _ (c.in_ok-by_parts.ensures.ids k lt),
+    let fit = subst (λ m. IsFit m p) (sym c.automaton.ensures.grows.maxes) c.requires.fit in (
+      automaton_ids c.policy_automaton.new.st c.in_ok-by_policy.by_policy p (c.in_ok-by_policy.ensures.ok fit),
+      λ k lt. c.policy_automaton.ensures.grows.ids _ (c.in_ok-by_parts.ensures.ids k lt),
     )

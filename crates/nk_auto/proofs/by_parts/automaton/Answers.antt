@@ -3,7 +3,7 @@ use Rattle.nk_policy.specs.Tree.{tree_of}
 use Rattle.nk_store.proofs.Stores.{grows_on}
 use Rattle.nk_auto.specs.OfParts.{AreOfParts}
 use Rattle.nk_auto.proofs.OfParts.{part_grow, parts_automaton, all_ids}
-use Rattle.nk_auto.proofs.by_parts.automaton_of_parts.Goals as goal
+use Rattle.nk_auto.proofs.by_parts.automaton.Goals as goal
 
 pub returns-clause-ok : goal.returns-clause-ok
 returns-clause-ok c = λ p first are draw.

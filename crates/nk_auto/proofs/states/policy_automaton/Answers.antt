@@ -5,7 +5,7 @@ use Rattle.nk_algebra.specs.Seqs.{no_out}
 use Rattle.nk_auto.specs.Continued.{IsFit}
 use Rattle.nk_auto.proofs.Made.{leaves_grow}
 use Rattle.nk_auto.proofs.Stating.{automaton_is}
-use Rattle.nk_auto.proofs.states.automaton.Goals as goal
+use Rattle.nk_auto.proofs.states.policy_automaton.Goals as goal
 
 pub returns-clause-ok : goal.returns-clause-ok
 returns-clause-ok c = λ fit.
