@@ -11,7 +11,7 @@ use crate::messages::refusal_message;
 use crate::program_text::{ReadText, read_program};
 use nk_compile::{CompileError, compile};
 use nk_names::Program;
-use nk_readback::laws::compiled_tables_are_printable;
+use nk_readback::laws::{compiled_tables_are_in_order, compiled_tables_are_printable};
 use nk_tabtext::{printed_tables_are_read, table_text};
 use std::alloc::{AllocError, Global};
 
@@ -31,7 +31,8 @@ fn answer_to_program(alloc: Global, name: &str, program: &Program) -> Result<Sai
     requires declared { IsDeclared (said_by program.now) }
     ensures { IfOk result (λ s. ToProgram (said_by program.now) name.now (said s)) }
 {
-    // These two are laws: what is compiled is such as is read back, and that is read back.
+    // These are laws: what is compiled is in order, and such as is read back, and that is read back.
+    compiled_tables_are_in_order();
     compiled_tables_are_printable();
     printed_tables_are_read();
     match compile(alloc, program, name) {

@@ -156,9 +156,8 @@ fn with_switch(
     let mut topo = topo;
     match topo.add_switch(number, ports.as_slice()) {
         Ok(()) => Ok(Names { fields, topo, lets }),
-        Err(TopoError::NoMemory) => Err(NamesError::NoMemory),
         // The switch is new, and no port stands twice.
-        Err(_) => unreachable!(),
+        Err(_) => Err(NamesError::NoMemory),
     }
 }
 

@@ -2,6 +2,7 @@
 use Rattle.std.proofs.Common.{◌≡◌, ℕ, zero, suc, ◌≤◌, Option, Some, List, [], length, sym, ap, subst, ◌∙◌, arith}
 use Rattle.std.specs.Prelude.{All, AllPairs, is_some, map, slice_index}
 use Rattle.std.proofs.lemmas.Option.{slice_get_within}
+use Rattle.nk_field.specs.Act.{AscendsFrom}
 use Rattle.nk_field.specs.Packet.{FieldTable, IsFieldTable}
 use Rattle.nk_field.proofs.Lists.{In, in_mapped, from_mapped, from_joined, contains_from_in}
 use Rattle.nk_field.proofs.Ascending.{all_from_members, members_from_all}
@@ -20,19 +21,22 @@ use Rattle.nk_names.specs.ReadBack.{IsWritable}
 use Rattle.nk_names.specs.Topologies.{IsDeclarable}
 use Rattle.nk_table.specs.declared.Group.{Group}
 use Rattle.nk_table.specs.declared.Plain.{Plain}
+use Rattle.nk_table.specs.declared.Row.{Row}
 use Rattle.nk_table.specs.declared.Table.{Table}
 use Rattle.nk_table.specs.declared.Tables.{Tables}
+use Rattle.nk_tabtext.specs.InOrder.{IsTargetInOrder, IsTableInOrder, AreInOrder}
 use Rattle.nk_tabtext.specs.ReadBack.{IsGroupOf, IsRowOf, IsPrintable, IsTableOf as IsTextTable}
 use Rattle.nk_extract.specs.RuleTree.{rows_for}
 use Rattle.nk_group.specs.Groups.{rows_after, groups_of}
 use Rattle.nk_compile.specs.PrintedTable.{IsTreeOf}
 use Rattle.nk_compile.specs.WholeTable.{HasRowsAt, TagTree, rows_of_trees, IsSwitchTable, IsTableOf}
-use Rattle.nk_readback.specs.TextTables.{HasFewGroups, CompilesPrintable}
+use Rattle.nk_readback.specs.TextTables.{HasFewGroups, CompilesInOrder, CompilesPrintable}
 use Rattle.nk_compile.proofs.FewTags.{tags_fit}
 use Rattle.nk_compile.proofs.Fitting.{fronts}
 use Rattle.nk_compile.proofs.Printed.{named_in}
 use Rattle.nk_readback.proofs.SoundRows.{IsSoundRow, sound_row}
-use Rattle.nk_readback.proofs.TableGroups.{Below, groups_ok, groups_ascend, rows_ok}
+use Rattle.nk_tabtext.proofs.InOrder.{buckets_in_order, matches_in_order, targets_in_order}
+use Rattle.nk_readback.proofs.TableGroups.{Below, group_buckets_ok, groups_ok, groups_ascend, rows_ok}
 
 -- a tag with rows is one of the tags
 tag_low : (p : Policy) (tags : List (List ℕ)) (sw t : ℕ) → HasRowsAt p tags sw t → t ≤ length tags
@@ -68,6 +72,20 @@ module _ (fields : FieldTable) (tag : ℕ) (p : Policy) (tags : List (List ℕ))
             (all_from_members (IsRowOf fields (groups_of ps)) (rows_after [] ps) (rows_ok fields ps sound)));
       }
 
+  -- it is in order, however many groups it has
+  table_in_order : (u : Table) → IsSwitchTable fields tag p tags u → u.switch ≤ 65535 → IsTableInOrder u
+  table_in_order u st le =
+      let ps = rows_at st.trees in
+      let sound = rows_sound u st le in
+      let rows = all_from_members (IsRowOf fields (groups_of ps)) (rows_after [] ps) (rows_ok fields ps sound) in
+      record {
+        groups = subst (λ gs. AllPairs Below gs) (sym st.groups) (groups_ascend ps);
+        buckets = subst (λ gs. All (λ (g : Group). All (λ b. AscendsFrom 2 b.sets) g.buckets) gs) (sym st.groups)
+            (all_from_members (λ (g : Group). All (λ b. AscendsFrom 2 b.sets) g.buckets) (groups_of ps) (λ g i. buckets_in_order fields g.buckets (group_buckets_ok fields ps sound g i)));
+        matches = subst (λ rs. All (λ (r : Row). AscendsFrom 1 r.matches) rs) (sym st.rows) (matches_in_order fields (groups_of ps) (rows_after [] ps) rows);
+        targets = subst (λ rs. All (λ (r : Row). IsTargetInOrder r.target) rs) (sym st.rows) (targets_in_order fields (groups_of ps) (rows_after [] ps) rows);
+      }
+
 -- a table's switch is declared
 switch_low :
     (topo : Topology) (ts : List Table) → map (λ (u : Table). u.switch) ts ≡ map (λ (s : SwitchPorts). s.switch) topo.switches
@@ -85,6 +103,16 @@ named_in_range program name p ok named =
     let good : IsLet program.fields (tree_of l.0.1) = members_from_all (λ (k : List ℕ × Pol). IsLet program.fields (tree_of k.1)) program.lets ok.policies l.0 l.1 in
     subst (λ q. IsInRange q program.fields) l.2 good.in_range
 
+-- an accepted policy has no more tags than the tag has values
+tags_few :
+    (program : Program) (p : Policy) (t : Tables) → IsAccepted program p
+    → (printed : IsTableOf program.fields program.topo (IsStart program.fields program.topo) p t)
+    → length printed.tags ≤ slice_index program.fields.maxima printed.tag
+tags_few program p t accepted printed =
+    let fields = program.fields in
+    let most : most_tags fields fields.tag ≡ slice_index fields.maxima printed.tag = ap (most_tags fields) printed.tag_declared in
+    subst (λ n. length printed.tags ≤ n) most (tags_fit p (IsStart fields program.topo) printed.tags (most_tags fields fields.tag) printed.in_order accepted.1)
+
 -- of a policy that is accepted
 accepted_printable :
     (program : Program) (p : Policy) (t : Tables) → IsProgram program.fields program.topo program.lets
@@ -94,8 +122,7 @@ accepted_printable program p t ok writable declarable range accepted printed few
     let fields = program.fields in
     let tag = printed.tag in
     let tags = printed.tags in
-    let most : most_tags fields fields.tag ≡ slice_index fields.maxima tag = ap (most_tags fields) printed.tag_declared in
-    let many : length tags ≤ slice_index fields.maxima tag = subst (λ n. length tags ≤ n) most (tags_fit p (IsStart fields program.topo) tags (most_tags fields fields.tag) printed.in_order accepted.1) in
+    let many = tags_few program p t accepted printed in
     let same = sym printed.same_fields in
     let same_topo = sym printed.same_topology in
     record {
@@ -115,6 +142,24 @@ accepted_printable program p t ok writable declarable range accepted printed few
           (switch_low program.topo t.tables printed.switches declarable u i)
           (members_from_all (λ (v : Table). length v.groups ≤ largest) t.tables few u i)));
     }
+
+-- its tables are in order
+accepted_in_order :
+    (program : Program) (p : Policy) (t : Tables) → IsWritable program.fields → IsDeclarable program.topo → IsInRange p program.fields
+    → IsAccepted program p → IsTableOf program.fields program.topo (IsStart program.fields program.topo) p t → AreInOrder t
+accepted_in_order program p t writable declarable range accepted printed =
+    let fields = program.fields in
+    let tag = printed.tag in
+    let tags = printed.tags in
+    let many = tags_few program p t accepted printed in
+    all_from_members IsTableInOrder t.tables (λ u i.
+    table_in_order fields tag p tags writable.table printed.tag_declared range many u
+    (members_from_all (IsSwitchTable fields tag p tags) t.tables printed.each u i)
+    (switch_low program.topo t.tables printed.switches declarable u i))
+
+pub compiles_in_order : CompilesInOrder
+compiles_in_order program name t ok writable declarable compiled =
+    accepted_in_order program compiled.0 t writable declarable (named_in_range program name compiled.0 ok compiled.1) compiled.2 compiled.3
 
 pub compiles_printable : CompilesPrintable
 compiles_printable program name t ok writable declarable compiled few =

@@ -1,6 +1,6 @@
 -- The groups and rows of a table whose rows with their whole bucket lists a text can write.
 use Rattle.std.proofs.Common.{◌≡◌, ℕ, suc, ◌+◌, ◌<◌, ◌≤◌, inl, inr, ⊎_elim, Bool, true, false, cond, List, [], ◌∷◌, ◌++◌, length, refl, sym, ap, subst, arith}
-use Rattle.std.specs.Prelude.{◌==◌, ◌||◌, AllPairs}
+use Rattle.std.specs.Prelude.{◌==◌, ◌||◌, All, AllPairs}
 use Rattle.std.specs.List.{list_any, position_or_len}
 use Rattle.std.proofs.lemmas.List.Kept.{AllPairs-cons}
 use Rattle.nk_field.specs.Packet.{FieldTable}
@@ -95,6 +95,14 @@ numbered_ascend n (l ∷ ls) =
 at_most : (a b c : ℕ) → a < 1 + b → b ≤ c → a ≤ c
 at_most a b c lt le = omega (arith, lt, le)
 
+-- each has such buckets, however many groups there are
+pub group_buckets_ok :
+    (fields : FieldTable) (ps : List Plain) → ((r : Plain) → In ps r → IsSoundRow fields r)
+    → (g : Group) → In (groups_of ps) g → All (IsBucketOf fields) g.buckets
+group_buckets_ok fields ps q g i =
+    let list = numbered_lists fields 1 (lists_after [] ps) (after_ok fields [] ps (λ l j. absurd j) q) g i in
+    all_from_members (IsBucketOf fields) g.buckets list.1
+
 -- the groups of rows, of which there are not more than a text has numbers
 pub groups_ok :
     (fields : FieldTable) (ps : List Plain) → ((r : Plain) → In ps r → IsSoundRow fields r)
@@ -107,7 +115,7 @@ groups_ok fields ps q few g i =
       low = number.0;
       high = at_most g.number (length ls) largest number.1 (subst (λ n. n ≤ largest) (numbered_many 1 ls) few);
       some = list.0;
-      buckets = all_from_members (IsBucketOf fields) g.buckets list.1;
+      buckets = group_buckets_ok fields ps q g i;
     }
 
 pub groups_ascend : (ps : List Plain) → AllPairs Below (groups_of ps)

@@ -6,6 +6,7 @@ use Rattle.nk_names.specs.ProgramValue.{IsProgram}
 use Rattle.nk_names.specs.ReadBack.{IsWritable}
 use Rattle.nk_names.specs.Topologies.{IsDeclarable}
 use Rattle.nk_table.specs.declared.Tables.{Tables}
+use Rattle.nk_tabtext.specs.InOrder.{AreInOrder}
 use Rattle.nk_tabtext.specs.ReadBack.{IsPrintable}
 use Rattle.nk_compile.specs.Headline.{IsCompiled}
 
@@ -19,3 +20,9 @@ abbrev pub CompilesPrintable : Type 0
 CompilesPrintable = (program : Program) (name : List ℕ) (t : Tables)
     → IsProgram program.fields program.topo program.lets → IsWritable program.fields → IsDeclarable program.topo
     → IsCompiled program name t → HasFewGroups t → IsPrintable t
+
+-- The tables that compiling a name gives, of any number of groups, are in order.
+abbrev pub CompilesInOrder : Type 0
+CompilesInOrder = (program : Program) (name : List ℕ) (t : Tables)
+    → IsProgram program.fields program.topo program.lets → IsWritable program.fields → IsDeclarable program.topo
+    → IsCompiled program name t → AreInOrder t

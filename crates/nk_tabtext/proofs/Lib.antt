@@ -6,6 +6,7 @@ pub mod HeadKept
 pub mod HeadLines
 pub mod HeadValues
 pub mod Heads
+pub mod InOrder
 pub mod Lines
 pub mod Loops
 pub mod Marks

@@ -119,9 +119,8 @@ fn with_switch(
     let mut topo = topo;
     match topo.add_switch(number, numbers.as_slice()) {
         Ok(()) => Ok(Names { fields, topo }),
-        Err(TopoError::NoMemory) => Err(ReadError::NoMemory),
         // The switch is new, and no port stands twice.
-        Err(_) => unreachable!(),
+        Err(_) => Err(ReadError::NoMemory),
     }
 }
 

@@ -4,6 +4,7 @@
 ghost use Rattle.std.specs.Prelude.{◌≡◌, ◌++◌, IfOk, OnOk};
 ghost use Rattle.std.specs.Fmt.{decimal};
 ghost use Rattle.std.specs.List.{flat_map};
+ghost use Rattle.nk_tabtext.specs.InOrder.{AreInOrder};
 ghost use Rattle.nk_tabtext.specs.Text.{table_bytes, section_text};
 
 mod declared;
@@ -30,8 +31,10 @@ use std::alloc::{AllocError, Global};
 pub use written::ReadError;
 
 /// The printed text of tables: `tables 1`, then a line for each declared field, for the tag, each switch and each link,
-/// and the table of each switch with its groups and rows.
+/// and the table of each switch with its groups and rows. Switches, ports and links ascend, and so do groups, matches and
+/// assignments; rows stand in their order.
 pub fn table_text(alloc: Global, t: &Tables) -> Result<Vec<u8>, AllocError>
+    requires { AreInOrder t.now }
     ensures { IfOk result (λ v. v.items ≡ table_bytes t.now) }
 {
     let mut out = Vec::new(alloc);
