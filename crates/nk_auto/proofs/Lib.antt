@@ -11,3 +11,4 @@ pub mod Writing
 pub mod Stating
 pub mod Parts
 pub mod OfParts
+pub mod Tested

@@ -47,16 +47,16 @@ silent_grow old new d p g h = record {
 }
 
 -- a list of one out at most, where that ends
-ends_or_none : (b : Bool) (o : Out) → o.target ≡ 0 → Every (λ x. x.target ≡ 0) (cond b (o ∷ []) [])
+pub ends_or_none : (b : Bool) (o : Out) → o.target ≡ 0 → Every (λ x. x.target ≡ 0) (cond b (o ∷ []) [])
 ends_or_none true o e = (e, tt)
 ends_or_none false o e = tt
 
 -- outs under another name
-every_same : (P : Out → Type 0) (xs ys : List Out) → xs ≡ ys → Every P ys → Every P xs
+pub every_same : (P : Out → Type 0) (xs ys : List Out) → xs ≡ ys → Every P ys → Every P xs
 every_same P xs ys e h = subst (Every P) (sym e) h
 
 -- where an out is read, by what the leaf is
-read_out : (st : Held) (d : ℕ) (F : List ℕ → List Out) (pk y : List ℕ) (t : ℕ) → HasLeaves st d F → IsWhole pk →
+pub read_out : (st : Held) (d : ℕ) (F : List ℕ → List Out) (pk y : List ℕ) (t : ℕ) → HasLeaves st d F → IsWhole pk →
     (s : Sends st d pk y t) → Has (F pk) (out_of s.0 t)
 read_out st d F pk y t h w s = subst (λ os. Has os (out_of s.0 t)) (h.leaf pk w) (contains_has _ _ s.1)
 

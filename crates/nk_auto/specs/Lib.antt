@@ -4,3 +4,4 @@ pub mod Complements
 pub mod Continued
 pub mod Automaton
 pub mod OfParts
+pub mod Values

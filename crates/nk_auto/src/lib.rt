@@ -8,6 +8,7 @@ mod making;
 mod rows;
 mod silence;
 mod states;
+mod values;
 
 pub use by_parts::automaton;
 pub use going_on::continued;

@@ -7,6 +7,7 @@ ghost use Rattle.nk_algebra.specs.Predicates.{IsPredicate};
 ghost use Rattle.nk_auto.specs.Continued.{IsSilent};
 
 use crate::making::{set_where, test_where};
+use crate::values::{tests_of_sum, tests_together};
 use nk_algebra::{empty, identity, negate, seq, union_all};
 use nk_field::{Fid, List};
 use nk_policy::Pol;
@@ -44,13 +45,17 @@ pub fn silent_not(st: &mut Store, q: &Pol) -> Result<Id, AllocError>
     negate(st, d)
 }
 
-/// The diagram of a predicate: a predicate diagram.
+/// The diagram of a predicate: a predicate diagram. That it is one is shown by its complement's complement, but for a sum of tests of
+/// one field.
 pub fn silent_predicate(st: &mut Store, p: &Pol) -> Result<Id, AllocError>
     requires { is_predicate (tree_of p.now) ≡ true }
     ensures grows { Grows st.old st.new }
     ensures ok { IfOk result (λ d. IsSilent st.new d (tree_of p.now)) }
     ensures predicate { IfOk result (λ d. IsPredicate st.new d) }
 {
+    if let Some(together) = tests_of_sum(st, p)? {
+        return Ok(together);
+    }
     let d = silent(st, p)?;
     let others = negate(st, d)?;
     let r = negate(st, others)?;
@@ -95,12 +100,15 @@ pub fn silent_set(st: &mut Store, f: Fid, n: u64) -> Result<Id, AllocError>
     set_where(st, f, n)
 }
 
-/// Those of a sum's parts together.
+/// Those of a sum's parts together; tests of one field at once.
 #[cycle(silent)]
 fn silent_any(st: &mut Store, ps: &[Pol]) -> Result<Id, AllocError>
     ensures grows { Grows st.old st.new }
     ensures ok { IfOk result (λ d. IsSilent st.new d (sum_of (trees_of ps.now))) }
 {
+    if let Some(together) = tests_together(st, ps)? {
+        return Ok(together);
+    }
     let mut ids = List::new(st.alloc());
     let mut i = ps.len();
     while i > 0 {

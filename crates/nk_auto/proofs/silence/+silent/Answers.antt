@@ -1,7 +1,8 @@
-use Rattle.std.proofs.Common.{◌≡◌, [], arith, sym, subst, drop}
+use Rattle.std.proofs.Common.{◌≡◌, ℕ, Option, [], arith, sym, subst, drop}
+use Rattle.std.specs.Prelude.{IfSome}
 use Rattle.std.proofs.lemmas.Bool.Decides.{nat_tests}
 use Rattle.std.proofs.lemmas.Result.{IfOk-weaker}
-use Rattle.nk_policy.specs.Policy.{seq_of}
+use Rattle.nk_policy.specs.Policy.{sum_of, seq_of}
 use Rattle.nk_policy.specs.Tree.{tree_of, trees_of}
 use Rattle.nk_store.specs.Held.{HasLeaves}
 use Rattle.nk_store.proofs.Stores.{grows_on}
@@ -19,6 +20,10 @@ silent_any-loop-i-preserved t c = record {
   made = subst (AreOf IsSilent c.silent.new.st c.push.new.self) (sym (trees_before c.args.ps.now c.loop-i.i c.index-ps-i.result c.loop-i-test.true c.loop-i.invariant.within c.index-ps-i.is))
       (one_more_of IsSilent silent_grow c.loop-i.st c.silent.new.st c.loop-i.ids c.push.new.self (trees_of (drop c.loop-i.i c.args.ps.now)) c.in_ok-d.d (tree_of c.index-ps-i.result) c.silent.ensures.grows c.in_ok-push.ensures.ok c.loop-i.invariant.made c.in_ok-d.ensures.ok);
 }
+
+pub silent_any-returns-in-Some-clause-ok : goal.silent_any-returns-in-Some-clause-ok
+silent_any-returns-in-Some-clause-ok t c =
+    subst (λ (o : Option ℕ). IfSome o (λ d. IsSilent c.tests_together.new.st d (sum_of (trees_of c.args.ps.now)))) c.in-Some.is c.in_ok-together.ensures.ok
 
 pub silent_any-union_all-requires : goal.silent_any-union_all-requires
 silent_any-union_all-requires t c =

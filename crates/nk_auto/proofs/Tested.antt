@@ -1,0 +1,224 @@
+-- Sums of tests of one field, and nodes that pass some values.
+use Rattle.std.proofs.Common.{◌≡◌, ℕ, ◌+◌, ◌-◌, ◌<◌, ◌≤◌, min, inl, inr, ⊎_elim, Bool, true, false, cond, eqb, List, [], ◌∷◌, ◌++◌, length, take, append-nil, refl, sym, ap, subst, ◌∙◌, arith}
+use Rattle.std.specs.Prelude.{slice_index, ◌||◌}
+use Rattle.std.specs.List.{list_any}
+use Rattle.std.specs.List.Sorted.{IsPermutation}
+use Rattle.std.proofs.lemmas.Bool.Decides.{nat_tests, eqb_tells, leb_tells}
+use Rattle.std.proofs.lemmas.List.{take_more}
+use Rattle.std.proofs.lemmas.List.Folds.{list_any-append}
+use Rattle.std.proofs.lemmas.List.Sorted.{list_any-IsPermutation}
+use Rattle.nk_policy.specs.Policy.{Policy, Policies, test, sum_of, no_part, part}
+use Rattle.nk_policy.proofs.Tests.{false_true, or_left, or_right, or_cases}
+use Rattle.nk_store.specs.declared.node.Out.{Out}
+use Rattle.nk_store.specs.Nodes.{child_at, InRange}
+use Rattle.nk_store.specs.Held.{Held, IsWhole, look, Grows, HasLeaves, IsChild}
+use Rattle.nk_store.proofs.Stores.{grows_same}
+use Rattle.nk_algebra.specs.Predicates.{IsPass, IsPredicate}
+use Rattle.nk_algebra.specs.Seqs.{no_out}
+use Rattle.nk_algebra.specs.Unions.{HaveParts}
+use Rattle.nk_algebra.proofs.Built.{Built, built_push, built_parts, built_leaf}
+use Rattle.nk_auto.specs.Plain.{Sends}
+use Rattle.nk_auto.specs.Continued.{IsSilent}
+use Rattle.nk_auto.specs.Values.{KeepsWhere, value_leaf, IsConstant, gap}
+use Rattle.nk_auto.proofs.Made.{leaves_grow}
+use Rattle.nk_auto.proofs.Means.{one_of, is_one, clipped}
+use Rattle.nk_auto.proofs.Sending.{out_of}
+use Rattle.nk_auto.proofs.Silences.{every_same, ends_or_none, read_out, out_sends, kept_out}
+
+or_none : (b : Bool) → b || (false || false) ≡ b
+or_none true = refl
+or_none false = refl
+
+-- one value more is found
+this_value : (vs : List ℕ) (x v : ℕ) → v ≡ x → list_any (eqb v) (vs ++ x ∷ []) ≡ true
+this_value vs x v e =
+    list_any-append (eqb v) vs (x ∷ [])
+    ∙ or_right (list_any (eqb v) vs) (eqb v x || false) (or_left (eqb v x) false (grind (arith, nat_tests, e)))
+
+-- another value is found where it was
+other_value : (vs : List ℕ) (x v : ℕ) → (v ≡ x → ⊥) → list_any (eqb v) (vs ++ x ∷ []) ≡ list_any (eqb v) vs
+other_value vs x v other = elim (eqb_tells v x) [
+  | inl same ↦ absurd (other same.1)
+  | inr differ ↦ list_any-append (eqb v) vs (x ∷ []) ∙ ap (λ b. list_any (eqb v) vs || (b || false)) differ.0 ∙ or_none (list_any (eqb v) vs)
+]
+
+-- no test keeps a packet
+pub keeps_none : (f : ℕ) → KeepsWhere f [] (sum_of no_part)
+keeps_none f pk y = (λ g. absurd g, λ c. absurd (false_true c.0))
+
+-- one test more
+pub keeps_more : (f n : ℕ) (values more : List ℕ) (p : Policy) (ps : Policies) → more ≡ values ++ n ∷ [] → p ≡ test f n →
+    KeepsWhere f values (sum_of ps) → KeepsWhere f more (sum_of (part p ps))
+keeps_more f n values more p ps pushed is keeps =
+    subst (λ vs. KeepsWhere f vs (sum_of (part p ps))) (sym pushed)
+    (subst (λ q. KeepsWhere f (values ++ n ∷ []) (sum_of (part q ps))) (sym is) both)
+  where
+    either : (v : ℕ) → list_any (eqb v) (values ++ n ∷ []) ≡ list_any (eqb v) values || (eqb v n || false)
+    either v = list_any-append (eqb v) values (n ∷ [])
+
+    tested : (v : ℕ) → eqb v n || false ≡ true → v ≡ n
+    tested v e = elim (or_cases (eqb v n) false e) [
+      | inl same ↦ grind (arith, nat_tests, same)
+      | inr never ↦ absurd (false_true never)
+    ]
+
+    both : KeepsWhere f (values ++ n ∷ []) (sum_of (part (test f n) ps))
+    both pk y = (
+      λ g.
+          ⊎_elim
+          (λ h. (this_value values n (slice_index pk f) h.0, h.2))
+          (λ h.
+          let k = (keeps pk y).0 h in
+          (either (slice_index pk f) ∙ or_left (list_any (eqb (slice_index pk f)) values) (eqb (slice_index pk f) n || false) k.0, k.1))
+          g,
+      λ c.
+          ⊎_elim
+          (λ h. inr ((keeps pk y).1 (h, c.1)))
+          (λ h. inl (tested (slice_index pk f) h, refl, c.1))
+          (or_cases (list_any (eqb (slice_index pk f)) values) (eqb (slice_index pk f) n || false) (sym (either (slice_index pk f)) ∙ c.0)),
+    )
+
+-- the same values in another order
+pub keeps_moved : (f : ℕ) (xs ys : List ℕ) (p : Policy) → IsPermutation xs ys → KeepsWhere f xs p → KeepsWhere f ys p
+keeps_moved f xs ys p moved keeps pk y =
+    let same = list_any-IsPermutation (eqb (slice_index pk f)) xs ys moved in (
+      λ g. let k = (keeps pk y).0 g in (sym same ∙ k.0, k.1),
+      λ c. (keeps pk y).1 (same ∙ c.0, c.1),
+    )
+
+-- the diagram of a policy that keeps packets by the values of a field
+pub values_silent : (st : Held) (maxes : List ℕ) (d f : ℕ) (values : List ℕ) (p : Policy) → st.maxes ≡ maxes →
+    HasLeaves st d (λ pk. value_leaf values (min (slice_index pk f) (slice_index maxes f))) → KeepsWhere f values p →
+    IsSilent st d p
+values_silent st maxes d f values p same h keeps = record {
+  id = h.id;
+  ends = λ pk w. every_same _ _ _ (h.leaf pk w) (ends_or_none (list_any (eqb (min (slice_index pk f) (slice_index maxes f))) values) no_out refl);
+  sends = λ fit pk y t r.
+      let here : InRange maxes pk = subst (λ m. InRange m pk) same r in
+      let found : list_any (eqb (min (slice_index pk f) (slice_index maxes f))) values ≡ list_any (eqb (slice_index pk f)) values =
+      ap (λ v. list_any (eqb v) values) (clipped maxes pk f here) in (
+        λ s.
+            let one = one_of (list_any (eqb (min (slice_index pk f) (slice_index maxes f))) values) no_out (out_of s.0 t) (read_out st d _ pk y t h r.0 s) in
+            let kept = kept_out s.0 t pk y one.1 s.2 in
+            (kept.0, (keeps pk y).1 (sym found ∙ one.0, kept.1)),
+        λ s.
+            let k = (keeps pk y).0 s.1 in
+            let sent : Sends st d pk pk 0 = out_sends st d _ pk [] 0 h r.0 (is_one (list_any (eqb (min (slice_index pk f) (slice_index maxes f))) values) no_out (found ∙ k.0)) in
+            subst (λ x. Sends st d pk x t) (sym k.1) (subst (λ u. Sends st d pk pk u) (sym s.0) sent),
+      );
+}
+
+-- and it is a predicate
+pub values_pass : (st : Held) (d : ℕ) (values : List ℕ) (F : List ℕ → ℕ) → HasLeaves st d (λ pk. value_leaf values (F pk)) →
+    IsPredicate st d
+values_pass st d values F h = λ pk w. subst IsPass (sym (h.leaf pk w)) (one_or_none (list_any (eqb (F pk)) values))
+  where
+    one_or_none : (b : Bool) → IsPass (cond b (no_out ∷ []) [])
+    one_or_none true = (refl, refl)
+    one_or_none false = tt
+
+-- a diagram with one leaf has it in a store that grew
+pub constant_grow : (old new : Held) (d : ℕ) (outs : List Out) → Grows old new → IsConstant old d outs → IsConstant new d outs
+constant_grow old new d outs g k = record { leaves = leaves_grow old new d _ g k.leaves; top_is = g.tops d k.leaves.id ∙ k.top_is }
+
+-- it is a child of each field's nodes
+constant_child : (st : Held) (f d : ℕ) (outs : List Out) → f < 18 → IsConstant st d outs → IsChild st f d
+constant_child st f d outs h k = record { id = k.leaves.id; later = omega (arith, k.top_is, h) }
+
+-- parts that give what R does give what S does
+built_same : (R S : ℕ → List ℕ → List Out) (st : Held) (f to : ℕ) (ps : List (ℕ × ℕ)) →
+    ((v : ℕ) (pk : List ℕ) → v < to → R v pk ≡ S v pk) → Built R st f to ps → Built S st f to ps
+built_same R S st f to ps same b =
+    record { ends = b.ends; children = b.children; leaf = λ v pk w l. b.leaf v pk w l ∙ same v pk l }
+
+-- a part for the values below x
+built_gap : (R : ℕ → List ℕ → List Out) (st : Held) (f from x d : ℕ) (ps : List (ℕ × ℕ)) → Built R st f from ps → from ≤ x →
+    IsChild st f d → ((v : ℕ) (pk : List ℕ) → IsWhole pk → from ≤ v → v < x → look st d pk ≡ R v pk) →
+    Built R st f x (ps ++ gap from x d)
+built_gap R st f from x d ps b le child serves = elim (leb_tells x from) [
+  | inl none ↦
+      let same : from ≡ x = omega (arith, none.1, le) in
+      subst (λ c. Built R st f x (ps ++ cond c [] ((x - 1, d) ∷ []))) (sym none.0)
+      (subst (λ l. Built R st f x l) (sym (append-nil ps)) (subst (λ n. Built R st f n ps) same b))
+  | inr some ↦
+      let next : (x - 1) + 1 ≡ x = omega (arith, some.1) in
+      subst (λ c. Built R st f x (ps ++ cond c [] ((x - 1, d) ∷ []))) (sym some.0)
+      (subst (λ n. Built R st f n (ps ++ (x - 1, d) ∷ [])) next
+      (built_push R st st f from ps d (x - 1) b (grows_same st) (omega (arith, some.1)) child (λ v pk w l m. serves v pk w l (omega (arith, m, some.1)))))
+]
+
+-- each of the values is below from
+abbrev pub AreBelow : ℕ → List ℕ → Type 0
+AreBelow from vs = (v : ℕ) → from ≤ v → list_any (eqb v) vs ≡ false
+
+-- so is one more below the next
+pub below_more : (from x : ℕ) (vs : List ℕ) → from ≤ x → AreBelow from vs → AreBelow (x + 1) (vs ++ x ∷ [])
+below_more from x vs le below v l = other_value vs x v (λ e. omega (arith, e, l)) ∙ below v (omega (arith, l, le))
+
+-- the leaf of each of the values
+abbrev pub by_value : List ℕ → ℕ → List ℕ → List Out
+by_value vs v pk = value_leaf vs v
+
+-- parts up to one value more
+pub value_built : (st : Held) (f from x inside outside : ℕ) (vs : List ℕ) (ps : List (ℕ × ℕ)) → f < 18 → from ≤ x →
+    IsConstant st inside (no_out ∷ []) → IsConstant st outside [] → AreBelow from vs → Built (by_value vs) st f from ps →
+    Built (by_value (vs ++ x ∷ [])) st f (x + 1) ((ps ++ gap from x outside) ++ (x, inside) ∷ [])
+value_built st f from x inside outside vs ps h le i o below b =
+    let R = by_value (vs ++ x ∷ []) in
+    let leaf : Bool → List Out = λ c. cond c (no_out ∷ []) [] in
+    let first : Built R st f from ps = built_same (by_value vs) R st f from ps (λ v pk l. ap leaf (sym (other_value vs x v (λ e. omega (arith, e, l, le))))) b in
+    let gapped : Built R st f x (ps ++ gap from x outside) =
+    built_gap R st f from x outside ps first le (constant_child st f outside [] h o)
+    (λ v pk w l m. o.leaves.leaf pk w ∙ ap leaf (sym (other_value vs x v (λ e. omega (arith, e, m)) ∙ below v l))) in
+    built_push R st st f x (ps ++ gap from x outside) inside x gapped (grows_same st) (omega arith) (constant_child st f inside (no_out ∷ []) h i)
+    (λ v pk w l m. i.leaves.leaf pk w ∙ ap leaf (sym (this_value vs x v (omega (arith, l, m)))))
+
+-- what is put for the value at a place
+pub value_step : (st : Held) (f from i inside outside : ℕ) (values : List ℕ) (ps mid more : List (ℕ × ℕ)) → f < 18 → i < length values →
+    from ≤ slice_index values i → IsConstant st inside (no_out ∷ []) → IsConstant st outside [] → AreBelow from (take i values) →
+    mid ≡ ps ++ gap from (slice_index values i) outside → more ≡ mid ++ (slice_index values i, inside) ∷ [] →
+    Built (by_value (take i values)) st f from ps → Built (by_value (take (i + 1) values)) st f (slice_index values i + 1) more
+value_step st f from i inside outside values ps mid more h l le a o below first second b =
+    let x = slice_index values i in
+    let put : more ≡ (ps ++ gap from x outside) ++ (x, inside) ∷ [] = second ∙ ap (λ qs. qs ++ (x, inside) ∷ []) first in
+    subst (λ vs. Built (by_value vs) st f (x + 1) more) (sym (take_more values i 0 l))
+    (subst (λ qs. Built (by_value (take i values ++ x ∷ [])) st f (x + 1) qs) (sym put) (value_built st f from x inside outside (take i values) ps h le a o below b))
+
+-- the values up to the place are below the next one
+pub below_step : (from i : ℕ) (values : List ℕ) → i < length values → from ≤ slice_index values i → AreBelow from (take i values) →
+    AreBelow (slice_index values i + 1) (take (i + 1) values)
+below_step from i values l le below =
+    subst (AreBelow (slice_index values i + 1)) (sym (take_more values i 0 l)) (below_more from (slice_index values i) (take i values) le below)
+
+-- parts up to the field's largest value
+pub rest_built : (st : Held) (f from most outside : ℕ) (vs : List ℕ) (ps : List (ℕ × ℕ)) → f < 18 → from ≤ most →
+    IsConstant st outside [] → AreBelow from vs → Built (by_value vs) st f from ps →
+    Built (by_value vs) st f (most + 1) (ps ++ (most, outside) ∷ [])
+rest_built st f from most outside vs ps h le o below b =
+    built_push (by_value vs) st st f from ps outside most b (grows_same st) le (constant_child st f outside [] h o)
+    (λ v pk w l m. o.leaves.leaf pk w ∙ ap (λ c. cond c (no_out ∷ []) []) (sym (below v l)))
+
+-- parts for all values of the field
+pub values_parts : (st : Held) (f most : ℕ) (vs : List ℕ) (ps : List (ℕ × ℕ)) → f < 18 → most ≡ slice_index st.maxes f →
+    Built (by_value vs) st f (most + 1) ps → HaveParts st f (λ v pk. value_leaf vs (min v (slice_index st.maxes f))) ps
+values_parts st f most vs ps h is b =
+    let R = λ (v : ℕ) (pk : List ℕ). value_leaf vs (min v (slice_index st.maxes f)) in
+    let clip : Built R st f (most + 1) ps =
+    built_same (by_value vs) R st f (most + 1) ps (λ v pk l. let e : v ≡ min v (slice_index st.maxes f) = omega (arith, l, is) in ap (value_leaf vs) e) b in
+    record {
+      parts = built_parts R st f most ps clip h is;
+      leaf = built_leaf R st f most ps clip
+          (λ v pk l. let e : min v (slice_index st.maxes f) ≡ min most (slice_index st.maxes f) = omega (arith, l, is) in ap (value_leaf vs) e);
+    }
+
+-- the node of these parts
+pub values_case : (old st new : Held) (f r : ℕ) (values : List ℕ) (ps : List (ℕ × ℕ)) → Grows old st →
+    HaveParts st f (λ v pk. value_leaf values (min v (slice_index st.maxes f))) ps →
+    HasLeaves new r (λ pk. look st (child_at 0 ps (slice_index pk f)) pk) →
+    HasLeaves new r (λ pk. value_leaf values (min (slice_index pk f) (slice_index old.maxes f)))
+values_case old st new f r values ps g parts h = record {
+  id = h.id;
+  leaf = λ pk w.
+      h.leaf pk w ∙ parts.leaf (slice_index pk f) pk w
+      ∙ ap (λ ms. value_leaf values (min (slice_index pk f) (slice_index ms f))) g.maxes;
+}

@@ -1,0 +1,152 @@
+//! A sum of tests of one field, as one node.
+ghost use Rattle.std.specs.Prelude.{◌≡◌, ◌<◌, ◌≤◌, ◌++◌, [], ◌∷◌, min, slice_index, IfOk, IfSome, OnOk};
+ghost use Rattle.nk_policy.specs.Policy.{test, sum_of};
+ghost use Rattle.nk_policy.specs.Tree.{tree_of, trees_of};
+ghost use Rattle.nk_store.specs.Held.{Grows, HasLeaves};
+ghost use Rattle.nk_algebra.specs.Predicates.{IsPredicate};
+ghost use Rattle.nk_algebra.specs.Seqs.{no_out};
+ghost use Rattle.nk_algebra.specs.Unions.{HaveParts};
+ghost use Rattle.nk_auto.specs.Continued.{IsSilent};
+ghost use Rattle.nk_auto.specs.Values.{KeepsWhere, value_leaf, IsConstant, gap};
+
+use nk_algebra::{empty, identity};
+use nk_field::{Fid, List};
+use nk_policy::Pol;
+use nk_store::{Id, Store};
+use std::alloc::{AllocError, Global};
+
+/// The diagram of a sum of three or more tests of one field, each of another value: a predicate. None for another policy.
+#[tactic(auto, using(nk_policy::proofs::Trees::tree_of_sum))]
+pub(crate) fn tests_of_sum(st: &mut Store, p: &Pol) -> Result<Option<Id>, AllocError>
+    ensures grows { Grows st.old st.new }
+    ensures ok { IfOk result (λ o. IfSome o (λ d. IsSilent st.new d (tree_of p.now))) }
+    ensures predicate { IfOk result (λ o. IfSome o (λ d. IsPredicate st.new d)) }
+{
+    match p {
+        Pol::Sum(ps) => tests_together(st, ps.as_slice()),
+        _ => Ok(None),
+    }
+}
+
+/// The same by the parts of a sum.
+pub(crate) fn tests_together(st: &mut Store, ps: &[Pol]) -> Result<Option<Id>, AllocError>
+    ensures grows { Grows st.old st.new }
+    ensures ok { IfOk result (λ o. IfSome o (λ d. IsSilent st.new d (sum_of (trees_of ps.now)))) }
+    ensures predicate { IfOk result (λ o. IfSome o (λ d. IsPredicate st.new d)) }
+{
+    if ps.len() < 3 {
+        return Ok(None);
+    }
+    match &ps[0] {
+        Pol::Test(f, _) => tests_of(st, *f, ps),
+        _ => Ok(None),
+    }
+}
+
+/// The same of tests of this field.
+fn tests_of(st: &mut Store, f: Fid, ps: &[Pol]) -> Result<Option<Id>, AllocError>
+    ensures grows { Grows st.old st.new }
+    ensures ok { IfOk result (λ o. IfSome o (λ d. IsSilent st.new d (sum_of (trees_of ps.now)))) }
+    ensures predicate { IfOk result (λ o. IfSome o (λ d. IsPredicate st.new d)) }
+{
+    match tested_values(st.alloc(), f, ps)? {
+        Some(values) => values_where(st, f, values.as_slice()),
+        None => Ok(None),
+    }
+}
+
+/// The values of tests of the field, ascending.
+fn tested_values(alloc: Global, f: Fid, ps: &[Pol]) -> Result<Option<List<u64>>, AllocError>
+    ensures { IfOk result (λ o. IfSome o (λ values. KeepsWhere f values (sum_of (trees_of ps.now)))) }
+{
+    let mut found = List::new(alloc);
+    let mut i = ps.len();
+    while i > 0 {
+        i -= 1;
+        let Some(n) = tested_value(&ps[i], f) else {
+            return Ok(None);
+        };
+        found.push(n)?;
+    }
+    let mut values = found.into_vec();
+    values.sort_unstable();
+    Ok(Some(List::from_vec(values)))
+}
+
+/// The value of a test of the field.
+fn tested_value(p: &Pol, f: Fid) -> Option<u64>
+    ensures { IfSome result (λ n. tree_of p.now ≡ test f n) }
+{
+    match p {
+        Pol::Test(g, n) => { if *g == f { Some(*n) } else { None } }
+        _ => None,
+    }
+}
+
+/// The packet itself where the field has one of the values. None where these don't ascend strictly, up to the field's largest
+/// value at most.
+fn values_where(st: &mut Store, f: Fid, values: &[u64]) -> Result<Option<Id>, AllocError>
+    ensures grows { Grows st.old st.new }
+    ensures ok { IfOk result (λ o. IfSome o (λ d. HasLeaves st.new d
+        (λ pk. value_leaf values.now (min (slice_index pk f) (slice_index st.old.maxes f))))) }
+{
+    let _place = f.place();
+    let outside = empty(st)?;
+    let inside = identity(st)?;
+    match value_parts(st, f, values, inside, outside)? {
+        Some(parts) => {
+            let d = st.case(f, parts)?;
+            Ok(Some(d))
+        }
+        None => Ok(None),
+    }
+}
+
+/// The parts by the field, with one child at these values and another one elsewhere, put in one pass.
+fn value_parts(
+    st: &Store,
+    f: Fid,
+    values: &[u64],
+    inside: Id,
+    outside: Id,
+) -> Result<Option<List<(u64, Id)>>, AllocError>
+    requires field { f < 18 }
+    requires inside { IsConstant st.now inside (no_out ∷ []) }
+    requires outside { IsConstant st.now outside [] }
+    ensures { IfOk result (λ o. IfSome o
+        (HaveParts st.now f (λ v pk. value_leaf values.now (min v (slice_index st.now.maxes f))))) }
+{
+    let max = st.max(f);
+    let mut parts = List::new(st.alloc());
+    let mut from = 0;
+    for i in 0..values.len() {
+        let v = values[i];
+        if v < from {
+            return Ok(None);
+        }
+        if v > max {
+            return Ok(None);
+        }
+        push_gap(&mut parts, from, v, outside)?;
+        parts.push((v, inside))?;
+        if v == max {
+            if i + 1 < values.len() {
+                return Ok(None);
+            }
+            return Ok(Some(parts));
+        }
+        from = v + 1;
+    }
+    parts.push((max, outside))?;
+    Ok(Some(parts))
+}
+
+/// Puts the part for the values from low on that are below high, if there are any.
+fn push_gap(parts: &mut List<(u64, Id)>, low: u64, high: u64, d: Id) -> Result<(), AllocError>
+    ensures { OnOk result (parts.new ≡ parts.old ++ gap low high d) }
+{
+    if low < high {
+        parts.push((high - 1, d))?;
+    }
+    Ok(())
+}
