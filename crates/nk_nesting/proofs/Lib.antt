@@ -1,0 +1,6 @@
+pub mod Counting
+pub mod Following
+pub mod Limits
+pub mod Nested
+pub mod CertifiedFollowing
+pub mod CertifiedLimits

@@ -1,0 +1,4 @@
+pub mod Counts
+pub mod Limit
+pub mod Certificates
+pub mod Instances
