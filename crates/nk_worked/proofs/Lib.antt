@@ -1,0 +1,10 @@
+pub mod Crossing
+pub mod Leaving
+pub mod Packets
+pub mod Program
+pub mod Rows
+pub mod States
+pub mod Tables
+pub mod TagSet
+pub mod Text
+pub mod Trees

@@ -1,0 +1,3 @@
+pub mod TheirTable
+pub mod TwoSwitches
+pub mod WorkedRows

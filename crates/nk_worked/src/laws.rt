@@ -1,0 +1,18 @@
+//! What the laws on tables and on rows ask can be met where something happens: two switches and one link, and a tree whose
+//! rows have a drop row and a group.
+ghost use Rattle.nk_worked.specs.TheirTable.{IsPrintedThere, IsAcceptedThere, LeavesAfterOneCrossing, IsPrintedSo};
+ghost use Rattle.nk_worked.specs.WorkedRows.{HasDropRowAndGroup};
+
+/// Two switches and one link: the tables are those that are printed for a policy over the link, which a program has and
+/// which is accepted, with one tag. A packet that enters leaves after one crossing, and not before. The tables' text.
+pub fn two_switches_and_one_link()
+    ensures compilable { IsPrintedThere }
+    ensures accepted { IsAcceptedThere }
+    ensures leaves { LeavesAfterOneCrossing }
+    ensures text { IsPrintedSo }
+{}
+
+/// A tree whose rows have one that drops, and a group that two of them share.
+pub fn a_drop_row_and_a_group()
+    ensures { HasDropRowAndGroup }
+{}
