@@ -16,5 +16,6 @@ pub mod ReadCertified
 pub mod ReadText
 pub mod Reply
 pub mod Status
+pub mod Succeeding
 pub mod Tracing
 pub mod Use

@@ -6,6 +6,7 @@ ghost use Rattle.nk.specs.Use.{use_of};
 ghost use Rattle.nk.specs.Ends.{Ends, IsCaused, IsComplete, IsMeant, IsMeantTo};
 ghost use Rattle.nk.specs.Ends.{LeavesAlone, TellsFaults};
 ghost use Rattle.nk.specs.Reply.{answer_in, said, IsReplyTo};
+ghost use Rattle.nk.specs.Succeeding.{Succeeds};
 
 use crate::Status;
 use crate::asking::{apart_query, ask_answer, waypoint_query};
@@ -46,6 +47,12 @@ pub fn run<S: Source, O: Sink, E: Sink>(
         (use_of E.taken E.faults err.old err.new) result }
     // Where nothing failed, the answer that is fixed went out, or memory ran out.
     ensures complete { IsComplete (texts words.now)
+        (use_of S.left S.faults source.old source.new)
+        (use_of O.taken O.faults out.old out.new)
+        (use_of E.taken E.faults err.old err.new) result }
+    // Where nothing failed, it ends with `Done` exactly where the bytes are such that the command is done, and with `Differs` exactly
+    // where they are such that it differs, or for want of memory.
+    ensures succeeds { Succeeds (texts words.now)
         (use_of S.left S.faults source.old source.new)
         (use_of O.taken O.faults out.old out.new)
         (use_of E.taken E.faults err.old err.new) result }

@@ -1,0 +1,4 @@
+pub mod Outcomes
+pub mod Following
+pub mod Named
+pub mod Answers
