@@ -1,5 +1,5 @@
 -- How many tag sets a policy has, and what is answered beside the printed tables.
-use Rattle.std.specs.Prelude.{◌≡◌, ℕ, ⊤, Some, List, length, Result, Ok, Err}
+use Rattle.std.specs.Prelude.{◌≡◌, ℕ, Some, List, length, Result, Ok, Err}
 use Rattle.nk_topo.specs.Topology.{Topology}
 use Rattle.nk_field.specs.Packet.{FieldTable}
 use Rattle.nk_policy.specs.Policy.{Policy}
@@ -8,10 +8,9 @@ use Rattle.nk_names.specs.declared.Program.{Program}
 use Rattle.nk_names.specs.Accepted.{IsStart, IsAccepted}
 use Rattle.nk_names.specs.Named.{policy_named}
 use Rattle.nk_compile.specs.declared.refusal.CompileError.{CompileError}
-use Rattle.nk_compile.specs.declared.refusal.CompileError.TheVariants.{NoMemory, Refused}
 use Rattle.nk_compile.specs.declared.counted.Counted.{Counted}
+use Rattle.nk_compile.specs.Answers.{IsNoAnswer}
 use Rattle.nk_compile.specs.Headline.{IsCompiled}
-use Rattle.nk_compile.specs.Refusals.{IsRefused}
 
 -- there are so many tag sets: the list of all of them in order, each once, is so long
 abbrev pub HasTagSets : FieldTable → Topology → Policy → ℕ → Type 0
@@ -24,11 +23,6 @@ HasTagCount program name n =
     × (policy_named program name ≡ Some p)
     × IsAccepted program p
     × HasTagSets program.fields program.topo p n
-
--- the first reason to refuse the name; want of memory may come at any
-abbrev pub IsNoAnswer : Program → List ℕ → CompileError → Type 0
-IsNoAnswer program name NoMemory = ⊤
-IsNoAnswer program name (Refused r) = IsRefused program name r
 
 -- the tables with the number of the tag sets, or why there are none
 abbrev pub IsCountedAnswer : Program → List ℕ → Result Counted CompileError → Type 0
