@@ -8,6 +8,8 @@ pub mod Declarable
 pub mod Ends
 pub mod Flying
 pub mod Following
+pub mod Generating
+pub mod JobSteps
 pub mod Judging
 pub mod Messages
 pub mod Outcome

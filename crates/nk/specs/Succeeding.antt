@@ -1,5 +1,5 @@
 -- Which status is exactly the answer to which bytes, by command: what `Done` stands for, and what `Differs` does.
-use Rattle.std.specs.Prelude.{◌≡◌, ◌⊎◌, ◌≤◌, ◌+◌, ℕ, true, List, length, Some, Ok, slice_index}
+use Rattle.std.specs.Prelude.{◌≡◌, ◌⊎◌, ◌≤◌, ◌+◌, ℕ, ⊤, Bool, true, false, List, length, codes, Some, Ok, slice_index}
 use Rattle.nk_field.specs.declared.packet.Packet.{Packet}
 use Rattle.nk_field.specs.Texts.{packet_of}
 use Rattle.nk_topo.specs.Topology.{is_port}
@@ -7,6 +7,7 @@ use Rattle.nk_policy.specs.After.{drop_policy}
 use Rattle.nk_policy.specs.Policy.{Policy, marked_from, dups_of}
 use Rattle.nk_names.specs.declared.Program.{Program}
 use Rattle.nk_names.specs.ProgramOf.{said_by}
+use Rattle.nk_gen.specs.Text.{generated}
 use Rattle.nk_table.specs.declared.Tables.{Tables}
 use Rattle.nk_tabtext.specs.Values.{tables_of}
 use Rattle.nk_compile.specs.Headline.{IsAcceptedByName}
@@ -17,10 +18,10 @@ use Rattle.nk_query.specs.Answers.{IsNamedQuestion, asked_policy}
 use Rattle.nk_words.specs.Words.{command_of}
 use Rattle.nk_words.specs.declared.words.Command.{Command}
 use Rattle.nk_words.specs.declared.words.Command.TheVariants.{Compile, Trace, Equal, Check, Fly}
-use Rattle.nk_words.specs.declared.words.Command.TheVariants.{Apart, Waypoint, CheckApart, CheckWaypoint}
+use Rattle.nk_words.specs.declared.words.Command.TheVariants.{Apart, Waypoint, CheckApart, CheckWaypoint, Gen, Job}
 use Rattle.nk.specs.declared.status.Status.{Status}
 use Rattle.nk.specs.declared.status.Status.TheVariants.{Done, Differs, NoMemory}
-use Rattle.nk.specs.Answer.{limit}
+use Rattle.nk.specs.Answer.{limit, reads}
 use Rattle.nk.specs.CertifiedText.{HoldsCertificate}
 use Rattle.nk.specs.Comparing.{AreNamed}
 use Rattle.nk.specs.ProgramText.{Declares}
@@ -68,6 +69,12 @@ pub record HasCertifiedQuestion (asked : Asked) (bytes : List ℕ) (Property : P
   pub named : IsNamedQuestion program asked question
   pub holds : Property program question certificate
 
+-- the bytes are a program's text that accepts its policies `go` and `cast`, and this holds of its policies `go` and `same`
+pub record HasJob (bytes : List ℕ) (Property : Program → Policy → Policy → Type 0) : Type 0 where
+  pub go : AcceptsNamed (codes "go") bytes
+  pub cast : AcceptsNamed (codes "cast") bytes
+  pub compared : HavePolicies (codes "go") (codes "same") bytes Property
+
 -- the bytes are a table text, and the word gives a packet at one of its ports
 pub record HasLocated (word bytes : List ℕ) : Type 0 where
   pub tables : Tables
@@ -103,6 +110,8 @@ IsDone (Apart name from target) bytes = HasQuestion (apart name from target) byt
 IsDone (Waypoint name from middle target) bytes = HasQuestion (waypoint name from middle target) bytes IsUnbroken
 IsDone (CheckApart name from target) bytes = HasCertifiedQuestion (apart name from target) bytes IsCertified
 IsDone (CheckWaypoint name from middle target) bytes = HasCertifiedQuestion (waypoint name from middle target) bytes IsCertified
+IsDone (Gen size seed) bytes = ⊤
+IsDone (Job size seed) bytes = HasJob (generated size seed) GiveSame
 
 -- the command differs over these bytes: the policies don't give the same histories, some history breaks the query, or what the
 -- text holds is no certificate
@@ -119,6 +128,8 @@ IsOtherwise (CheckApart name from target) bytes =
     HasCertifiedQuestion (apart name from target) bytes (λ program x c. ¬ IsCertified program x c)
 IsOtherwise (CheckWaypoint name from middle target) bytes =
     HasCertifiedQuestion (waypoint name from middle target) bytes (λ program x c. ¬ IsCertified program x c)
+IsOtherwise (Gen size seed) bytes = ⊥
+IsOtherwise (Job size seed) bytes = HasJob (generated size seed) (λ program p q. ¬ GiveSame program p q)
 
 -- the status is `Done` exactly where the command is done over these bytes, and `Differs` exactly where it differs, but for want of
 -- memory
@@ -128,8 +139,13 @@ pub record IsExact (command : Command) (bytes : List ℕ) (s : Status) : Type 0 
   pub differs : IsOtherwise command bytes → (s ≡ Differs) ⊎ (s ≡ NoMemory)
   pub differs_only : s ≡ Differs → IsOtherwise command bytes
 
--- where the words are a command, the source tells that it has these bytes left, at most as many as an input has, and no count rose
+-- the bytes are all that the source tells to have left, at most as many as an input has, where the command reads; else any
+abbrev pub IsGiven : Bool → Use → List ℕ → Type 0
+IsGiven true source bytes = (source.old ≡ Some bytes) × (length bytes ≤ limit)
+IsGiven false source bytes = ⊤
+
+-- where the words are a command, these bytes are given to it, and no count rose
 abbrev pub Succeeds : List (List ℕ) → Use → Use → Use → Status → Type 0
 Succeeds words source out err s = (command : Command) (bytes : List ℕ)
-    → command_of words ≡ Some command → source.old ≡ Some bytes → length bytes ≤ limit
+    → command_of words ≡ Some command → IsGiven (reads command) source bytes
     → ¬ HasRisen source → ¬ HasRisen out → ¬ HasRisen err → IsExact command bytes s

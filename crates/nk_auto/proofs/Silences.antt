@@ -1,10 +1,12 @@
 -- Diagrams of the runs without a record: leaves, complements, sequences and stars.
-use Rattle.std.proofs.Common.{◌≡◌, ℕ, zero, suc, ◌+◌, ◌≤◌, ◌↔◌, inl, ⊎_elim, Bool, true, false, cond, eqb, leb, min, List, [], ◌∷◌, refl, sym, ap, subst, ◌∙◌, arith}
+use Rattle.std.proofs.Common.{◌≡◌, ℕ, zero, suc, ◌+◌, ◌≤◌, ◌↔◌, inl, ⊎_elim, Bool, true, false, cond, eqb, leb, min, List, [], ◌∷◌, refl, sym, ap, subst, ◌∙◌, arith, drop}
 use Rattle.std.specs.Prelude.{slice_index}
 use Rattle.std.proofs.lemmas.Bool.Decides.{nat_tests}
 use Rattle.nk_field.specs.Act.{applied}
 use Rattle.nk_policy.specs.Policy.{Policy, Policies, test, assign, seq_of, not_of, star_of, dup, link, no_part, part, is_predicate}
 use Rattle.nk_policy.specs.Meaning.{Gives, way_of, rounds}
+use Rattle.nk_policy.specs.Tree.{tree_of, trees_of}
+use Rattle.nk_policy.specs.declared.policy.Pol.{Pol}
 use Rattle.nk_store.specs.declared.node.Out.{Out}
 use Rattle.nk_store.specs.Leaves.{Every}
 use Rattle.nk_store.specs.Nodes.{InRange}
@@ -181,6 +183,28 @@ cons_silent st new d rest r p ps tidy g a b h ends = record {
             sends_seq st new d rest r pk k.0 y 0 t tidy g a.id b.id h range.0 ((a.sends fit_first pk k.0 0 before).1 (refl, k.1)) ((b.sends fit_rest k.0 y t z_in).1 (s.0, k.2)),
       );
 }
+
+-- parts that always record do so behind another one
+none_behind : (st : Held) (d : ℕ) (p : Policy) (ps : Policies) → HasLeaves st d (λ pk. []) → IsSilent st d (seq_of ps) →
+    IsSilent st d (seq_of (part p ps))
+none_behind st d p ps h b = record {
+  id = b.id;
+  ends = b.ends;
+  sends = λ fit pk y t range. (
+    λ s. absurd (read_out st d _ pk y t h range.0 s),
+    λ s.
+        let k = gives_cons p ps pk y s.1 in
+        let z_in = gives_in_range st.maxes p fit.1.0 pk k.0 k.1 range in
+        absurd (read_out st d _ k.0 y 0 h z_in.0 ((b.sends (fit.0.1, fit.1.1) k.0 y 0 z_in).1 (refl, k.2))),
+  );
+}
+
+-- and behind others
+pub none_at_end : (st : Held) (d : ℕ) (ps : List Pol) (i : ℕ) → HasLeaves st d (λ pk. []) →
+    IsSilent st d (seq_of (trees_of (drop i ps))) → IsSilent st d (seq_of (trees_of ps))
+none_at_end st d ps zero h b = b
+none_at_end st d [] (suc i) h b = b
+none_at_end st d (p ∷ ps) (suc i) h b = none_behind st d (tree_of p) (trees_of ps) h (none_at_end st d ps i h b)
 
 -- the complement of a predicate
 pub not_silent : (st new : Held) (d r : ℕ) (p : Policy) → Grows st new → IsSilent st d p →

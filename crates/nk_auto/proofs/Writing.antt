@@ -2,7 +2,7 @@
 use Rattle.std.proofs.Common.{◌≡◌, ◌≢◌, ℕ, zero, suc, ◌+◌, ◌-◌, ◌<◌, ◌≤◌, inl, inr, ⊎_elim, Bool, true, false, List, [], ◌∷◌, length, refl, sym, ap, subst, ◌∙◌, arith, length-set, get_or-set_other, get_or-set_same}
 use Rattle.std.specs.Prelude.{slice_index, slice_set, ◌==◌, ◌||◌, if◌then◌else◌}
 use Rattle.std.proofs.lemmas.Bool.Decides.{leb_tells}
-use Rattle.nk_policy.specs.Policy.{Policy, Policies, test, assign, sum_of, seq_of, not_of, star_of, dup, link, no_part, part, is_predicate}
+use Rattle.nk_policy.specs.Policy.{Policy, Policies, test, assign, sum_of, seq_of, not_of, star_of, dup, link, no_part, part, is_predicate, dups_of, dups_of_all}
 use Rattle.nk_policy.specs.After.{id_policy, drop_policy, has_dup, some_has_dup, after, after_some, after_all, after_dup, after_link}
 use Rattle.nk_policy.proofs.Tests.{false_true, or_cases, both_false, same_number, same_from, next_number}
 use Rattle.nk_store.specs.Held.{Held, IsId, Grows}
@@ -40,6 +40,28 @@ not_written st rows base p k = none_written st rows base (not_of p) k (λ fit l 
 pub predicate_written : (st : Held) (rows : List ℕ) (base : ℕ) (p : Policy) (k : ℕ) → is_predicate p ≡ true →
     AreWritten st rows rows base p k
 predicate_written st rows base p k h = none_written st rows base p k (λ fit l has. predicate_holds_none p l h has)
+
+-- a policy of which no dup is counted holds none
+mutual
+  no_dup : (p : Policy) (l : ℕ) → dups_of p ≡ 0 → has_dup p l ≡ false
+  no_dup (test f n) l none = refl
+  no_dup (assign f n) l none = refl
+  no_dup (sum_of ps) l none = no_dup_among ps l none
+  no_dup (seq_of ps) l none = no_dup_among ps l none
+  no_dup (not_of p) l none = no_dup p l none
+  no_dup (star_of p) l none = no_dup p l none
+  no_dup (dup k) l none = absurd (omega (arith, none))
+  no_dup (link a m b n k) l none = absurd (omega (arith, none))
+
+  no_dup_among : (ps : Policies) (l : ℕ) → dups_of_all ps ≡ 0 → some_has_dup ps l ≡ false
+  no_dup_among no_part l none = refl
+  no_dup_among (part p ps) l none =
+      ap (λ c. c || some_has_dup ps l) (no_dup p l (omega (arith, none))) ∙ no_dup_among ps l (omega (arith, none))
+
+pub dupless_written : (st : Held) (rows : List ℕ) (base : ℕ) (p : Policy) (k : ℕ) → dups_of p ≡ 0 →
+    AreWritten st rows rows base p k
+dupless_written st rows base p k none =
+    none_written st rows base p k (λ fit l has. false_true (sym (no_dup p l none) ∙ has))
 
 pub empty_sum_written : (st : Held) (rows : List ℕ) (base k : ℕ) → AreWritten st rows rows base (sum_of no_part) k
 empty_sum_written st rows base k = none_written st rows base (sum_of no_part) k (λ fit l has. false_true has)

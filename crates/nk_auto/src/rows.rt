@@ -11,7 +11,7 @@ use crate::going_on::{
 };
 use nk_algebra::union_all;
 use nk_field::List;
-use nk_policy::Pol;
+use nk_policy::{Pol, dups};
 use nk_store::{Id, Store};
 use std::alloc::AllocError;
 
@@ -63,8 +63,93 @@ fn star_with_rows(
     ensures written { OnOk result (AreWritten st.new rows.old rows.new base (star_of (tree_of q.now)) next) }
 {
     let again = continued_star(st, q, next)?;
-    let _first = continued_with_rows(st, q, again, base, rows)?;
+    write_rows(st, q, again, base, rows)?;
     Ok(again)
+}
+
+/// The rows of a policy's dups alone, as `continued_with_rows` writes them. The first part of a sequence isn't drawn where it
+/// has no dup.
+#[cycle(with_rows)]
+#[tactic(auto, using(nk_policy::proofs::Trees::tree_of_sum, nk_policy::proofs::Trees::tree_of_seq, crate::proofs::Writing::test_written, crate::proofs::Writing::set_written, crate::proofs::Writing::not_written))]
+fn write_rows(
+    st: &mut Store,
+    p: &Pol,
+    next: Id,
+    base: u32,
+    rows: &mut List<Id>,
+) -> Result<(), AllocError>
+    requires { IsId st.old next }
+    ensures grows { Grows st.old st.new }
+    ensures written { OnOk result (AreWritten st.new rows.old rows.new base (tree_of p.now) next) }
+{
+    if dups(p) == 0 {
+        return Ok(());
+    }
+    match p {
+        Pol::Test(_, _) => Ok(()),
+        Pol::Set(_, _) => Ok(()),
+        Pol::Sum(ps) => write_any(st, ps.as_slice(), next, base, rows),
+        Pol::Seq(ps) => write_all(st, ps.as_slice(), next, base, rows),
+        Pol::Not(_) => Ok(()),
+        Pol::Star(q) => {
+            star_with_rows(st, q, next, base, rows)?;
+            Ok(())
+        }
+        Pol::Dup(l) => {
+            dup_with_row(st, *l, next, base, rows)?;
+            Ok(())
+        }
+        Pol::Link(a, m, b, n, l) => {
+            link_with_rows(st, (*a, *m), (*b, *n), *l, next, base, rows)?;
+            Ok(())
+        }
+    }
+}
+
+/// The rows of a sum's dups alone.
+#[cycle(with_rows)]
+fn write_any(
+    st: &mut Store,
+    ps: &[Pol],
+    next: Id,
+    base: u32,
+    rows: &mut List<Id>,
+) -> Result<(), AllocError>
+    requires { IsId st.old next }
+    ensures grows { Grows st.old st.new }
+    ensures written { OnOk result (AreWritten st.new rows.old rows.new base (sum_of (trees_of ps.now)) next) }
+{
+    let mut i = ps.len();
+    while i > 0 {
+        i -= 1;
+        write_rows(st, &ps[i], next, base, rows)?;
+    }
+    Ok(())
+}
+
+/// The rows of a sequence's dups alone.
+#[cycle(with_rows)]
+fn write_all(
+    st: &mut Store,
+    ps: &[Pol],
+    next: Id,
+    base: u32,
+    rows: &mut List<Id>,
+) -> Result<(), AllocError>
+    requires { IsId st.old next }
+    ensures grows { Grows st.old st.new }
+    ensures written { OnOk result (AreWritten st.new rows.old rows.new base (seq_of (trees_of ps.now)) next) }
+{
+    let mut behind = next;
+    let mut i = ps.len();
+    while i > 1 {
+        i -= 1;
+        behind = continued_with_rows(st, &ps[i], behind, base, rows)?;
+    }
+    if i == 1 {
+        return write_rows(st, &ps[0], behind, base, rows);
+    }
+    Ok(())
 }
 
 /// A dup: behind it the diagram is left.

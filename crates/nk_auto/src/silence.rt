@@ -111,15 +111,19 @@ fn silent_any(st: &mut Store, ps: &[Pol]) -> Result<Id, AllocError>
     union_all(st, ids.as_slice())
 }
 
-/// Those of a sequence's parts, built from the last part to the first.
+/// Those of a sequence's parts, built from the last part to the first; what stands before parts that always record isn't drawn.
 #[cycle(silent)]
 fn silent_all(st: &mut Store, ps: &[Pol]) -> Result<Id, AllocError>
     ensures grows { Grows st.old st.new }
     ensures ok { IfOk result (λ d. IsSilent st.new d (seq_of (trees_of ps.now))) }
 {
+    let nothing = empty(st)?;
     let mut rest = identity(st)?;
     let mut i = ps.len();
     while i > 0 {
+        if rest == nothing {
+            return Ok(rest);
+        }
         i -= 1;
         let d = silent(st, &ps[i])?;
         rest = seq(st, d, rest)?;

@@ -54,12 +54,12 @@ certified_alike : (bytes : List ℕ) (s t : Said) (c e : CertificateValue) → H
 certified_alike bytes s t c e d k program other h f = h ∙ holds_once bytes s t c e d k ∙ sym f
 
 -- their fields are a field table
-table_of : DeclaresWritable → (bytes : List ℕ) (s : Said) → Declares bytes s → (program : Program) → said_by program ≡ s → IsFieldTable program.fields
+pub table_of : DeclaresWritable → (bytes : List ℕ) (s : Said) → Declares bytes s → (program : Program) → said_by program ≡ s → IsFieldTable program.fields
 table_of law bytes s d program says =
     subst (λ (t : Said). IsFieldTable t.fields) (sym says) (law bytes d.tokens d.declarations s d.cut d.read d.means).table
 
 -- and packets can be at their switches
-packets_of : TextsHavePackets → (bytes : List ℕ) (s : Said) → Declares bytes s → (program : Program) → said_by program ≡ s → HavePackets program.fields program.topo
+pub packets_of : TextsHavePackets → (bytes : List ℕ) (s : Said) → Declares bytes s → (program : Program) → said_by program ≡ s → HavePackets program.fields program.topo
 packets_of law bytes s d program says =
     subst (λ (t : Said). HavePackets t.fields t.topo) (sym says) (law bytes d.tokens d.declarations s d.cut d.read d.means)
 

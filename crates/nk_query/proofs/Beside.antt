@@ -45,6 +45,11 @@ module _ (fields : FieldTable) (x : Question) (predicates : are_predicates x ≡
   breaks_alone : (f : Found) → IsBreaking fields x f → IsOfOneAlone fields (asked_policy x) drop_policy on_left f
   breaks_alone f h = (h.0, (question_breaks x predicates f.start f.records f.last).1 h.1, λ d. d)
 
+  -- `drop` has none, so it is the question's
+  left_alone : (side : Side) (f : Found) → IsOfOneAlone fields (asked_policy x) drop_policy side f → side ≡ on_left
+  left_alone on_left f h = refl
+  left_alone on_right f h = absurd h.1
+
   -- so the least difference is the least that breaks
   pub least_break : (side : Side) (f : Found) → IsLeastDifference fields (asked_policy x) drop_policy side f → IsLeastBreak fields x f
   least_break side f d = (alone_breaks side f d.0, λ g h. d.1.1 g (on_left, breaks_alone g h))
@@ -63,9 +68,10 @@ module _ (fields : FieldTable) (x : Question) (predicates : are_predicates x ≡
         (none_breaks here.same, here)
 
     -- the least difference of the two
-    pub breaks_by : (side : Side) (f : Found) → IsLeastDifference fields q d side f → IsLeastBreak fields x f
+    pub breaks_by : (side : Side) (f : Found) → IsLeastDifference fields q d side f → IsLeastBreak fields x f × (side ≡ on_left)
     breaks_by side f least =
-        least_break side f (subst (λ e. IsLeastDifference fields (asked_policy x) e side f) nothing (subst (λ p. IsLeastDifference fields p d side f) question least))
+        let here = subst (λ e. IsLeastDifference fields (asked_policy x) e side f) nothing (subst (λ p. IsLeastDifference fields p d side f) question least) in
+        (least_break side f here, left_alone side f here.0)
 
     -- what is found of a certificate for the two
     pub judged_by : IsFitFor fields q → (c : CertificateValue) (v : Finding) → IsFinding fields q d c v → IsJudgedFor fields x c v

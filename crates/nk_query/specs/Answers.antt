@@ -10,10 +10,11 @@ use Rattle.nk_names.specs.Complements.{NegatesPredicates}
 use Rattle.nk_names.specs.declared.Program.{Program}
 use Rattle.nk_witness.specs.Finds.{found_of}
 use Rattle.nk_cert.specs.Certificates.{CertificateValue}
+use Rattle.nk_cert.specs.Equality.{on_left}
 use Rattle.nk_cert.specs.Verdicts.{Finding, valid, IsFinding}
 use Rattle.nk_cert.specs.Values.{certificate_value, finding_of}
 use Rattle.nk_cert.specs.declared.shape.Verdict.{Verdict}
-use Rattle.nk_bisim.specs.Answers.{IsRelated}
+use Rattle.nk_bisim.specs.Answers.{whose, IsRelated}
 use Rattle.nk_query.specs.Asked.{Asked, apart, waypoint, Question, NamesQuestion, LacksName, are_predicates, question_policy, NoneBreaks, IsLeastBreak}
 use Rattle.nk_query.specs.declared.shape.Query.{Query}
 use Rattle.nk_query.specs.declared.shape.Query.TheVariants.{Apart, Waypoint}
@@ -74,11 +75,12 @@ pub record IsFitFor (fields : FieldTable) (q : Policy) : Type 0 where
   pub over : IsOver fields q
   pub complements : NegatesPredicates q
 
--- no history breaks, and this is the printed certificate of the question and `drop`; or this is the least history that breaks
+-- no history breaks, and this is the printed certificate of the question and `drop`; or this is the least history that breaks, told
+-- as the left one's, which is the question's
 abbrev pub IsAnswer : FieldTable → Question → Answer → Type 0
 IsAnswer fields x (Holds c) =
     NoneBreaks fields x × IsRelated fields (asked_policy x) drop_policy (certificate_value c)
-IsAnswer fields x (Breaks f) = IsLeastBreak fields x (found_of f)
+IsAnswer fields x (Breaks f) = IsLeastBreak fields x (found_of f) × (whose f.side ≡ on_left)
 
 -- what asking a query answers
 abbrev pub IsAsked : Program → Asked → Result Answer QueryError → Type 0

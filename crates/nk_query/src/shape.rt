@@ -34,6 +34,6 @@ pub enum Query<'a> {
 pub enum Answer {
     /// None does: the printed certificate that the question does the same as `drop`, which shows it.
     Holds(Certificate),
-    /// The least history that does, with the packet that it starts from. Its side says nothing.
+    /// The least history that does, with the packet that it starts from. Its side is the left one, the question's.
     Breaks(Found),
 }

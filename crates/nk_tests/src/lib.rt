@@ -22,5 +22,3 @@ mod table;
 mod tabtext;
 #[cfg(test)]
 mod topo;
-#[cfg(test)]
-mod words;

@@ -25,7 +25,7 @@ returns-in_ok-broken_message-in-Ok-Breaks c =
       question = found.0;
       named = found.1;
       found = found_of c.in-Ok-Breaks.found;
-      least = least;
+      least = least.0;
       told = subst (λ (p : Program). c.in_ok-broken_message-in-Ok-Breaks.field-0.items ≡ broken_lines p.fields (found_of c.in-Ok-Breaks.found))
           c.program.view_is c.in_ok-broken_message-in-Ok-Breaks.ensures;
     }

@@ -1,6 +1,6 @@
-use Rattle.std.proofs.Common.{◌≡◌, arith, sym, subst, drop}
-use Rattle.std.proofs.lemmas.Result.{IfOk-weaker}
-use Rattle.nk_policy.specs.Policy.{sum_of, seq_of, star_of}
+use Rattle.std.proofs.Common.{◌≡◌, ◌<◌, arith, sym, subst, drop}
+use Rattle.std.proofs.lemmas.Result.{IfOk-weaker, on_ok_weaker}
+use Rattle.nk_policy.specs.Policy.{sum_of, seq_of, star_of, part}
 use Rattle.nk_policy.specs.Tree.{tree_of, trees_of}
 use Rattle.nk_store.specs.Held.{IsId}
 use Rattle.nk_store.proofs.Stores.{grows_on}
@@ -8,7 +8,7 @@ use Rattle.nk_auto.specs.Continued.{IsContinued, AreWritten}
 use Rattle.nk_auto.proofs.Parts.{trees_before}
 use Rattle.nk_auto.proofs.Going.{continued_grow, cons_continued}
 use Rattle.nk_algebra.proofs.MadeOf.{on_any}
-use Rattle.nk_auto.proofs.Writing.{seq_written, sum_written, star_written, not_written, predicate_written, written_grow}
+use Rattle.nk_auto.proofs.Writing.{seq_written, sum_written, star_written, not_written, predicate_written, dupless_written, written_grow}
 use Rattle.nk_auto.proofs.Sums.{AreOf, IsOnward, one_more_of, ids_of, sum_continued}
 use Rattle.nk_auto.proofs.rows.+with_rows.Goals as goal
 
@@ -59,12 +59,67 @@ any_with_rows-returns-clause-written t c =
 
 pub star_with_rows-returns-clause-ok : goal.star_with_rows-returns-clause-ok
 star_with_rows-returns-clause-ok t c =
-    continued_grow c.continued_star.new.st c.continued_with_rows.new.st c.in_ok-again.again (star_of (tree_of c.args.q.now)) c.args.next c.continued_with_rows.ensures.grows c.in_ok-again.ensures.ok
+    continued_grow c.continued_star.new.st c.write_rows.new.st c.in_ok-again.again (star_of (tree_of c.args.q.now)) c.args.next c.write_rows.ensures.grows c.in_ok-again.ensures.ok
 
 pub star_with_rows-returns-clause-written : goal.star_with_rows-returns-clause-written
 star_with_rows-returns-clause-written t c =
-    star_written c.continued_with_rows.new.st c.args.rows.now c.continued_with_rows.new.rows c.args.base c.in_ok-again.again c.args.next (tree_of c.args.q.now) c.in_ok-_first.ensures.written
-    (continued_grow c.continued_star.new.st c.continued_with_rows.new.st c.in_ok-again.again (star_of (tree_of c.args.q.now)) c.args.next c.continued_with_rows.ensures.grows c.in_ok-again.ensures.ok)
+    star_written c.write_rows.new.st c.args.rows.now c.write_rows.new.rows c.args.base c.in_ok-again.again c.args.next (tree_of c.args.q.now) c.in_ok-write_rows.ensures.written
+    (continued_grow c.continued_star.new.st c.write_rows.new.st c.in_ok-again.again (star_of (tree_of c.args.q.now)) c.args.next c.write_rows.ensures.grows c.in_ok-again.ensures.ok)
+
+pub write_any-loop-i-preserved : goal.write_any-loop-i-preserved
+write_any-loop-i-preserved t c =
+    let here = sym (trees_before c.args.ps.now c.loop-i.i c.index-ps-i.result c.loop-i-test.true c.loop-i.invariant.within c.index-ps-i.is) in
+    record {
+      grows = grows_on _ _ _ c.loop-i.invariant.grows c.write_rows.ensures.grows;
+      within = omega (arith, c.loop-i.invariant.within);
+      written = subst (λ ps. AreWritten c.write_rows.new.st c.args.rows.now c.write_rows.new.rows c.args.base (sum_of ps) c.args.next) here
+          (sum_written c.loop-i.st c.write_rows.new.st c.args.rows.now c.loop-i.rows c.write_rows.new.rows c.args.base c.args.next (tree_of c.index-ps-i.result) (trees_of (drop c.loop-i.i c.args.ps.now)) c.write_rows.ensures.grows c.loop-i.invariant.written c.in_ok-write_rows.ensures.written);
+    }
+
+pub write_any-returns-clause-written : goal.write_any-returns-clause-written
+write_any-returns-clause-written t c =
+    let zero_is : c.loop-i.i ≡ 0 = omega (arith, c.loop-i-test.false) in
+    subst (λ n. AreWritten c.loop-i.st c.args.rows.now c.loop-i.rows c.args.base (sum_of (trees_of (drop n c.args.ps.now))) c.args.next) zero_is c.loop-i.invariant.written
+
+pub write_all-loop-i-preserved : goal.write_all-loop-i-preserved
+write_all-loop-i-preserved t c =
+    let some : 0 < c.loop-i.i = omega (arith, c.loop-i-test.true) in
+    let here = sym (trees_before c.args.ps.now c.loop-i.i c.index-ps-i.result some c.loop-i.invariant.within c.index-ps-i.is) in
+    let onward = continued_grow c.loop-i.st c.continued_with_rows.new.st c.loop-i.behind (seq_of (trees_of (drop c.loop-i.i c.args.ps.now))) c.args.next c.continued_with_rows.ensures.grows c.loop-i.invariant.behind in
+    record {
+      grows = grows_on _ _ _ c.loop-i.invariant.grows c.continued_with_rows.ensures.grows;
+      within = omega (arith, c.loop-i.invariant.within);
+      behind = subst (λ ps. IsContinued c.continued_with_rows.new.st c.in_ok-behind.behind (seq_of ps) c.args.next) here
+          (cons_continued c.continued_with_rows.new.st c.in_ok-behind.behind c.loop-i.behind c.args.next (tree_of c.index-ps-i.result) (trees_of (drop c.loop-i.i c.args.ps.now)) c.in_ok-behind.ensures.ok onward);
+      written = subst (λ ps. AreWritten c.continued_with_rows.new.st c.args.rows.now c.continued_with_rows.new.rows c.args.base (seq_of ps) c.args.next) here
+          (seq_written c.loop-i.st c.continued_with_rows.new.st c.args.rows.now c.loop-i.rows c.continued_with_rows.new.rows c.args.base c.loop-i.behind c.args.next (tree_of c.index-ps-i.result) (trees_of (drop c.loop-i.i c.args.ps.now)) c.continued_with_rows.ensures.grows c.loop-i.invariant.written c.loop-i.invariant.behind c.in_ok-behind.ensures.written);
+    }
+
+pub write_all-returns-then-i-eq1-clause-written : goal.write_all-returns-then-i-eq1-clause-written
+write_all-returns-then-i-eq1-clause-written t c =
+    let first = tree_of c.index-ps-0.result in
+    let others = trees_of (drop 1 c.args.ps.now) in
+    let here : trees_of c.args.ps.now ≡ part first others =
+    trees_before c.args.ps.now 1 c.index-ps-0.result (omega arith) (omega (arith, c.loop-i.invariant.within, c.if-i-eq1.true)) c.index-ps-0.is in
+    let written = subst (λ n. AreWritten c.loop-i.st c.args.rows.now c.loop-i.rows c.args.base (seq_of (trees_of (drop n c.args.ps.now))) c.args.next) c.if-i-eq1.true c.loop-i.invariant.written in
+    let behind = subst (λ n. IsContinued c.loop-i.st c.loop-i.behind (seq_of (trees_of (drop n c.args.ps.now))) c.args.next) c.if-i-eq1.true c.loop-i.invariant.behind in
+    on_ok_weaker c.write_rows.result
+    (λ h. subst (λ ps. AreWritten c.write_rows.new.st c.args.rows.now c.write_rows.new.rows c.args.base (seq_of ps) c.args.next) (sym here)
+    (seq_written c.loop-i.st c.write_rows.new.st c.args.rows.now c.loop-i.rows c.write_rows.new.rows c.args.base c.loop-i.behind c.args.next first others c.write_rows.ensures.grows written behind h))
+    c.write_rows.ensures.written
+
+pub write_all-returns-clause-written : goal.write_all-returns-clause-written
+write_all-returns-clause-written t c =
+    let zero_is : c.loop-i.i ≡ 0 = omega (arith, c.loop-i-test.false, c.if-i-eq1.false) in
+    subst (λ n. AreWritten c.loop-i.st c.args.rows.now c.loop-i.rows c.args.base (seq_of (trees_of (drop n c.args.ps.now))) c.args.next) zero_is c.loop-i.invariant.written
+
+pub write_rows-returns-then-dups-eq0-clause-written : goal.write_rows-returns-then-dups-eq0-clause-written
+write_rows-returns-then-dups-eq0-clause-written t c =
+    dupless_written c.args.st.now c.args.rows.now c.args.base (tree_of c.args.p.now) c.args.next (omega (arith, c.dups.ensures, c.if-dups-eq0.true))
+
+pub write_rows-returns-in-Not-clause-written : goal.write_rows-returns-in-Not-clause-written
+write_rows-returns-in-Not-clause-written t c =
+    subst (λ p. AreWritten c.args.st.now c.args.rows.now c.args.rows.now c.args.base (tree_of p) c.args.next) (sym c.in-Not.is) (not_written c.args.st.now c.args.rows.now c.args.base (tree_of c.in-Not.field-0.value) c.args.next)
 
 pub continued_with_rows-returns-in-Not-clause-written : goal.continued_with_rows-returns-in-Not-clause-written
 continued_with_rows-returns-in-Not-clause-written t c =

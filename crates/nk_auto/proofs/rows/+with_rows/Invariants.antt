@@ -29,3 +29,26 @@ invariant-all_with_rows-loop-i l = record {
 
 abbrev pub decreases-all_with_rows-loop-i : goal.decreases-all_with_rows-loop-i
 decreases-all_with_rows-loop-i l = l.i
+
+-- the rows of the parts from the place on are written
+abbrev pub invariant-write_any-loop-i : goal.invariant-write_any-loop-i
+invariant-write_any-loop-i l = record {
+  grows : Grows l.fn.st l.st;
+  within : l.i ≤ length l.ps;
+  written : AreWritten l.st l.fn.rows l.rows l.base (sum_of (trees_of (drop l.i l.ps))) l.next;
+}
+
+abbrev pub decreases-write_any-loop-i : goal.decreases-write_any-loop-i
+decreases-write_any-loop-i l = l.i
+
+-- the parts from the place on are one diagram, and their rows are written
+abbrev pub invariant-write_all-loop-i : goal.invariant-write_all-loop-i
+invariant-write_all-loop-i l = record {
+  grows : Grows l.fn.st l.st;
+  within : l.i ≤ length l.ps;
+  behind : IsContinued l.st l.behind (seq_of (trees_of (drop l.i l.ps))) l.fn.next;
+  written : AreWritten l.st l.fn.rows l.rows l.base (seq_of (trees_of (drop l.i l.ps))) l.fn.next;
+}
+
+abbrev pub decreases-write_all-loop-i : goal.decreases-write_all-loop-i
+decreases-write_all-loop-i l = l.i

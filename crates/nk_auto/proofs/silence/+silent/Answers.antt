@@ -1,11 +1,14 @@
-use Rattle.std.proofs.Common.{◌≡◌, arith, sym, subst, drop}
+use Rattle.std.proofs.Common.{◌≡◌, [], arith, sym, subst, drop}
+use Rattle.std.proofs.lemmas.Bool.Decides.{nat_tests}
 use Rattle.std.proofs.lemmas.Result.{IfOk-weaker}
 use Rattle.nk_policy.specs.Policy.{seq_of}
 use Rattle.nk_policy.specs.Tree.{tree_of, trees_of}
+use Rattle.nk_store.specs.Held.{HasLeaves}
 use Rattle.nk_store.proofs.Stores.{grows_on}
 use Rattle.nk_auto.specs.Continued.{IsSilent}
+use Rattle.nk_auto.proofs.Made.{leaves_grow}
 use Rattle.nk_auto.proofs.Parts.{trees_before}
-use Rattle.nk_auto.proofs.Silences.{silent_grow, cons_silent, not_silent, star_silent}
+use Rattle.nk_auto.proofs.Silences.{silent_grow, cons_silent, none_at_end, not_silent, star_silent}
 use Rattle.nk_auto.proofs.Sums.{AreOf, one_more_of, ids_of, sum_silent}
 use Rattle.nk_auto.proofs.silence.+silent.Goals as goal
 
@@ -33,11 +36,22 @@ pub silent_all-loop-i-preserved : goal.silent_all-loop-i-preserved
 silent_all-loop-i-preserved t c = record {
   grows = grows_on _ _ _ c.loop-i.invariant.grows (grows_on _ _ _ c.silent.ensures.grows c.seq.ensures.grows);
   within = omega (arith, c.loop-i.invariant.within);
+  nothing = leaves_grow c.loop-i.st c.seq.new.st c.in_ok-nothing.nothing (λ pk. []) (grows_on _ _ _ c.silent.ensures.grows c.seq.ensures.grows) c.loop-i.invariant.nothing;
   rest =
       let behind = silent_grow c.loop-i.st c.silent.new.st c.loop-i.rest (seq_of (trees_of (drop c.loop-i.i c.args.ps.now))) c.silent.ensures.grows c.loop-i.invariant.rest in
       subst (λ ps. IsSilent c.seq.new.st c.in_ok-rest-2.rest (seq_of ps)) (sym (trees_before c.args.ps.now c.loop-i.i c.index-ps-i.result c.loop-i-test.true c.loop-i.invariant.within c.index-ps-i.is))
       (cons_silent c.silent.new.st c.seq.new.st c.in_ok-d.d c.loop-i.rest c.in_ok-rest-2.rest (tree_of c.index-ps-i.result) (trees_of (drop c.loop-i.i c.args.ps.now)) c.laws.ensures.tidy c.seq.ensures.grows c.in_ok-d.ensures.ok behind c.in_ok-rest-2.ensures.ok (c.in_ok-rest-2.ensures.ends behind.ends));
 }
+
+pub silent_all-returns-then-eq-clause-ok : goal.silent_all-returns-then-eq-clause-ok
+silent_all-returns-then-eq-clause-ok t c =
+    let same : c.loop-i.rest ≡ c.in_ok-nothing.nothing = grind (arith, nat_tests, c.eq.ensures, c.if-eq.true) in
+    none_at_end c.loop-i.st c.loop-i.rest c.args.ps.now c.loop-i.i (subst (λ d. HasLeaves c.loop-i.st d (λ pk. [])) (sym same) c.loop-i.invariant.nothing) c.loop-i.invariant.rest
+
+pub silent_all-returns-clause-ok : goal.silent_all-returns-clause-ok
+silent_all-returns-clause-ok t c =
+    let zero_is : c.loop-i.i ≡ 0 = omega (arith, c.loop-i-test.false) in
+    subst (λ n. IsSilent c.loop-i.st c.loop-i.rest (seq_of (trees_of (drop n c.args.ps.now)))) zero_is c.loop-i.invariant.rest
 
 pub silent_not-returns-clause-ok : goal.silent_not-returns-clause-ok
 silent_not-returns-clause-ok t c =

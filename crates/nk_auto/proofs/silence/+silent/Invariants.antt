@@ -1,7 +1,7 @@
-use Rattle.std.proofs.Common.{◌≤◌, length, drop}
+use Rattle.std.proofs.Common.{◌≤◌, [], length, drop}
 use Rattle.nk_policy.specs.Policy.{seq_of}
 use Rattle.nk_policy.specs.Tree.{trees_of}
-use Rattle.nk_store.specs.Held.{Grows}
+use Rattle.nk_store.specs.Held.{Grows, HasLeaves}
 use Rattle.nk_auto.specs.Continued.{IsSilent}
 use Rattle.nk_auto.proofs.Sums.{AreOf}
 use Rattle.nk_auto.proofs.silence.+silent.Given as goal
@@ -22,6 +22,7 @@ abbrev pub invariant-silent_all-loop-i : goal.invariant-silent_all-loop-i
 invariant-silent_all-loop-i l = record {
   grows : Grows l.fn.st l.st;
   within : l.i ≤ length l.ps;
+  nothing : HasLeaves l.st l.nothing (λ pk. []);
   rest : IsSilent l.st l.rest (seq_of (trees_of (drop l.i l.ps)));
 }
 

@@ -20,6 +20,6 @@ pub returns-clause-ok : goal.returns-clause-ok
 returns-clause-ok c =
     let many : length c.args.lv.now.levels / 2 ≤ c.loop-j.j = omega (arith, c.loop-j-test.false, c.len-j-end.ensures) in
     subst (λ l. AreNumbers c.args.ss.now c.args.lv.now.levels l)
-    (sym (c.in_ok-ids.ensures ∙ c.as_slice.ensures.keys))
+    (sym (c.in_ok-sets.ensures ∙ c.as_slice.ensures.keys))
     (all_below c.args.ss.now (odd_level c.args.lv.now.levels) c.loop-j.j c.loop-j.all.keys
     (λ j s h. let lt = named_within c.args.lv.now.levels (2 * j + 1) s h in omega (arith, lt, many)) c.loop-j.invariant.below)
