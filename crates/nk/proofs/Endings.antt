@@ -1,98 +1,97 @@
 -- What follows from how a run ends.
-use Rattle.std.proofs.Common.{◌≡◌, ◌⊎◌, ◌≤◌, ◌∙◌, ℕ, List, length, refl, inl, inr, subst, arith, Bool, true, false, MatchBool, nat_lt, Option}
+use Rattle.std.proofs.Common.{◌≡◌, ◌⊎◌, ◌≤◌, ◌∙◌, ℕ, List, [], length, refl, inl, inr, subst, arith, Bool, true, false, MatchBool, nat_lt, Option}
 use Rattle.std.proofs.lemmas.Bool.Decides.{nat_tests}
 use Rattle.std.specs.Prelude.{Some, None}
+use Rattle.std.specs.Io.KnownBytes.{IsAtEnd}
 use Rattle.nk_words.specs.declared.words.Command.{Command}
 use Rattle.nk_words.specs.Words.{command_of}
 use Rattle.nk.specs.declared.status.Status.{Status}
 use Rattle.nk.specs.declared.status.Status.TheVariants.{ReadFault, Usage, WriteFault, NoMemory}
 use Rattle.nk.specs.Outcome.{Outcome, done, differs, text_refused, policy_refused}
-use Rattle.nk.specs.Answer.{Answer, IsOutcome, IsOutcomeOf, answer_of, limit, too_long}
-use Rattle.nk.specs.Use.{FailedAt, HasRisen, IsUntouched, Use}
-use Rattle.nk.specs.Ends.{Ends, IsCauseTo, IsCaused, IsComplete, IsFixedBy, IsRead, IsSent, IsUsage}
+use Rattle.nk.specs.Answer.{Answer, IsOutcome, IsOutcomeOf, answer_of, limit, reads, too_long}
+use Rattle.nk.specs.Use.{FailedAt, HadLeft, HasRisen, IsQuiet, IsUntouched, Use}
+use Rattle.nk.specs.Ends.{Ends, IsCauseTo, IsCaused, IsComplete, IsFixedBy, IsInput, IsReadWhere, IsSent, IsUsage}
 
--- a fact of the answer that words and input fix, where its outcome is known
-outcome_caused : (words : List (List ℕ)) (source out err : Use) (c : Command)
-    (outcome : Outcome) → command_of words ≡ Some c → (h : IsFixedBy (Some c) source (answer_of outcome))
-    → length h.bytes ≤ limit → IsOutcome c h.bytes outcome → IsSent (answer_of outcome) out err
-    → IsCaused words source out err (answer_of outcome).status
-outcome_caused words source out err c (done text) e h fits o sent = record {
+-- the outcome of a command, once it was sent, is the cause of its status
+outcome_caused : (words : List (List ℕ)) (source out err : Use) (c : Command) (bytes : List ℕ) (outcome : Outcome)
+    → command_of words ≡ Some c → IsInput (reads c) source bytes → IsQuiet source → IsOutcome c bytes outcome
+    → IsSent (answer_of outcome) out err → IsCaused words source out err (answer_of outcome).status
+outcome_caused words source out err c bytes (done text) e input quiet o sent = record {
   command = c;
-  bytes = h.bytes;
+  bytes = bytes;
   text = text;
   given = e;
-  left = h.left;
-  fits = fits;
+  input = input;
   is_outcome = o;
-  end = h.read;
-  quiet = h.quiet;
+  quiet = quiet;
   sent = sent;
 }
-outcome_caused words source out err c (differs text) e h fits o sent = record {
+outcome_caused words source out err c bytes (differs text) e input quiet o sent = record {
   command = c;
-  bytes = h.bytes;
+  bytes = bytes;
   text = text;
   given = e;
-  left = h.left;
-  fits = fits;
+  input = input;
   is_outcome = o;
-  end = h.read;
-  quiet = h.quiet;
+  quiet = quiet;
   sent = sent;
 }
-outcome_caused words source out err c (text_refused text) e h fits o sent = record {
+outcome_caused words source out err c bytes (text_refused text) e input quiet o sent = record {
   command = c;
-  bytes = h.bytes;
+  bytes = bytes;
   text = text;
   given = e;
-  left = h.left;
-  fits = fits;
+  input = input;
   is_outcome = o;
-  end = h.read;
-  quiet = h.quiet;
+  quiet = quiet;
   sent = sent;
 }
-outcome_caused words source out err c (policy_refused text) e h fits o sent = record {
+outcome_caused words source out err c bytes (policy_refused text) e input quiet o sent = record {
   command = c;
-  bytes = h.bytes;
+  bytes = bytes;
   text = text;
   given = e;
-  left = h.left;
-  fits = fits;
+  input = input;
   is_outcome = o;
-  end = h.read;
-  quiet = h.quiet;
+  quiet = quiet;
   sent = sent;
 }
 
--- what was sent to a command is too long, or its outcome
-command_caused : (words : List (List ℕ)) (source out err : Use) (c : Command) (a : Answer)
-    (long : Bool) → command_of words ≡ Some c → (h : IsFixedBy (Some c) source a)
-    → nat_lt limit (length h.bytes) ≡ long
-    → MatchBool long (a ≡ too_long) (IsOutcomeOf c h.bytes a) → IsSent a out err
+-- what was read for an outcome is all that was left
+read_to_end : (source : Use) (outcome : Outcome) → IsReadWhere true source (answer_of outcome).status → IsAtEnd source.new
+read_to_end source (done text) h = h
+read_to_end source (differs text) h = h
+read_to_end source (text_refused text) h = h
+read_to_end source (policy_refused text) h = h
+
+-- what was sent to a command is too long, or its outcome; where it doesn't read, it is that of no bytes
+command_caused : (words : List (List ℕ)) (source out err : Use) (c : Command) (a : Answer) (bytes : List ℕ)
+    (input long : Bool) → command_of words ≡ Some c → reads c ≡ input → HadLeft source bytes → IsQuiet source
+    → IsReadWhere input source a.status → nat_lt limit (length bytes) ≡ long
+    → MatchBool input (MatchBool long (a ≡ too_long) (IsOutcomeOf c bytes a)) (IsOutcomeOf c [] a) → IsSent a out err
     → IsCaused words source out err a.status
-command_caused words source out err c a true e h long t sent =
-    let read : IsRead (Some c) source too_long.status
-    = subst (λ (x : Answer). IsRead (Some c) source x.status) t h.read in
+command_caused words source out err c a bytes true true e is left quiet read long t sent =
+    let given : IsReadWhere true source too_long.status
+    = subst (λ (x : Answer). IsReadWhere true source x.status) t read in
     rw t (record {
-      command = rw e refl;
-      bytes = h.bytes;
-      left = h.left;
+      asks = rw e is;
+      bytes = bytes;
+      left = left;
       longer = grind (arith, nat_tests);
-      given = read;
-      quiet = h.quiet;
+      given = given;
+      quiet = quiet;
       sent = subst (λ (x : Answer). IsSent x out err) t sent;
     })
-command_caused words source out err c a false e h long (outcome, o, t) sent =
-    let fixed : IsFixedBy (Some c) source (answer_of outcome) = record {
-      bytes = h.bytes;
-      left = h.left;
-      answer = rw long (outcome, o, refl);
-      read = subst (λ (x : Answer). IsRead (Some c) source x.status) t h.read;
-      quiet = h.quiet;
-    } in
-    let fits : length h.bytes ≤ limit = grind (arith, nat_tests) in
-    rw t (outcome_caused words source out err c outcome e fixed fits o
+command_caused words source out err c a bytes true false e is left quiet read long (outcome, o, t) sent =
+    let fits : length bytes ≤ limit = grind (arith, nat_tests) in
+    let end : IsAtEnd source.new
+    = read_to_end source outcome (subst (λ (x : Answer). IsReadWhere true source x.status) t read) in
+    let input : IsInput (reads c) source bytes = rw is (record { left = left; fits = fits; end = end }) in
+    rw t (outcome_caused words source out err c bytes outcome e input quiet o
+    (subst (λ (x : Answer). IsSent x out err) t sent))
+command_caused words source out err c a bytes false long e is left quiet read h (outcome, o, t) sent =
+    let input : IsInput (reads c) source [] = rw is (record { none = refl; unread = read }) in
+    rw t (outcome_caused words source out err c [] outcome e input quiet o
     (subst (λ (x : Answer). IsSent x out err) t sent))
 
 -- the answer that words and input fix, once it was sent, is the cause of its status
@@ -105,14 +104,14 @@ fixed_caused words source out err a None e h sent = rw h.answer (record {
   sent = subst (λ (x : Answer). IsSent x out err) h.answer sent;
 })
 fixed_caused words source out err a (Some c) e h sent =
-    command_caused words source out err c a _ e h refl h.answer sent
+    command_caused words source out err c a h.bytes _ _ e refl h.left h.quiet h.read refl h.answer sent
 
 -- what was sent has its cause
 sent_caused : (words : List (List ℕ)) (source out err : Use) (a : Answer) (s : Status)
     → a.status ≡ s → IsCauseTo s (command_of words) source a → IsSent a out err
     → IsCaused words source out err s
 sent_caused words source out err a ReadFault e m sent = (
-  record { answer = refl; rose = m.rose; command = m.command; given = m.given },
+  record { answer = refl; rose = m.rose; asks = m.asks; given = m.given },
   subst (λ (x : Answer). IsSent x out err) m.answer sent,
 )
 sent_caused words source out err a NoMemory e m sent = (

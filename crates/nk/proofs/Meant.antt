@@ -1,14 +1,18 @@
 -- Why a run means to give its answer.
-use Rattle.std.proofs.Common.{◌≡◌, ◌<◌, ℕ, List, [], ◌++◌, true, length, refl, arith, nat_lt, length-append}
+use Rattle.std.proofs.Common.{◌≡◌, ◌<◌, ℕ, List, [], ◌++◌, true, false, length, refl, arith, nat_lt, length-append}
 use Rattle.std.proofs.lemmas.Bool.{lt-ltb}
 use Rattle.std.specs.declared.option.Option.{Option}
 use Rattle.std.specs.Prelude.{Some, None}
 use Rattle.std.specs.Io.KnownBytes.{Keeps}
-use Rattle.nk_io.specs.Reading.{GaveMore, IsAllOf}
+use Rattle.nk_io.specs.Reading.{GaveMore, GaveWithin, IsAllOf}
 use Rattle.nk_words.specs.declared.words.Command.{Command}
-use Rattle.nk.specs.Answer.{limit, too_long, usage}
+use Rattle.nk.specs.Answer.{IsOutcome, answer_of, limit, reads, too_long, usage}
+use Rattle.nk.specs.Outcome.{Outcome, done, differs, text_refused, policy_refused}
+use Rattle.nk.specs.declared.reply.Reply.{Reply}
+use Rattle.nk.specs.declared.reply.Reply.TheVariants as reply
+use Rattle.nk.specs.Reply.{IsReplyTo, answer_in, said}
 use Rattle.nk.specs.Use.{IsQuiet, Use}
-use Rattle.nk.specs.Ends.{IsFixedBy}
+use Rattle.nk.specs.Ends.{IsFixedBy, IsMeantTo}
 use Rattle.nk.proofs.Delivery.{Keeps-same}
 
 -- a source has some bytes left, where it tells them
@@ -34,10 +38,37 @@ usage_meant c source none same quiet =
     let kept : Keeps source.old source.new = rw same (Keeps-same source.old) in
     record { bytes = some.0; left = some.1; answer = rw none refl; read = rw none kept; quiet = quiet }
 
--- an input longer than the limit fixes that answer to a command
-pub too_long_meant : (source : Use) (c : Command) → GaveMore limit source.old source.new
+-- an input longer than the limit fixes that answer to a command that reads
+pub too_long_meant : (source : Use) (c : Command) → reads c ≡ true → GaveMore limit source.old source.new
     → IsQuiet source → IsFixedBy (Some c) source too_long
-too_long_meant source c more quiet =
+too_long_meant source c is more quiet =
     let all = more_left source.old source.new more in
     let over : nat_lt limit (length all.0) ≡ true = lt-ltb _ _ all.1 in
-    record { bytes = all.0; left = all.2; answer = rw over refl; read = more; quiet = quiet }
+    record { bytes = all.0; left = all.2; answer = rw (is, over) refl; read = rw is more; quiet = quiet }
+
+-- a source whose bytes stay gave none
+none_given : (old : Option (List ℕ)) → GaveWithin limit old old
+none_given None = ([], omega arith, tt)
+none_given (Some left) = ([], omega arith, refl)
+
+-- what a command answers without reading is meant
+pub unread_meant : (source : Use) (c : Command) (r : Reply) → reads c ≡ false → source.new ≡ source.old → IsQuiet source
+    → IsReplyTo c [] r → IsMeantTo (Some c) source (answer_in r)
+unread_meant source c (reply.Said s) is same quiet h = outcome_meant (said s) h
+  where
+    fixed : (outcome : Outcome) → IsOutcome c [] outcome → IsFixedBy (Some c) source (answer_of outcome)
+    fixed outcome o =
+        let some = some_left source.old in
+        let kept : Keeps source.old source.new = rw same (Keeps-same source.old) in
+        record { bytes = some.0; left = some.1; answer = rw is (outcome, o, refl); read = rw is kept; quiet = quiet }
+
+    outcome_meant : (outcome : Outcome) → IsOutcome c [] outcome → IsMeantTo (Some c) source (answer_of outcome)
+    outcome_meant (done text) o = fixed (done text) o
+    outcome_meant (differs text) o = fixed (differs text) o
+    outcome_meant (text_refused text) o = fixed (text_refused text) o
+    outcome_meant (policy_refused text) o = fixed (policy_refused text) o
+unread_meant source c reply.NoMemory is same quiet h =
+    record { answer = refl; quiet = quiet; given = rw same (none_given source.old) }
+unread_meant source c reply.Usage is same quiet h = absurd h
+unread_meant source c reply.ReadFault is same quiet h = absurd h
+unread_meant source c reply.TooLong is same quiet h = absurd h

@@ -1,12 +1,12 @@
 -- The status and the text that the words and the input fix.
-use Rattle.std.specs.Prelude.{◌≡◌, ℕ, List, Bool, true, false, Option, Some, None, MatchBool}
+use Rattle.std.specs.Prelude.{◌≡◌, ℕ, List, [], Bool, true, false, Option, Some, None, MatchBool}
 use Rattle.std.specs.Prelude.{codes, length, nat_lt}
 use Rattle.nk.specs.declared.status.Status.{Status}
 use Rattle.nk.specs.declared.status.Status.TheVariants.{Done, Differs, Usage, Text, Refused}
 use Rattle.nk.specs.declared.status.Status.TheVariants.{ReadFault, NoMemory, TooLong}
 use Rattle.nk_words.specs.declared.words.Command.{Command}
 use Rattle.nk_words.specs.declared.words.Command.TheVariants.{Compile, Trace, Equal, Check, Fly}
-use Rattle.nk_words.specs.declared.words.Command.TheVariants.{Apart, Waypoint, CheckApart, CheckWaypoint}
+use Rattle.nk_words.specs.declared.words.Command.TheVariants.{Apart, Waypoint, CheckApart, CheckWaypoint, Gen, Job}
 use Rattle.nk_query.specs.Asked.{apart, waypoint}
 use Rattle.nk.specs.Outcome.{Outcome, done, differs, text_refused, policy_refused}
 use Rattle.nk.specs.Asking.{IsAskAnswer}
@@ -14,6 +14,7 @@ use Rattle.nk.specs.Checking.{IsCheckAnswer}
 use Rattle.nk.specs.Compiling.{IsCompileAnswer}
 use Rattle.nk.specs.Comparing.{IsEqualAnswer}
 use Rattle.nk.specs.Flying.{IsFlyAnswer}
+use Rattle.nk.specs.Generating.{IsGenAnswer, IsJobAnswer}
 use Rattle.nk.specs.Judging.{IsJudgeAnswer}
 use Rattle.nk.specs.Tracing.{IsTraceAnswer}
 
@@ -54,6 +55,12 @@ answer_of (differs text) = answer Differs text
 answer_of (text_refused text) = answer Text text
 answer_of (policy_refused text) = answer Refused text
 
+-- whether a command reads the input
+abbrev pub reads : Command → Bool
+reads (Gen size seed) = false
+reads (Job size seed) = false
+reads c = true
+
 -- what a command answers to an input within the limit
 abbrev pub IsOutcome : Command → List ℕ → Outcome → Type 0
 IsOutcome (Compile name) bytes outcome = IsCompileAnswer name bytes outcome
@@ -65,13 +72,17 @@ IsOutcome (Apart name from target) bytes outcome = IsAskAnswer (apart name from 
 IsOutcome (Waypoint name from middle target) bytes outcome = IsAskAnswer (waypoint name from middle target) bytes outcome
 IsOutcome (CheckApart name from target) bytes outcome = IsJudgeAnswer (apart name from target) bytes outcome
 IsOutcome (CheckWaypoint name from middle target) bytes outcome = IsJudgeAnswer (waypoint name from middle target) bytes outcome
+IsOutcome (Gen size seed) bytes outcome = IsGenAnswer size seed outcome
+IsOutcome (Job size seed) bytes outcome = IsJobAnswer size seed outcome
 
 -- the answer is one that the command has to the input
 abbrev pub IsOutcomeOf : Command → List ℕ → Answer → Type 0
 IsOutcomeOf c bytes a = (outcome : Outcome) × IsOutcome c bytes outcome × (a ≡ answer_of outcome)
 
--- the answer to a command, or to words that are none, and the input
+-- the answer to a command, or to words that are none, and the input; a command that doesn't read answers whatever the input is
 abbrev pub IsAnswerTo : Option Command → List ℕ → Answer → Type 0
 IsAnswerTo None bytes a = a ≡ usage
 IsAnswerTo (Some c) bytes a =
-    MatchBool (nat_lt limit (length bytes)) (a ≡ too_long) (IsOutcomeOf c bytes a)
+    MatchBool (reads c)
+    (MatchBool (nat_lt limit (length bytes)) (a ≡ too_long) (IsOutcomeOf c bytes a))
+    (IsOutcomeOf c [] a)

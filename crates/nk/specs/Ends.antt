@@ -1,5 +1,5 @@
 -- How a run ends.
-use Rattle.std.specs.Prelude.{◌≡◌, ◌⊎◌, ◌<◌, ◌≤◌, ℕ, List, length, Option, Some, None, IsSome, MatchBool}
+use Rattle.std.specs.Prelude.{◌≡◌, ◌⊎◌, ◌<◌, ◌≤◌, ℕ, List, [], length, Bool, true, false, Option, Some, None, MatchBool}
 use Rattle.std.specs.Io.KnownBytes.{IsAtEnd, Keeps}
 use Rattle.nk_io.specs.Reading.{GaveMore, GaveWithin}
 use Rattle.nk_words.specs.Words.{command_of}
@@ -8,16 +8,24 @@ use Rattle.nk.specs.declared.status.Status.{Status}
 use Rattle.nk.specs.declared.status.Status.TheVariants.{Done, Differs, Usage, Text, Refused}
 use Rattle.nk.specs.declared.status.Status.TheVariants.{ReadFault, WriteFault, NoMemory, TooLong}
 use Rattle.nk.specs.Outcome.{Outcome, done, differs, text_refused, policy_refused}
-use Rattle.nk.specs.Answer.{Answer, IsAnswerTo, IsOutcome, answer_of, goes_out, limit}
+use Rattle.nk.specs.Answer.{Answer, IsAnswerTo, IsOutcome, answer_of, goes_out, limit, reads}
 use Rattle.nk.specs.Answer.{no_memory, read_fault, too_long, usage}
 use Rattle.nk.specs.Use.{FailedAt, HadLeft, HasRisen, IsQuiet, IsUntouched, Took, Use}
 
--- What was read for an answer with this status: nothing where the words are no command, more than
--- the limit where that is the answer, and else all that was left.
+-- whether the words ask for the input: they are a command that reads it
+abbrev pub asks_for_input : Option Command → Bool
+asks_for_input None = false
+asks_for_input (Some c) = reads c
+
+-- What was read for an answer with this status, where the input is asked for and where it is not: nothing where it is not,
+-- more than the limit where that is the answer, and else all that was left.
+abbrev pub IsReadWhere : Bool → Use → Status → Type 0
+IsReadWhere false source s = Keeps source.old source.new
+IsReadWhere true source TooLong = GaveMore limit source.old source.new
+IsReadWhere true source s = IsAtEnd source.new
+
 abbrev pub IsRead : Option Command → Use → Status → Type 0
-IsRead None source s = Keeps source.old source.new
-IsRead (Some c) source TooLong = GaveMore limit source.old source.new
-IsRead (Some c) source s = IsAtEnd source.new
+IsRead c source s = IsReadWhere (asks_for_input c) source s
 
 -- the command and the input fix this answer
 pub record IsFixedBy (c : Option Command) (source : Use) (a : Answer) : Type 0 where
@@ -27,11 +35,11 @@ pub record IsFixedBy (c : Option Command) (source : Use) (a : Answer) : Type 0 w
   pub read : IsRead c source a.status
   pub quiet : IsQuiet source
 
--- a call of the source failed while the input of a command was read
+-- a call of the source failed while the input of a command that reads it was read
 pub record IsReadFault (c : Option Command) (source : Use) (a : Answer) : Type 0 where
   pub answer : a ≡ read_fault
   pub rose : HasRisen source
-  pub command : IsSome c
+  pub asks : asks_for_input c ≡ true
   pub given : GaveWithin limit source.old source.new
 
 -- memory ran out, and no call of the source failed
@@ -77,17 +85,32 @@ pub record Ends (words : List (List ℕ)) (source out err : Use) (s : Status) : 
   pub meant : IsMeant words source answer
   pub delivered : Delivers answer out err s
 
--- the words are a command that has an answer of this kind to all of the input, and it was sent
+-- the bytes are all that was left, within the limit, and all of them were read
+pub record IsWholeInput (source : Use) (bytes : List ℕ) : Type 0 where
+  pub left : HadLeft source bytes
+  pub fits : length bytes ≤ limit
+  pub end : IsAtEnd source.new
+
+-- there are no bytes, and nothing was read
+pub record IsNoInput (source : Use) (bytes : List ℕ) : Type 0 where
+  pub none : bytes ≡ []
+  pub unread : Keeps source.old source.new
+
+-- the bytes that a command was done to, where it reads the input and where it doesn't
+abbrev pub IsInput : Bool → Use → List ℕ → Type 0
+IsInput true source bytes = IsWholeInput source bytes
+IsInput false source bytes = IsNoInput source bytes
+
+-- the words are a command that has an answer of this kind to all of the input, or to no bytes where it doesn't read, and it was
+-- sent
 pub record Answers (words : List (List ℕ)) (source out err : Use) (kind : List ℕ → Outcome)
     : Type 0 where
   pub command : Command
   pub bytes : List ℕ
   pub text : List ℕ
   pub given : command_of words ≡ Some command
-  pub left : HadLeft source bytes
-  pub fits : length bytes ≤ limit
+  pub input : IsInput (reads command) source bytes
   pub is_outcome : IsOutcome command bytes (kind text)
-  pub end : IsAtEnd source.new
   pub quiet : IsQuiet source
   pub sent : IsSent (answer_of (kind text)) out err
 
@@ -97,9 +120,9 @@ pub record IsUsage (words : List (List ℕ)) (source out err : Use) : Type 0 whe
   pub unread : IsUntouched source
   pub sent : IsSent usage out err
 
--- the words are a command, more bytes than the limit were left, and that was said
+-- the words are a command that reads, more bytes than the limit were left, and that was said
 pub record IsTooLong (words : List (List ℕ)) (source out err : Use) : Type 0 where
-  pub command : IsSome (command_of words)
+  pub asks : asks_for_input (command_of words) ≡ true
   pub bytes : List ℕ
   pub left : HadLeft source bytes
   pub longer : limit < length bytes

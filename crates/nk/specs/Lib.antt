@@ -8,6 +8,8 @@ pub mod Declarable
 pub mod Ends
 pub mod Flying
 pub mod Following
+pub mod Generating
+pub mod JobSteps
 pub mod Judging
 pub mod Messages
 pub mod Outcome
@@ -16,5 +18,6 @@ pub mod ReadCertified
 pub mod ReadText
 pub mod Reply
 pub mod Status
+pub mod Succeeding
 pub mod Tracing
 pub mod Use

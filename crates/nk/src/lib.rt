@@ -8,6 +8,7 @@ mod comparing;
 mod compiling;
 mod flying;
 mod following;
+mod generating;
 mod judging;
 mod messages;
 mod program_text;

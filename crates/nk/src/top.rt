@@ -1,11 +1,12 @@
 //! The top call.
-ghost use Rattle.std.specs.Prelude.{◌≡◌, None, Some, IfOk};
-ghost use Rattle.nk_words.specs.Words.{command_of, texts};
-ghost use Rattle.nk.specs.Answer.{IsOutcome};
+ghost use Rattle.std.specs.Prelude.{◌≡◌, false, None, Some, IfOk};
+ghost use Rattle.nk_words.specs.Words.{IsWithinLimits, command_of, texts};
+ghost use Rattle.nk.specs.Answer.{IsOutcome, reads};
 ghost use Rattle.nk.specs.Use.{use_of};
-ghost use Rattle.nk.specs.Ends.{Ends, IsCaused, IsComplete, IsMeant, IsMeantTo};
+ghost use Rattle.nk.specs.Ends.{Ends, IsCaused, IsComplete, IsMeant, IsMeantTo, asks_for_input};
 ghost use Rattle.nk.specs.Ends.{LeavesAlone, TellsFaults};
 ghost use Rattle.nk.specs.Reply.{answer_in, said, IsReplyTo};
+ghost use Rattle.nk.specs.Succeeding.{Succeeds};
 
 use crate::Status;
 use crate::asking::{apart_query, ask_answer, waypoint_query};
@@ -13,6 +14,7 @@ use crate::checking::check_answer;
 use crate::comparing::equal_answer;
 use crate::compiling::compile_answer;
 use crate::flying::fly_answer;
+use crate::generating::{gen_answer, job_answer};
 use crate::judging::judge_answer;
 use crate::reply::{Reply, Said, deliver};
 use crate::tracing::trace_answer;
@@ -24,8 +26,8 @@ use std::alloc::{AllocError, Global};
 const LIMIT: u64 = 16_777_216;
 
 /// Does what the words ask for, which are those after the program's name. Words that are no command
-/// are told before anything is read; else the source is read to its end. The whole answer is built
-/// before its first byte is written: on `out` for the statuses `Done` and `Differs`, and on `err` for
+/// are told before anything is read, and a command that reads nothing is done at once; else the source
+/// is read to its end. The whole answer is built before its first byte is written: on `out` for the statuses `Done` and `Differs`, and on `err` for
 /// the others. After a write that fails nothing more is written.
 pub fn run<S: Source, O: Sink, E: Sink>(
     alloc: Global,
@@ -49,14 +51,21 @@ pub fn run<S: Source, O: Sink, E: Sink>(
         (use_of S.left S.faults source.old source.new)
         (use_of O.taken O.faults out.old out.new)
         (use_of E.taken E.faults err.old err.new) result }
+    // Where nothing failed, it ends with `Done` exactly where the bytes are such that the command is done, and with `Differs` exactly
+    // where they are such that it differs, or for want of memory.
+    ensures succeeds { Succeeds (texts words.now)
+        (use_of S.left S.faults source.old source.new)
+        (use_of O.taken O.faults out.old out.new)
+        (use_of E.taken E.faults err.old err.new) result }
     // What failed is told.
     ensures faults { TellsFaults
         (use_of S.left S.faults source.old source.new)
         (use_of O.taken O.faults out.old out.new)
         (use_of E.taken E.faults err.old err.new) result }
-    // Words that are no command, and only those, are told as such, and then nothing is read.
+    // Words that are no command, and only those, are told as such.
     ensures usage { result ≡ Status.Usage → command_of (texts words.now) ≡ None }
-    ensures unread { command_of (texts words.now) ≡ None → source.new ≡ source.old }
+    // No call was made on the source where the words are no command, or one that doesn't read.
+    ensures unread { asks_for_input (command_of (texts words.now)) ≡ false → source.new ≡ source.old }
     // No call was made on the sink that the answer doesn't go to.
     ensures alone { LeavesAlone result (out.new ≡ out.old) (err.new ≡ err.old) }
 {
@@ -68,7 +77,7 @@ pub fn run<S: Source, O: Sink, E: Sink>(
 fn decide<S: Source>(alloc: Global, words: &[String], source: &mut S) -> Reply
     ensures meant { IsMeant (texts words.now)
         (use_of S.left S.faults source.old source.new) (answer_in result) }
-    ensures unread { command_of (texts words.now) ≡ None → source.new ≡ source.old }
+    ensures unread { asks_for_input (command_of (texts words.now)) ≡ false → source.new ≡ source.old }
 {
     match read_words(alloc, words) {
         Ok(command) => reply_from(alloc, &command, source),
@@ -79,9 +88,14 @@ fn decide<S: Source>(alloc: Global, words: &[String], source: &mut S) -> Reply
 
 /// What the run means to say to this command.
 fn reply_from<S: Source>(alloc: Global, command: &Command, source: &mut S) -> Reply
-    ensures { IsMeantTo (Some command.now)
+    requires { IsWithinLimits command.now }
+    ensures meant { IsMeantTo (Some command.now)
         (use_of S.left S.faults source.old source.new) (answer_in result) }
+    ensures unread { reads command.now ≡ false → source.new ≡ source.old }
 {
+    if !reads_input(command) {
+        return reply_to(alloc, command, &[]);
+    }
     match read_all(alloc, source, LIMIT) {
         Ok(bytes) => reply_to(alloc, command, &bytes),
         Err(ReadError::ReadFault) => Reply::ReadFault,
@@ -90,8 +104,19 @@ fn reply_from<S: Source>(alloc: Global, command: &Command, source: &mut S) -> Re
     }
 }
 
+/// Whether the command reads the input.
+fn reads_input(command: &Command) -> bool
+    ensures { result ≡ reads command.now }
+{
+    match command {
+        Command::Gen(_, _) | Command::Job(_, _) => false,
+        _ => true,
+    }
+}
+
 /// What the command answers to the input, where memory doesn't run out.
 fn reply_to(alloc: Global, command: &Command, bytes: &[u8]) -> Reply
+    requires { IsWithinLimits command.now }
     ensures { IsReplyTo command.now bytes.now result }
 {
     match perform(alloc, command, bytes) {
@@ -102,6 +127,7 @@ fn reply_to(alloc: Global, command: &Command, bytes: &[u8]) -> Reply
 
 /// What the command answers to the input.
 fn perform(alloc: Global, command: &Command, bytes: &[u8]) -> Result<Said, AllocError>
+    requires { IsWithinLimits command.now }
     ensures { IfOk result (λ s. IsOutcome command.now bytes.now (said s)) }
 {
     match command {
@@ -124,5 +150,7 @@ fn perform(alloc: Global, command: &Command, bytes: &[u8]) -> Result<Said, Alloc
         Command::CheckWaypoint(name, from, middle, target) => {
             judge_answer(alloc, &waypoint_query(name, from, middle, target), bytes)
         }
+        Command::Gen(size, seed) => gen_answer(alloc, *size, *seed),
+        Command::Job(size, seed) => job_answer(alloc, *size, *seed),
     }
 }

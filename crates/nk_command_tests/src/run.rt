@@ -5,6 +5,7 @@ mod compared;
 mod compiled;
 mod cut;
 mod flown;
+mod generated;
 mod limits;
 mod networks;
 mod random;

@@ -8,6 +8,7 @@ fn told(command: &Command) -> (u64, &str) {
     match command {
         Command::Trace(hops, packet) => (*hops, packet.as_str()),
         Command::Fly(seed, _, packet) => (*seed, packet.as_str()),
+        Command::Gen(number, _) | Command::Job(_, number) => (*number, ""),
         Command::Compile(last)
         | Command::Equal(_, last)
         | Command::Check(_, last)
@@ -36,7 +37,7 @@ fn command_in(alloc: Global, words: &[&str]) -> Result<Option<(u64, String)>, Fa
 
 #[test]
 fn words_that_give_a_command(rt: HostRuntime) -> Result<(), Fail> {
-    let table: [(&[&str], u64, &str); 12] = [
+    let table: [(&[&str], u64, &str); 14] = [
         (&["compile", "p"], 0, "p"),
         (&["compile", "--", "-p"], 0, "-p"),
         (&["compile", "-"], 0, "-"),
@@ -53,6 +54,8 @@ fn words_that_give_a_command(rt: HostRuntime) -> Result<(), Fail> {
             2147483646,
             "sw=1",
         ),
+        (&["gen", "1000", "1"], 1000, ""),
+        (&["job", "2", "2147483646"], 2147483646, ""),
     ];
     for (words, number, text) in table {
         match command_in(rt.alloc(), words)? {

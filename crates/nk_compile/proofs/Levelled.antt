@@ -39,6 +39,7 @@ use Rattle.nk_compile.specs.PacketSets.{IsSetOf}
 use Rattle.nk_compile.specs.OffEdge.{EndsOffEdge}
 use Rattle.nk_compile.specs.Ready.{sets_of, IsClear, IsReady}
 use Rattle.nk_compile.specs.Answers.{AreMade}
+use Rattle.nk_compile.specs.Counted.{HasTagSets}
 use Rattle.nk_compile.specs.WholeTable.{IsTableOf}
 use Rattle.nk_compile.proofs.Making.{is_compilable}
 use Rattle.nk_compile.proofs.Whole.{IsSetUp, start_of, test_of, not_both}
@@ -228,3 +229,7 @@ module _ (fields : FieldTable) (topo : Topology) (tag : ℕ) (p : Policy) (old :
         (subst (λ n. n ≤ most_tags fields fields.tag) (sym (length-map r (λ s. get_or ss s []))) (subst (λ n. length r ≤ n) (is ∙ sym (ap (most_tags fields) clear.tag_is)) few));
     printed = printed;
   }
+
+  -- there are as many tag sets as numbers
+  pub tags_counted : (n : ℕ) → n ≡ length r → HasTagSets fields topo p n
+  tags_counted n e = (sets_of ss r, in_order, e ∙ sym (length-map r (λ s. get_or ss s [])))

@@ -11,9 +11,10 @@ use Rattle.nk_names.specs.declared.Program.{Program}
 use Rattle.nk_names.specs.Named.{policy_named}
 use Rattle.nk_names.specs.ProgramValue.{IsProgram, IsLet}
 use Rattle.nk_names.specs.Accepted.{IsAccepted}
-use Rattle.nk_table.specs.declared.Tables.{Tables}
 use Rattle.nk_compile.specs.Refusals.{IsRefused, IsReason}
-use Rattle.nk_compile.specs.Answers.{IsMade, IsError, IsAnswer}
+use Rattle.nk_compile.specs.Answers.{IsMade, IsError}
+use Rattle.nk_compile.specs.Counted.{HasTagSets, IsCountedAnswer}
+use Rattle.nk_compile.specs.declared.counted.Counted.{Counted}
 use Rattle.nk_compile.specs.declared.refusal.Refusal.{Refusal}
 use Rattle.nk_compile.specs.declared.refusal.Refusal.TheVariants.{NoPolicy, NoTag, TagUsed, LooseDup, SwitchSet, NoSuchLink, OffEdge, TooManyTags}
 use Rattle.nk_compile.specs.declared.refusal.CompileError.{CompileError}
@@ -41,14 +42,17 @@ reason_named program name p named (OffEdge start history) e = (p, named, e)
 reason_named program name p named (TooManyTags found) e = (p, named, e)
 
 -- the answer for the policy is that for its name
-pub answer_named : (program : Program) (name : List ℕ) (p : Policy) (r : Result Tables CompileError) →
+pub answer_named : (program : Program) (name : List ℕ) (p : Policy) (r : Result Counted CompileError) →
     IsProgram program.fields program.topo program.lets → policy_named program name ≡ Some p →
-    IfOk r (IsMade program.fields program.topo p) → IfErr r (IsError program.fields program.topo p) → IsAnswer program name r
-answer_named program name p (Ok t) ok named made error =
-    let accepted : IsAccepted program p = (made.compilable, made.few) in
-    (p, named, accepted, made.printed, accepted_carries program name p t ok named accepted made.printed)
-answer_named program name p (Err NoMemory) ok named made error = tt
-answer_named program name p (Err (Refused r)) ok named made error = reason_named program name p named r error
+    IfOk r (λ c. IsMade program.fields program.topo p c.tables) → IfOk r (λ c. HasTagSets program.fields program.topo p c.tag_sets) →
+    IfErr r (IsError program.fields program.topo p) → IsCountedAnswer program name r
+answer_named program name p (Ok c) ok named made counted error =
+    let accepted : IsAccepted program p = (made.compilable, made.few) in (
+      (p, named, accepted, made.printed, accepted_carries program name p c.tables ok named accepted made.printed),
+      (p, named, accepted, counted),
+    )
+answer_named program name p (Err NoMemory) ok named made counted error = tt
+answer_named program name p (Err (Refused r)) ok named made counted error = reason_named program name p named r error
 
 -- a value of a list of values that are at most so much, 0 past its end
 at_most_all : (xs : List ℕ) (most : ℕ) → All (λ m. m ≤ most) xs → (k : ℕ) → get_or xs k 0 ≤ most

@@ -31,8 +31,12 @@ abbrev pub IsError : FieldTable → Topology → Policy → CompileError → Typ
 IsError fields topo p NoMemory = ⊤
 IsError fields topo p (Refused r) = IsReason fields topo p r
 
--- the tables, or the first reason to refuse the name; want of memory may come at any
+-- why a name has no answer: the first reason to refuse it; want of memory may come at any
+abbrev pub IsNoAnswer : Program → List ℕ → CompileError → Type 0
+IsNoAnswer program name NoMemory = ⊤
+IsNoAnswer program name (Refused r) = IsRefused program name r
+
+-- the tables, or why there are none
 abbrev pub IsAnswer : Program → List ℕ → Result Tables CompileError → Type 0
 IsAnswer program name (Ok t) = IsCompiled program name t
-IsAnswer program name (Err NoMemory) = ⊤
-IsAnswer program name (Err (Refused r)) = IsRefused program name r
+IsAnswer program name (Err e) = IsNoAnswer program name e

@@ -1,6 +1,7 @@
 pub mod Answers
 pub mod Carries
 pub mod Comings
+pub mod Counted
 pub mod DeclaredLinks
 pub mod Edges
 pub mod Headline

@@ -1,6 +1,8 @@
-//! The tables of a named policy of a program.
+//! The tables of a named policy of a program, and the number of its tag sets.
 ghost use Rattle.nk_compile.specs.Answers.{IsAnswer};
+ghost use Rattle.nk_compile.specs.Counted.{IsCountAnswer, IsCountedAnswer};
 
+use crate::counted::Counted;
 use crate::refusal::{CompileError, Refusal};
 use crate::tables::policy_tables;
 use nk_names::Program;
@@ -12,6 +14,31 @@ use std::alloc::Global;
 /// A policy is refused for the first reason in the order of `Refusal`; the only other error is that memory ran out.
 pub fn compile(alloc: Global, program: &Program, name: &str) -> Result<Tables, CompileError>
     ensures { IsAnswer program.now name.now result }
+{
+    match compile_counted(alloc, program, name) {
+        Ok(counted) => Ok(counted.tables),
+        Err(e) => Err(e),
+    }
+}
+
+/// The number of a named policy's tag sets: how many states it needs behind links. It is refused as by `compile`, whose work it
+/// takes.
+pub fn tag_count(alloc: Global, program: &Program, name: &str) -> Result<u64, CompileError>
+    ensures { IsCountAnswer program.now name.now result }
+{
+    match compile_counted(alloc, program, name) {
+        Ok(counted) => Ok(counted.tag_sets),
+        Err(e) => Err(e),
+    }
+}
+
+/// The printed tables of a named policy, and the number of its tag sets. It is refused as by `compile`.
+pub fn compile_counted(
+    alloc: Global,
+    program: &Program,
+    name: &str,
+) -> Result<Counted, CompileError>
+    ensures { IsCountedAnswer program.now name.now result }
 {
     let Some(p) = program.find(name) else {
         return Err(CompileError::Refused(Refusal::NoPolicy));

@@ -2,6 +2,7 @@
 #![tactic(auto)]
 
 mod compilation;
+mod counted;
 mod edges;
 mod ends;
 pub mod laws;
@@ -14,5 +15,6 @@ mod tables;
 mod tagging;
 mod wrong_ends;
 
-pub use compilation::compile;
+pub use compilation::{compile, compile_counted, tag_count};
+pub use counted::Counted;
 pub use refusal::{CompileError, Refusal};

@@ -15,7 +15,9 @@ ghost use Rattle.nk_compile.specs.Levelled.{IsLevelled, IsOffFault, IsTagFault, 
 ghost use Rattle.nk_compile.specs.declared.refusal.CompileError.TheVariants as compile;
 ghost use Rattle.nk_compile.specs.declared.refusal.Refusal.TheVariants as refusal;
 ghost use Rattle.nk_compile.specs.Answers.{AreMade, IsMade, IsError};
+ghost use Rattle.nk_compile.specs.Counted.{HasTagSets};
 
+use crate::counted::Counted;
 use crate::edges::{off_edges, starts};
 use crate::refusal::{CompileError, Refusal};
 use crate::sight::seen;
@@ -109,17 +111,20 @@ fn fault(e: NumberError) -> CompileError
     }
 }
 
-/// The tables of all switches for a policy of which nothing is seen that stands against it, by its automaton's rows.
+/// The tables of all switches for a policy of which nothing is seen that stands against it, by its automaton's rows, and the
+/// number of its tag sets.
 fn tables_from(
     st: &mut Store,
     topo: &Topo,
     tag: Fid,
     p: &Pol,
     rows: &[Id],
-) -> Result<List<Table>, CompileError>
+) -> Result<(List<Table>, u64), CompileError>
     requires begun { (fields : FieldTable) × IsBegun fields topo.now tag (tree_of p.now) st.old rows.now }
-    ensures made { IfOk result (λ ts. (fields : FieldTable) → IsBegun fields topo.now tag (tree_of p.now) st.old rows.now
-        → AreMade fields topo.now (tree_of p.now) ts) }
+    ensures made { IfOk result (λ r. (fields : FieldTable) → IsBegun fields topo.now tag (tree_of p.now) st.old rows.now
+        → AreMade fields topo.now (tree_of p.now) r.0) }
+    ensures counted { IfOk result (λ r. (fields : FieldTable) → IsBegun fields topo.now tag (tree_of p.now) st.old rows.now
+        → HasTagSets fields topo.now (tree_of p.now) r.1) }
     ensures error { IfErr result (λ e. (fields : FieldTable) → IsBegun fields topo.now tag (tree_of p.now) st.old rows.now
         → IsError fields topo.now (tree_of p.now) e) }
 {
@@ -128,17 +133,18 @@ fn tables_from(
     ss.differ();
     st.laws();
     let tags = numbers(&ss, &lv, st.max(tag))?;
-    Ok(tag_tables(st, &mut ss, topo, p, rows, tags.as_slice())?)
+    let tables = tag_tables(st, &mut ss, topo, p, rows, tags.as_slice())?;
+    Ok((tables, tags.len() as u64))
 }
 
-/// The tables of all switches for a policy of which nothing is seen that stands against it.
+/// The tables of all switches for a policy of which nothing is seen that stands against it, and the number of its tag sets.
 fn tables_of(
     alloc: Global,
     fields: &Fields,
     topo: &Topo,
     tag: Fid,
     p: &Pol,
-) -> Result<List<Table>, CompileError>
+) -> Result<(List<Table>, u64), CompileError>
     requires tag { fields.now.tag ≡ Some tag }
     requires numbered { marked_from (tree_of p.now) 1 ≡ tree_of p.now }
     requires few { 1 + dups_of (tree_of p.now) ≤ 2 ^ 32 }
@@ -146,7 +152,8 @@ fn tables_of(
     requires complements { NegatesPredicates (tree_of p.now) }
     requires range { IsInRange (tree_of p.now) fields.now }
     requires seen { seen_with tag topo.now (tree_of p.now) ≡ None }
-    ensures made { IfOk result (AreMade fields.now topo.now (tree_of p.now)) }
+    ensures made { IfOk result (λ r. AreMade fields.now topo.now (tree_of p.now) r.0) }
+    ensures counted { IfOk result (λ r. HasTagSets fields.now topo.now (tree_of p.now) r.1) }
     ensures error { IfErr result (IsError fields.now topo.now (tree_of p.now)) }
 {
     let _few = fields.declared();
@@ -156,19 +163,20 @@ fn tables_of(
     tables_from(&mut st, topo, tag, p, rows.as_slice())
 }
 
-/// The printed tables of a policy, or the first reason to refuse it.
+/// The printed tables of a policy and the number of its tag sets, or the first reason to refuse it.
 pub fn policy_tables(
     alloc: Global,
     fields: &Fields,
     topo: &Topo,
     p: &Pol,
-) -> Result<Tables, CompileError>
+) -> Result<Counted, CompileError>
     requires numbered { marked_from (tree_of p.now) 1 ≡ tree_of p.now }
     requires few { 1 + dups_of (tree_of p.now) ≤ 2 ^ 32 }
     requires room { (f : ℕ) → slice_index fields.now.maxima f + 1 < 2 ^ 64 }
     requires complements { NegatesPredicates (tree_of p.now) }
     requires range { IsInRange (tree_of p.now) fields.now }
-    ensures made { IfOk result (IsMade fields.now topo.now (tree_of p.now)) }
+    ensures made { IfOk result (λ c. IsMade fields.now topo.now (tree_of p.now) c.tables) }
+    ensures counted { IfOk result (λ c. HasTagSets fields.now topo.now (tree_of p.now) c.tag_sets) }
     ensures error { IfErr result (IsError fields.now topo.now (tree_of p.now)) }
 {
     let Some(tag) = fields.tag() else {
@@ -177,10 +185,11 @@ pub fn policy_tables(
     if let Some(reason) = seen(p, topo, tag) {
         return Err(CompileError::Refused(reason));
     }
-    let tables = tables_of(alloc, fields, topo, tag, p)?;
-    Ok(Tables {
+    let (tables, tag_sets) = tables_of(alloc, fields, topo, tag, p)?;
+    let tables = Tables {
         fields: fields.copy()?,
         topo: topo.copy()?,
         tables,
-    })
+    };
+    Ok(Counted { tables, tag_sets })
 }

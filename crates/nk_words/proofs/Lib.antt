@@ -1,3 +1,4 @@
 pub mod Leaves
+pub mod Limits
 pub mod Numbers
 pub mod Simple

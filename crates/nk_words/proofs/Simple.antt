@@ -14,12 +14,12 @@ use Rattle.clap.specs.Faults.{fault_of, is_free_app, is_simple_and_free}
 use Rattle.clap.specs.Simple.{built}
 use Rattle.nk_words.specs.declared.words.Command.{Command}
 use Rattle.nk_words.specs.declared.words.WordsError.{WordsError}
-use Rattle.nk_words.specs.App.{nk_app, nk_without_queries}
+use Rattle.nk_words.specs.App.{nk_app, nk_without_generation, nk_without_queries}
 use Rattle.nk_words.specs.Words.{Reads, command_found, command_of}
 
 -- `clap` tells of these commands exactly what it reads and refuses
 nk_simple : is_simple_and_free nk_app ≡ true
-unfolding nk_app nk_without_queries
+unfolding nk_app nk_without_generation nk_without_queries
 nk_simple = refl
 
 -- the first of two tests that are both true

@@ -40,12 +40,18 @@ nk_without_queries = with_subcommand
     (leaf_shape (codes "check") (codes "LEFT" ∷ codes "RIGHT" ∷ [])))
     (leaf_shape (codes "fly") (codes "SEED" ∷ codes "STEPS" ∷ codes "PACKET" ∷ []))
 
--- with all of its commands
-unfoldable pub nk_app : App
-nk_app = with_subcommand
+-- with these and the commands about queries
+unfoldable pub nk_without_generation : App
+nk_without_generation = with_subcommand
     (with_subcommand
     (with_subcommand
     (with_subcommand nk_without_queries (leaf_shape (codes "apart") (codes "NAME" ∷ codes "A" ∷ codes "B" ∷ [])))
     (leaf_shape (codes "waypoint") (codes "NAME" ∷ codes "A" ∷ codes "W" ∷ codes "B" ∷ [])))
     (leaf_shape (codes "check_apart") (codes "NAME" ∷ codes "A" ∷ codes "B" ∷ [])))
     (leaf_shape (codes "check_waypoint") (codes "NAME" ∷ codes "A" ∷ codes "W" ∷ codes "B" ∷ []))
+
+-- with all of its commands
+unfoldable pub nk_app : App
+nk_app = with_subcommand
+    (with_subcommand nk_without_generation (leaf_shape (codes "gen") (codes "SIZE" ∷ codes "SEED" ∷ [])))
+    (leaf_shape (codes "job") (codes "SIZE" ∷ codes "SEED" ∷ []))

@@ -1,5 +1,5 @@
 -- The command that the words give, by `clap`'s own functions of the words.
-use Rattle.std.specs.Prelude.{◌≡◌, ◌==◌, ℕ, List, map, length, codes, Option, Some, None, option_map}
+use Rattle.std.specs.Prelude.{◌≡◌, ◌==◌, ◌≤◌, ℕ, List, map, length, codes, Option, Some, None, option_map}
 use Rattle.std.specs.Prelude.{option_and_then, if◌then◌else◌, ⊤, String, string_bytes, Ok, Err}
 use Rattle.std.specs.Global.{Global}
 use Rattle.std.specs.declared.result.Result.{Result}
@@ -9,7 +9,7 @@ use Rattle.clap.specs.Simple.{subcommand_of}
 use Rattle.clap.specs.Faults.{fault_of}
 use Rattle.nk_words.specs.declared.words.Command.{Command}
 use Rattle.nk_words.specs.declared.words.Command.TheVariants.{Compile, Trace, Equal, Check, Fly}
-use Rattle.nk_words.specs.declared.words.Command.TheVariants.{Apart, Waypoint, CheckApart, CheckWaypoint}
+use Rattle.nk_words.specs.declared.words.Command.TheVariants.{Apart, Waypoint, CheckApart, CheckWaypoint, Gen, Job}
 use Rattle.nk_words.specs.declared.words.WordsError.{WordsError}
 use Rattle.nk_words.specs.declared.words.WordsError.TheVariants.{NoMemory, Usage}
 use Rattle.nk_words.specs.App.{nk_app}
@@ -73,6 +73,18 @@ waypoint_of rows = option_map (λ t. Waypoint t.0 t.1 t.2 t.3) (four_texts rows)
 abbrev pub check_waypoint_of : List Row → Option Command
 check_waypoint_of rows = option_map (λ t. CheckWaypoint t.0 t.1 t.2 t.3) (four_texts rows)
 
+-- the numbers of the arguments `SIZE SEED`, from what was found of them
+abbrev pub network_numbers : List Row → Option (ℕ × ℕ)
+network_numbers rows = option_and_then (λ size. option_map (λ seed. (size, seed)) (number_of (codes "SEED") 1 2147483646 rows))
+    (number_of (codes "SIZE") 2 1000 rows)
+
+-- the commands `gen SIZE SEED` and `job SIZE SEED`
+abbrev pub gen_of : List Row → Option Command
+gen_of rows = option_map (λ n. Gen n.0 n.1) (network_numbers rows)
+
+abbrev pub job_of : List Row → Option Command
+job_of rows = option_map (λ n. Job n.0 n.1) (network_numbers rows)
+
 -- the command of this name, from what was found of its arguments
 abbrev pub command_with : Text → List Row → Option Command
 command_with name rows = if bytes_eq name (codes "compile") then compile_of rows
@@ -83,7 +95,9 @@ command_with name rows = if bytes_eq name (codes "compile") then compile_of rows
     else if bytes_eq name (codes "apart") then apart_of rows
     else if bytes_eq name (codes "waypoint") then waypoint_of rows
     else if bytes_eq name (codes "check_apart") then check_apart_of rows
-    else if bytes_eq name (codes "check_waypoint") then check_waypoint_of rows else None
+    else if bytes_eq name (codes "check_waypoint") then check_waypoint_of rows
+    else if bytes_eq name (codes "gen") then gen_of rows
+    else if bytes_eq name (codes "job") then job_of rows else None
 
 -- the command of the subcommand that was found
 abbrev pub command_found : Option (Text × List Row) → Option Command
@@ -99,3 +113,11 @@ abbrev pub Reads : {X : Type 0} → Option X → Result X WordsError → Type 0
 Reads o (Ok x) = o ≡ Some x
 Reads o (Err NoMemory) = ⊤
 Reads o (Err Usage) = o ≡ None
+
+-- the command's numbers are within their limits
+abbrev pub IsWithinLimits : Command → Type 0
+IsWithinLimits (Trace hops packet) = hops ≤ 65535
+IsWithinLimits (Fly seed steps packet) = (1 ≤ seed) × (seed ≤ 2147483646) × (steps ≤ 1000000)
+IsWithinLimits (Gen size seed) = (2 ≤ size) × (size ≤ 1000) × (1 ≤ seed) × (seed ≤ 2147483646)
+IsWithinLimits (Job size seed) = (2 ≤ size) × (size ≤ 1000) × (1 ≤ seed) × (seed ≤ 2147483646)
+IsWithinLimits c = ⊤

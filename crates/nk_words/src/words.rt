@@ -4,9 +4,10 @@ ghost use Rattle.clap.specs.declared.builder.command.Command.TheViews.{out-Comma
 ghost use Rattle.clap.specs.Matches.{found_of};
 ghost use Rattle.clap.specs.Simple.{app_of, subcommand_rows_of, with_rule, with_subcommand};
 ghost use Rattle.clap.specs.Walk.{first_of, rows_of};
-ghost use Rattle.nk_words.specs.App.{leaf_app, leaf_shape, nk_app, nk_top, nk_without_queries, wanted};
-ghost use Rattle.nk_words.specs.Words.{Reads, command_found, command_of, command_with, compile_of};
+ghost use Rattle.nk_words.specs.App.{leaf_app, leaf_shape, nk_app, nk_top, nk_without_generation, nk_without_queries, wanted};
+ghost use Rattle.nk_words.specs.Words.{IsWithinLimits, Reads, command_found, command_of, command_with, compile_of};
 ghost use Rattle.nk_words.specs.Words.{apart_of, check_apart_of, check_of, check_waypoint_of, equal_of, fly_of};
+ghost use Rattle.nk_words.specs.Words.{gen_of, job_of, network_numbers};
 ghost use Rattle.nk_words.specs.Words.{four_texts, number_of, texts, three_texts, trace_of, waypoint_of};
 
 use crate::Bytes;
@@ -39,6 +40,10 @@ pub enum Command {
     CheckApart(Bytes, Bytes, Bytes),
     /// `check_waypoint NAME A W B`: what is found of a certificate that each history of the policy that does has a packet of W.
     CheckWaypoint(Bytes, Bytes, Bytes, Bytes),
+    /// `gen SIZE SEED`: the text of a program over so many switches, 2 to 1000, made by the draws behind the seed, 1 to 2147483646.
+    Gen(u64, u64),
+    /// `job SIZE SEED`: what is counted of that program's tables, and of the certificate that two of its policies do the same.
+    Job(u64, u64),
 }
 
 /// Why the words give no command.
@@ -122,9 +127,9 @@ fn without_queries<'a>(alloc: Global) -> Result<clap::Command<'a>, AllocError>
     with_leaf(alloc, app, "fly", &["SEED", "STEPS", "PACKET"])
 }
 
-/// The program with all of its commands.
-fn application<'a>(alloc: Global) -> Result<clap::Command<'a>, AllocError>
-    ensures { IfOk result (λ c. app_of c ≡ nk_app) }
+/// The program with these and the commands about queries.
+fn without_generation<'a>(alloc: Global) -> Result<clap::Command<'a>, AllocError>
+    ensures { IfOk result (λ c. app_of c ≡ nk_without_generation) }
 {
     let app = without_queries(alloc)?;
     let app = with_leaf(alloc, app, "apart", &["NAME", "A", "B"])?;
@@ -133,9 +138,19 @@ fn application<'a>(alloc: Global) -> Result<clap::Command<'a>, AllocError>
     with_leaf(alloc, app, "check_waypoint", &["NAME", "A", "W", "B"])
 }
 
+/// The program with all of its commands.
+fn application<'a>(alloc: Global) -> Result<clap::Command<'a>, AllocError>
+    ensures { IfOk result (λ c. app_of c ≡ nk_app) }
+{
+    let app = without_generation(alloc)?;
+    let app = with_leaf(alloc, app, "gen", &["SIZE", "SEED"])?;
+    with_leaf(alloc, app, "job", &["SIZE", "SEED"])
+}
+
 /// The command that the words give. `Usage` comes exactly where they give none.
 pub fn read_words(alloc: Global, words: &[String]) -> Result<Command, WordsError>
-    ensures { Reads (command_of (texts words.now)) result }
+    ensures reads { Reads (command_of (texts words.now)) result }
+    ensures limits { IfOk result IsWithinLimits }
 {
     let Ok(application) = application(alloc) else {
         return Err(WordsError::NoMemory);
@@ -179,6 +194,10 @@ fn command_named(alloc: Global, name: &str, found: &ArgMatches) -> Result<Comman
         check_apart(alloc, found)
     } else if name == "check_waypoint" {
         check_waypoint(alloc, found)
+    } else if name == "gen" {
+        generate(found)
+    } else if name == "job" {
+        job(found)
     } else {
         Err(WordsError::Usage)
     }
@@ -259,6 +278,31 @@ fn check_waypoint(alloc: Global, found: &ArgMatches) -> Result<Command, WordsErr
 {
     let (name, from, middle, target) = four(alloc, found)?;
     Ok(Command::CheckWaypoint(name, from, middle, target))
+}
+
+/// `gen SIZE SEED`.
+fn generate(found: &ArgMatches) -> Result<Command, WordsError>
+    ensures { Reads (gen_of (rows_of (found_of found.now))) result }
+{
+    let (size, seed) = size_and_seed(found)?;
+    Ok(Command::Gen(size, seed))
+}
+
+/// `job SIZE SEED`.
+fn job(found: &ArgMatches) -> Result<Command, WordsError>
+    ensures { Reads (job_of (rows_of (found_of found.now))) result }
+{
+    let (size, seed) = size_and_seed(found)?;
+    Ok(Command::Job(size, seed))
+}
+
+/// The numbers of the arguments `SIZE SEED`.
+fn size_and_seed(found: &ArgMatches) -> Result<(u64, u64), WordsError>
+    ensures { Reads (network_numbers (rows_of (found_of found.now))) result }
+{
+    let size = number_at(found, "SIZE", 2, 1000)?;
+    let seed = number_at(found, "SEED", 1, 2147483646)?;
+    Ok((size, seed))
 }
 
 /// The texts of the arguments `NAME A B`.

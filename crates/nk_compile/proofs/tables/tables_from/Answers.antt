@@ -7,7 +7,7 @@ use Rattle.nk_field.specs.Packet.{FieldTable}
 use Rattle.nk_store.proofs.InRange.{same_value, over_grown}
 use Rattle.nk_runs.proofs.Stands.{are_rows}
 use Rattle.nk_compile.proofs.Fitting.{places_high}
-use Rattle.nk_compile.proofs.Levelled.{least_off, all_end, many_are_tags, entries_are, is_ready, are_made}
+use Rattle.nk_compile.proofs.Levelled.{least_off, all_end, many_are_tags, entries_are, is_ready, are_made, tags_counted}
 use Rattle.nk_compile.proofs.Making.{refused_with, off_error, many_error}
 use Rattle.nk_compile.proofs.tables.tables_from.Goals as goal
 
@@ -74,7 +74,13 @@ returns-clause-made c = λ fields b.
     let numbers = subst (AreNumbers c.levels_from.new.ss c.in_ok-lv.lv.levels) (sym c.as_slice.ensures) c.in_ok-tags.ensures.ok in
     are_made fields c.args.topo.now c.args.tag (tree_of c.args.p.now) c.args.st.now c.args.rows.now c.levels_from.new.st c.levels_from.new.ss c.in_ok-lv.lv.levels c.in_ok-lv.lv.broken
     b.clear b.over b.automaton c.in_ok-lv.ensures.ok c.in_ok-lv.ensures.whole c.differ.ensures.differ c.differ.ensures.ascend c.laws.ensures.fields c.as_slice.result.now numbers
-    c.max.result (subst (λ l. length l ≤ c.max.result) (sym c.as_slice.ensures) c.in_ok-tags.ensures.few) (c.max.ensures ∙ same_value fields c.levels_from.new.st c.args.tag (over_grown fields c.args.st.now c.levels_from.new.st b.over c.levels_from.ensures.grows)) c.in_ok-tag_tables.field-0
-    (c.in_ok-tag_tables.ensures fields c.args.tag b.clear
+    c.max.result (subst (λ l. length l ≤ c.max.result) (sym c.as_slice.ensures) c.in_ok-tags.ensures.few) (c.max.ensures ∙ same_value fields c.levels_from.new.st c.args.tag (over_grown fields c.args.st.now c.levels_from.new.st b.over c.levels_from.ensures.grows)) c.in_ok-tables.tables
+    (c.in_ok-tables.ensures fields c.args.tag b.clear
     (is_ready fields c.args.topo.now c.args.tag (tree_of c.args.p.now) c.args.st.now c.args.rows.now c.levels_from.new.st c.levels_from.new.ss c.in_ok-lv.lv.levels c.in_ok-lv.lv.broken
     b.clear b.over b.automaton c.in_ok-lv.ensures.ok c.in_ok-lv.ensures.whole c.differ.ensures.differ c.differ.ensures.ascend c.laws.ensures.fields c.as_slice.result.now numbers))
+
+pub returns-clause-counted : goal.returns-clause-counted
+returns-clause-counted c = λ fields b.
+    tags_counted fields c.args.topo.now c.args.tag (tree_of c.args.p.now) c.args.st.now c.args.rows.now c.levels_from.new.st c.levels_from.new.ss c.in_ok-lv.lv.levels c.in_ok-lv.lv.broken
+    b.clear b.over b.automaton c.in_ok-lv.ensures.ok c.in_ok-lv.ensures.whole c.differ.ensures.differ c.differ.ensures.ascend c.laws.ensures.fields c.in_ok-tags.tags
+    c.in_ok-tags.ensures.ok c.len.result c.len.ensures

@@ -3,9 +3,10 @@ use Rattle.std.specs.Prelude.{IfOk, IfErr, slice_index}
 use Rattle.nk_policy.specs.Ranges.{IsInRange}
 use Rattle.nk_names.specs.ProgramValue.{ProgramValue}
 use Rattle.nk_compile.specs.Answers.{IsMade, IsError}
+use Rattle.nk_compile.specs.Counted.{HasTagSets}
 use Rattle.nk_policy.specs.Tree.{tree_of}
 use Rattle.nk_compile.proofs.Naming.{let_named, answer_named, has_few_dups, has_room}
-use Rattle.nk_compile.proofs.compilation.compile.Goals as goal
+use Rattle.nk_compile.proofs.compilation.compile_counted.Goals as goal
 
 pub policy_tables-requires-clause-numbered : goal.policy_tables-requires-clause-numbered
 policy_tables-requires-clause-numbered c =
@@ -32,5 +33,6 @@ policy_tables-requires-clause-range c =
 pub returns : goal.returns
 returns c =
     answer_named c.args.program.now c.args.name.now (tree_of c.in-Some.p.now) c.policy_tables.result c.find.ensures.is (sym c.in-Some.ensures.found)
-    (subst (λ (v : ProgramValue). IfOk c.policy_tables.result (IsMade v.fields v.topo (tree_of c.in-Some.p.now))) c.program.view_is c.policy_tables.ensures.made)
+    (subst (λ (v : ProgramValue). IfOk c.policy_tables.result (λ r. IsMade v.fields v.topo (tree_of c.in-Some.p.now) r.tables)) c.program.view_is c.policy_tables.ensures.made)
+    (subst (λ (v : ProgramValue). IfOk c.policy_tables.result (λ r. HasTagSets v.fields v.topo (tree_of c.in-Some.p.now) r.tag_sets)) c.program.view_is c.policy_tables.ensures.counted)
     (subst (λ (v : ProgramValue). IfErr c.policy_tables.result (IsError v.fields v.topo (tree_of c.in-Some.p.now))) c.program.view_is c.policy_tables.ensures.error)

@@ -1,0 +1,179 @@
+//! The answers of `gen SIZE SEED` and `job SIZE SEED`.
+ghost use Rattle.std.specs.Prelude.{◌≡◌, ◌≤◌, ◌++◌, IfOk, OnOk, List, ℕ, length};
+ghost use Rattle.std.specs.List.{sum_by};
+ghost use Rattle.nk_names.specs.ProgramOf.{said_by};
+ghost use Rattle.nk_names.specs.ProgramValue.{IsProgram};
+ghost use Rattle.nk.specs.Comparing.{ToCompared};
+ghost use Rattle.nk.specs.Compiling.{ToProgram};
+ghost use Rattle.nk.specs.Declarable.{IsDeclared};
+ghost use Rattle.nk.specs.Generating.{CountsRows, CountsTables, IsGenAnswer, IsJobAnswer, IsJobOver, rows_line, tables_line};
+ghost use Rattle.nk.specs.JobSteps.{IsStep};
+ghost use Rattle.nk.specs.ProgramText.{Declares};
+ghost use Rattle.nk.specs.Reply.{said};
+
+use crate::Said;
+use crate::messages::{difference_message, no_policy_message, refusal_message};
+use crate::program_text::{ReadText, read_program};
+use itoa::Buffer;
+use nk_bisim::{CompareError, Compared, compare};
+use nk_certtext::laws::certificates_of_policies_are_read;
+use nk_compile::{CompileError, Counted, compile_counted};
+use nk_gen::generate;
+use nk_names::Program;
+use nk_readback::laws::compiled_tables_are_printable;
+use nk_table::Table;
+use nk_tabtext::printed_tables_are_read;
+use std::alloc::{AllocError, Global};
+
+/// A step of the job.
+#[derive(Drop)]
+pub enum Step {
+    /// The step is done: the line of what is counted.
+    Line(Vec<u8>),
+    /// It is not: the answer of its command.
+    Ends(Said),
+}
+
+/// The text of a generated program.
+pub(crate) fn gen_answer(alloc: Global, size: u64, seed: u64) -> Result<Said, AllocError>
+    requires sizes { (2 ≤ size) × (size ≤ 1000) }
+    requires seeds { (1 ≤ seed) × (seed ≤ 2147483646) }
+    ensures { IfOk result (λ s. IsGenAnswer size seed (said s)) }
+{
+    Ok(Said::Done(generate(alloc, size, seed)?))
+}
+
+/// What is counted of a generated program's policies. The text is made once and read once, and no table or certificate is printed.
+pub(crate) fn job_answer(alloc: Global, size: u64, seed: u64) -> Result<Said, AllocError>
+    requires sizes { (2 ≤ size) × (size ≤ 1000) }
+    requires seeds { (1 ≤ seed) × (seed ≤ 2147483646) }
+    ensures { IfOk result (λ s. IsJobAnswer size seed (said s)) }
+{
+    let text = generate(alloc, size, seed)?;
+    job_over(alloc, &text)
+}
+
+/// The same over the bytes of a text.
+fn job_over(alloc: Global, bytes: &[u8]) -> Result<Said, AllocError>
+    ensures { IfOk result (λ s. IsJobOver bytes.now (said s)) }
+{
+    match read_program(alloc, bytes)? {
+        ReadText::Program(program) => job_of_program(alloc, &program),
+        ReadText::Fault(line) => Ok(Said::Text(line)),
+    }
+}
+
+/// The same over a program: the first answer that isn't that its command is done, or else the lines of all three.
+fn job_of_program(alloc: Global, program: &Program) -> Result<Said, AllocError>
+    requires is { IsProgram program.now.fields program.now.topo program.now.lets }
+    requires declared { IsDeclared (said_by program.now) }
+    ensures { IfOk result (λ s. (bytes : List ℕ) → Declares bytes (said_by program.now) → IsJobOver bytes (said s)) }
+{
+    let mut out = match count_tables(alloc, program, "go")? {
+        Step::Line(line) => line,
+        Step::Ends(answer) => return Ok(answer),
+    };
+    let cast = match count_tables(alloc, program, "cast")? {
+        Step::Line(line) => line,
+        Step::Ends(answer) => return Ok(answer),
+    };
+    let equal = match count_rows(alloc, program, "go", "same")? {
+        Step::Line(line) => line,
+        Step::Ends(answer) => return Ok(answer),
+    };
+    out.extend_from_slice(&cast)?;
+    out.extend_from_slice(&equal)?;
+    Ok(Said::Done(out))
+}
+
+/// The line of a policy's tables, or the answer of `compile` where it isn't done.
+fn count_tables(alloc: Global, program: &Program, name: &str) -> Result<Step, AllocError>
+    requires is { IsProgram program.now.fields program.now.topo program.now.lets }
+    requires declared { IsDeclared (said_by program.now) }
+    ensures { IfOk result (IsStep (ToProgram (said_by program.now) name.now) (CountsTables program.now name.now)) }
+{
+    // These two are laws: what is compiled is such as is read back, and that is read back.
+    compiled_tables_are_printable();
+    printed_tables_are_read();
+    match compile_counted(alloc, program, name) {
+        Ok(counted) => Ok(Step::Line(tables_message(alloc, name, &counted)?)),
+        Err(CompileError::Refused(reason)) => {
+            let message = refusal_message(alloc, &program.fields, &reason)?;
+            Ok(Step::Ends(Said::Refused(message)))
+        }
+        Err(CompileError::NoMemory) => Err(AllocError),
+    }
+}
+
+/// The line of the rows of two policies' certificate, or the answer of `equal` where it isn't done.
+fn count_rows(alloc: Global, program: &Program, left: &str, right: &str) -> Result<Step, AllocError>
+    requires is { IsProgram program.now.fields program.now.topo program.now.lets }
+    ensures { IfOk result (IsStep (ToCompared (said_by program.now) left.now right.now)
+        (CountsRows program.now left.now right.now)) }
+{
+    // This is a law: what is printed for two policies is read back.
+    certificates_of_policies_are_read();
+    match compare(alloc, program, left, right) {
+        Ok(Compared::Related(certificate)) => {
+            Ok(Step::Line(rows_message(alloc, certificate.rows.len())?))
+        }
+        Ok(Compared::Broken(found)) => {
+            let message = difference_message(alloc, &program.fields, &found)?;
+            Ok(Step::Ends(Said::Differs(message)))
+        }
+        Err(CompareError::NoPolicy) => Ok(Step::Ends(Said::Refused(no_policy_message(alloc)?))),
+        Err(CompareError::NoMemory) => Err(AllocError),
+    }
+}
+
+/// The line of what is counted of a policy's tables.
+fn tables_message(alloc: Global, name: &str, counted: &Counted) -> Result<Vec<u8>, AllocError>
+    ensures { IfOk result (λ v. v.items ≡ tables_line name.now counted.now.tag_sets counted.now.tables.tables) }
+{
+    let tables = counted.tables.tables.as_slice();
+    let mut buffer = Buffer::new();
+    let mut line = Vec::new(alloc);
+    line.extend_from_slice(name.as_bytes())?;
+    line.extend_from_slice(b" tags ")?;
+    line.extend_from_slice(buffer.format(counted.tag_sets).as_bytes())?;
+    line.extend_from_slice(b" rows ")?;
+    line.extend_from_slice(buffer.format(rows_in(tables)).as_bytes())?;
+    line.extend_from_slice(b" groups ")?;
+    line.extend_from_slice(buffer.format(groups_in(tables)).as_bytes())?;
+    line.extend_from_slice(b"\n")?;
+    Ok(line)
+}
+
+/// The line of a certificate with so many rows behind the start row.
+fn rows_message(alloc: Global, rows: usize) -> Result<Vec<u8>, AllocError>
+    ensures { IfOk result (λ v. v.items ≡ rows_line rows) }
+{
+    let mut buffer = Buffer::new();
+    let mut line = Vec::new(alloc);
+    line.extend_from_slice(b"equal rows ")?;
+    line.extend_from_slice(buffer.format(1 + rows as u128).as_bytes())?;
+    line.extend_from_slice(b"\n")?;
+    Ok(line)
+}
+
+/// How many rows the tables have together.
+fn rows_in(tables: &[Table]) -> u128
+    ensures { result ≡ sum_by (λ t. length t.rows) tables.now }
+{
+    let mut count: u128 = 0;
+    for table in tables {
+        count += table.rows.len() as u128;
+    }
+    count
+}
+
+/// How many groups the tables have together.
+fn groups_in(tables: &[Table]) -> u128
+    ensures { result ≡ sum_by (λ t. length t.groups) tables.now }
+{
+    let mut count: u128 = 0;
+    for table in tables {
+        count += table.groups.len() as u128;
+    }
+    count
+}

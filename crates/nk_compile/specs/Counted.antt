@@ -1,0 +1,35 @@
+-- How many tag sets a policy has, and what is answered beside the printed tables.
+use Rattle.std.specs.Prelude.{◌≡◌, ℕ, Some, List, length, Result, Ok, Err}
+use Rattle.nk_topo.specs.Topology.{Topology}
+use Rattle.nk_field.specs.Packet.{FieldTable}
+use Rattle.nk_policy.specs.Policy.{Policy}
+use Rattle.nk_policy.specs.Tags.{AreTags}
+use Rattle.nk_names.specs.declared.Program.{Program}
+use Rattle.nk_names.specs.Accepted.{IsStart, IsAccepted}
+use Rattle.nk_names.specs.Named.{policy_named}
+use Rattle.nk_compile.specs.declared.refusal.CompileError.{CompileError}
+use Rattle.nk_compile.specs.declared.counted.Counted.{Counted}
+use Rattle.nk_compile.specs.Answers.{IsNoAnswer}
+use Rattle.nk_compile.specs.Headline.{IsCompiled}
+
+-- there are so many tag sets: the list of all of them in order, each once, is so long
+abbrev pub HasTagSets : FieldTable → Topology → Policy → ℕ → Type 0
+HasTagSets fields topo p n = (tags : List (List ℕ)) × AreTags p (IsStart fields topo) tags × (n ≡ length tags)
+
+-- the name is an accepted policy's, and that has so many tag sets
+abbrev pub HasTagCount : Program → List ℕ → ℕ → Type 0
+HasTagCount program name n =
+    (p : Policy)
+    × (policy_named program name ≡ Some p)
+    × IsAccepted program p
+    × HasTagSets program.fields program.topo p n
+
+-- the tables with the number of the tag sets, or why there are none
+abbrev pub IsCountedAnswer : Program → List ℕ → Result Counted CompileError → Type 0
+IsCountedAnswer program name (Ok c) = IsCompiled program name c.tables × HasTagCount program name c.tag_sets
+IsCountedAnswer program name (Err e) = IsNoAnswer program name e
+
+-- the number of the tag sets, or why there is none
+abbrev pub IsCountAnswer : Program → List ℕ → Result ℕ CompileError → Type 0
+IsCountAnswer program name (Ok n) = HasTagCount program name n
+IsCountAnswer program name (Err e) = IsNoAnswer program name e

@@ -1,0 +1,5 @@
+pub mod Outcomes
+pub mod Following
+pub mod Named
+pub mod OneJob
+pub mod Answers

@@ -1,0 +1,13 @@
+pub mod Orders
+pub mod Fitting
+pub mod Reasons
+pub mod Trees
+pub mod OneTable
+pub mod Alike
+pub mod ByName
+pub mod Answering
+pub mod Comparing
+pub mod Asking
+pub mod Having
+pub mod Texts
+pub mod Worked

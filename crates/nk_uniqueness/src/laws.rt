@@ -1,0 +1,166 @@
+//! Laws of what is answered: over the definitions, at most one answer is right.
+ghost use Rattle.std.specs.Prelude.{◌≡◌, ◌⊎◌, ℕ, List, Ok, Err};
+ghost use Rattle.std.specs.declared.result.Result.{Result};
+ghost use Rattle.nk_field.specs.Order.{Found};
+ghost use Rattle.nk_field.specs.Packet.{FieldTable, IsFieldTable};
+ghost use Rattle.nk_topo.specs.Topology.{Topology};
+ghost use Rattle.nk_policy.specs.After.{id_policy};
+ghost use Rattle.nk_policy.specs.Policy.{Policy};
+ghost use Rattle.nk_names.specs.declared.Program.{Program};
+ghost use Rattle.nk_names.specs.Accepted.{IsStart, IsAccepted};
+ghost use Rattle.nk_names.specs.ProgramOf.{said_by};
+ghost use Rattle.nk_names.specs.ProgramValue.{IsProgram};
+ghost use Rattle.nk_names.specs.Topologies.{IsDeclarable};
+ghost use Rattle.nk_table.specs.declared.Tables.{Tables};
+ghost use Rattle.nk_compile.specs.declared.refusal.Refusal.{Refusal};
+ghost use Rattle.nk_compile.specs.declared.refusal.CompileError.{CompileError};
+ghost use Rattle.nk_compile.specs.declared.refusal.CompileError.TheVariants.{NoMemory, Refused};
+ghost use Rattle.nk_compile.specs.Answers.{IsAnswer};
+ghost use Rattle.nk_compile.specs.Headline.{IsAcceptedByName, IsCompiled};
+ghost use Rattle.nk_compile.specs.Refusals.{IsReason, IsRefused};
+ghost use Rattle.nk_compile.specs.Smallest.{tag_alone, one_port, one_row};
+ghost use Rattle.nk_compile.specs.WholeTable.{IsTableOf};
+ghost use Rattle.nk_cert.specs.Certificates.{CertificateValue};
+ghost use Rattle.nk_cert.specs.Equality.{Side, AreSame, IsLeastDifference};
+ghost use Rattle.nk_cert.specs.Verdicts.{Finding};
+ghost use Rattle.nk_bisim.specs.Answers.{IsCompared};
+ghost use Rattle.nk_bisim.specs.declared.answer.Compared.{Compared};
+ghost use Rattle.nk_query.specs.Asked.{Asked, Question, NamesQuestion};
+ghost use Rattle.nk_query.specs.Answers.{IsNamedQuestion, IsCause, IsAsked};
+ghost use Rattle.nk_query.specs.declared.error.QueryError.{QueryError};
+ghost use Rattle.nk_query.specs.declared.error.QueryError.TheVariants as query;
+ghost use Rattle.nk_query.specs.declared.shape.Answer.{Answer};
+ghost use Rattle.nk_uniqueness.specs.Packets.{HavePackets};
+ghost use Rattle.nk_uniqueness.specs.Queried.{Queried, queried_by, IsToldOf, IsToldOfNamed, IsFoundOfNamed};
+ghost use Rattle.nk_uniqueness.specs.Texts.{TextsHavePackets};
+ghost use Rattle.nk_uniqueness.specs.Told.{Told, told_by, LacksOne, IsTold, IsToldFor, IsFoundFor};
+ghost use Rattle.nk_uniqueness.specs.Worked.{AreMetBySmallPolicy, HasSeveralTables, IsSmallDifference};
+
+use nk_cert::laws::{one_certificate_is_printed, one_thing_is_found};
+use nk_compile::laws::the_smallest_table_is_printed;
+use nk_names::laws::{declared_fields_are_writable, declared_topologies_are_declarable};
+
+/// An accepted policy has no reason to be refused. So a name that one program accepts is refused by none that says the same.
+pub fn accepted_policies_have_no_reason()
+    ensures policy { (program : Program) (p : Policy) (r : Refusal)
+        → IsAccepted program p → IsReason program.fields program.topo p r → ⊥ }
+    ensures name { (program other : Program) (name : List ℕ) (r : Refusal) → said_by program ≡ said_by other
+        → IsAcceptedByName program name → IsRefused other name r → ⊥ }
+{}
+
+/// At most one reason to refuse a policy is the first, with all that is told of it. So it is of a name, in programs that say the
+/// same.
+pub fn a_policy_has_one_reason()
+    ensures policy { (fields : FieldTable) (topo : Topology) (p : Policy) (r s : Refusal)
+        → IsReason fields topo p r → IsReason fields topo p s → r ≡ s }
+    ensures name { (program other : Program) (name : List ℕ) (r s : Refusal) → said_by program ≡ said_by other
+        → IsRefused program name r → IsRefused other name s → r ≡ s }
+{}
+
+/// At most one table is the printed one of a policy, where packets in range can be at each switch. So it is of a name, in programs
+/// that say the same.
+pub fn one_table_is_printed()
+    ensures policy { (fields : FieldTable) (topo : Topology) (p : Policy) (t u : Tables) → HavePackets fields topo
+        → IsTableOf fields topo (IsStart fields topo) p t → IsTableOf fields topo (IsStart fields topo) p u → t ≡ u }
+    ensures name { (program other : Program) (name : List ℕ) (t u : Tables) → said_by program ≡ said_by other
+        → HavePackets program.fields program.topo
+        → IsCompiled program name t → IsCompiled other name u → t ≡ u }
+{}
+
+/// Compiling a name has one answer, but for want of memory: where the name is accepted, its tables, and where it is refused, the
+/// reason.
+pub fn compiling_has_one_answer()
+    ensures accepted { (program other : Program) (name : List ℕ) (a : Result Tables CompileError) → said_by program ≡ said_by other
+        → IsAcceptedByName program name → IsAnswer other name a
+        → (a ≡ Err NoMemory) ⊎ ((t : Tables) × (a ≡ Ok t) × IsCompiled other name t) }
+    ensures refused { (program other : Program) (name : List ℕ) (r : Refusal) (a : Result Tables CompileError) → said_by program ≡ said_by other
+        → IsRefused program name r → IsAnswer other name a → (a ≡ Err NoMemory) ⊎ (a ≡ Err (Refused r)) }
+    ensures one { (program other : Program) (name : List ℕ) (a b : Result Tables CompileError) → said_by program ≡ said_by other
+        → HavePackets program.fields program.topo → IsAnswer program name a → IsAnswer other name b
+        → (a ≡ Err NoMemory) ⊎ ((b ≡ Err NoMemory) ⊎ (a ≡ b)) }
+{}
+
+/// Packets in range can be at each switch of a program with a topology that a text can declare, and so of each text's program.
+pub fn switches_have_packets()
+    ensures program { (program : Program) → IsProgram program.fields program.topo program.lets
+        → IsDeclarable program.topo → HavePackets program.fields program.topo }
+    ensures texts { TextsHavePackets }
+{
+    declared_fields_are_writable();
+    declared_topologies_are_declarable();
+}
+
+/// The least history that one of two policies alone has is one, and so is its side; policies that give the same histories have none.
+pub fn one_difference_is_least()
+    ensures one { (fields : FieldTable) (p q : Policy) (s t : Side) (f g : Found)
+        → IsLeastDifference fields p q s f → IsLeastDifference fields p q t g → (s ≡ t) × (f ≡ g) }
+    ensures none { (fields : FieldTable) (p q : Policy) (s : Side) (f : Found)
+        → AreSame fields p q → IsLeastDifference fields p q s f → ⊥ }
+{}
+
+/// At most one thing can be told of two policies: their printed certificate, where both give the same histories, or the least history
+/// that one of them alone has. So it is of two names, in programs that say the same, and nothing is told of a name without a policy.
+pub fn one_comparison_is_told()
+    ensures policies { (fields : FieldTable) (p q : Policy) (a b : Told) → IsFieldTable fields
+        → IsTold fields p q a → IsTold fields p q b → a ≡ b }
+    ensures names { (program other : Program) (left right : List ℕ) (a b : Told) → said_by program ≡ said_by other
+        → IsFieldTable program.fields → IsToldFor program left right a → IsToldFor other left right b → a ≡ b }
+    ensures answers { (program other : Program) (left right : List ℕ) (a b : Compared) → said_by program ≡ said_by other
+        → IsFieldTable program.fields → IsCompared program left right (Ok a) → IsCompared other left right (Ok b)
+        → told_by a ≡ told_by b }
+    ensures no_policy { (program other : Program) (left right : List ℕ) (a : Told) → said_by program ≡ said_by other
+        → IsToldFor program left right a → LacksOne other left right → ⊥ }
+{
+    one_certificate_is_printed();
+}
+
+/// At most one thing is found of a certificate for two names, in programs that say the same, and nothing for a name without a
+/// policy.
+pub fn one_finding_is_told()
+    ensures names { (program other : Program) (left right : List ℕ) (c : CertificateValue) (v w : Finding)
+        → said_by program ≡ said_by other → IsFoundFor program left right c v → IsFoundFor other left right c w → v ≡ w }
+    ensures no_policy { (program other : Program) (left right : List ℕ) (c : CertificateValue) (v : Finding)
+        → said_by program ≡ said_by other → IsFoundFor program left right c v → LacksOne other left right → ⊥ }
+{
+    one_thing_is_found();
+}
+
+/// The question of a query's names is one, in programs that say the same. One that can be made is kept from being asked by nothing but
+/// want of memory, and beside that at most one cause keeps a query from being asked.
+pub fn one_question_is_asked()
+    ensures question { (program other : Program) (asked : Asked) (x y : Question) → said_by program ≡ said_by other
+        → NamesQuestion program asked x → NamesQuestion other asked y → x ≡ y }
+    ensures no_cause { (program other : Program) (asked : Asked) (x : Question) (cause : QueryError) → said_by program ≡ said_by other
+        → IsNamedQuestion program asked x → IsCause other asked cause → cause ≡ query.NoMemory }
+    ensures one_cause { (program other : Program) (asked : Asked) (a b : QueryError) → said_by program ≡ said_by other
+        → IsCause program asked a → IsCause other asked b → (a ≡ query.NoMemory) ⊎ ((b ≡ query.NoMemory) ⊎ (a ≡ b)) }
+{}
+
+/// At most one thing can be told of a query's question: the printed certificate of the question and `drop`, where no history breaks
+/// it, or the least history that does. So it is of names, in programs that say the same, and so it is of what is found of a
+/// certificate for them.
+pub fn one_thing_is_told_of_a_query()
+    ensures question { (fields : FieldTable) (x : Question) (a b : Queried) → IsFieldTable fields
+        → IsToldOf fields x a → IsToldOf fields x b → a ≡ b }
+    ensures names { (program other : Program) (asked : Asked) (a b : Queried) → said_by program ≡ said_by other
+        → IsFieldTable program.fields → IsToldOfNamed program asked a → IsToldOfNamed other asked b → a ≡ b }
+    ensures answers { (program other : Program) (asked : Asked) (a b : Answer) → said_by program ≡ said_by other
+        → IsFieldTable program.fields → IsAsked program asked (Ok a) → IsAsked other asked (Ok b) → queried_by a ≡ queried_by b }
+    ensures findings { (program other : Program) (asked : Asked) (c : CertificateValue) (v w : Finding) → said_by program ≡ said_by other
+        → IsFoundOfNamed program asked c v → IsFoundOfNamed other asked c w → v ≡ w }
+{
+    one_certificate_is_printed();
+    one_thing_is_found();
+}
+
+/// Small instances. What the laws ask can be met: of the smallest table's program, whose policy is accepted and has that table
+/// alone; without a tag the same policy is refused; and two small policies have a least difference. A switch of number 65,536, at
+/// which no packet can be, has two printed tables, so the premise is needed.
+pub fn worked_answers()
+    ensures met { AreMetBySmallPolicy }
+    ensures smallest { (u : Tables) → IsTableOf tag_alone one_port (IsStart tag_alone one_port) id_policy u → u ≡ one_row }
+    ensures difference { IsSmallDifference }
+    ensures several { HasSeveralTables }
+{
+    the_smallest_table_is_printed();
+}

@@ -1,0 +1,10 @@
+use Rattle.std.proofs.lemmas.Result.{IfOk-weaker}
+use Rattle.nk_words.specs.App.{nk_without_generation}
+use Rattle.nk_words.proofs.Leaves.{four_more}
+use Rattle.nk_words.proofs.words.without_generation.Goals as goal
+
+pub returns : goal.returns
+unfolding nk_without_generation
+returns c = IfOk-weaker c.with_leaf-4.result _ _
+    (λ r h. four_more _ _ _ _ _ _ _ _ _ _ c.in_ok-app.ensures c.in_ok-app-2.ensures c.in_ok-app-3.ensures c.in_ok-app-4.ensures h)
+    c.with_leaf-4.ensures
