@@ -1,19 +1,19 @@
 -- The reader's count follows that of a text with a certificate.
-use Rattle.std.proofs.Common.{◌≡◌, ◌≤◌, ℕ, suc, List, [], ◌∷◌, ◌++◌, true, false, length, refl, sym, subst, ◌∙◌, ap, append_assoc, append-nil, arith, Option}
+use Rattle.std.proofs.Common.{◌≡◌, ◌≤◌, ℕ, List, [], ◌∷◌, ◌++◌, length, refl, sym, subst, append_assoc, arith, Option}
 use Rattle.std.specs.Prelude.{Some, None, IsSomeAnd, map, if◌then◌else◌, option_and_then}
 use Rattle.nk_grammar.specs.declared.ast.Number.{Number}
-use Rattle.nk_grammar.specs.Terminal.{Terminal, number, colon, outside, certificate_word, row_word, start_word}
+use Rattle.nk_grammar.specs.Terminal.{Terminal, number, colon, outside, certificate_word, row_word}
 use Rattle.nk_grammar.specs.Tree.{Tree}
 use Rattle.nk_grammar.specs.Grammar.{Pol, spell_pol, pol_tree}
 use Rattle.nk_grammar.specs.Machine.{State, start, run, step, ended}
 use Rattle.nk_grammar.specs.File.{Declaration, Written, declared, spell_file}
 use Rattle.nk_grammar.specs.FileMachine.{Reading, read_one, read_all, first_reading, declarations_at_end, open_count}
 use Rattle.nk_grammar.specs.Certified.{Row, row, WrittenRow, written_row, spell_numbers, spell_rows, spell_certificate}
-use Rattle.nk_grammar.specs.CertifiedMachine.{declaring, row_wanted, numbers_read, in_row, Certifying, certifying, is_certificate, certificate_begins, still_declaring, row_done, row_on, certify_one, first_certifying, open_certified}
+use Rattle.nk_grammar.specs.CertifiedMachine.{declaring, numbers_read, in_row, Certifying, certifying, is_certificate, certificate_begins, still_declaring, row_done, row_on, certify_one, first_certifying, open_certified}
 use Rattle.nk_grammar.proofs.Texts.{outside_refused, left_by, reads_file}
 use Rattle.nk_grammar.proofs.CertifiedTexts.{not_certificate}
 use Rattle.nk_nesting.specs.Counts.{open_in_pol, open_in_file, GoWith}
-use Rattle.nk_nesting.specs.Certificates.{WrittenCertified, spell_certified, open_in_numbers, open_in_row, open_in_rows, open_in_certified}
+use Rattle.nk_nesting.specs.Certificates.{WrittenCertified, spell_certified, open_in_numbers, open_in_rows, open_in_certified}
 use Rattle.nk_nesting.proofs.Counting.{pol_goes, file_goes}
 use Rattle.nk_nesting.proofs.Following.{Follows, policy_follows, nothing_open, ReadsAlong, file_along}
 

@@ -1,6 +1,6 @@
 -- The reader's count follows the text's: it is at least that, and within the limit as long as the text's is. Behind a name
 -- alone it may be more, since an `=` or `:=` may come.
-use Rattle.std.proofs.Common.{◌≡◌, ◌≤◌, ℕ, suc, List, [], ◌∷◌, ◌++◌, true, false, length, refl, sym, subst, ◌∙◌, ap, append_assoc, append-nil, arith, Option}
+use Rattle.std.proofs.Common.{◌≡◌, ◌≤◌, ℕ, List, [], ◌∷◌, ◌++◌, true, false, length, refl, sym, subst, ◌∙◌, ap, append_assoc, append-nil, arith, Option}
 use Rattle.std.specs.Prelude.{Some, None, IsSomeAnd, option_and_then}
 use Rattle.nk_grammar.specs.declared.ast.Word.{Word}
 use Rattle.nk_grammar.specs.declared.ast.Number.{Number}
@@ -10,7 +10,7 @@ use Rattle.nk_grammar.specs.Tree.{Tree, Trees, name_of, not_of, no_part, with_pa
 use Rattle.nk_grammar.specs.Grammar.{Pol, Term, Factor, Atom, one_term, plus, one_factor, semi, plain, starred, written_not, written_id, written_drop, written_dup, written_name, written_test, written_set, written_link, paren, spell_pol, spell_term, spell_factor, spell_atom, terms_of, factors_of, factor_tree, atom_tree, pol_tree}
 use Rattle.nk_grammar.specs.Machine.{Open, group, negation, State, state, start, atom_ended, run, step, ended, HasNoNegation}
 use Rattle.nk_grammar.specs.File.{Declaration, Written, written_field, written_tag, written_switch, written_declared_link, written_let, spell_ports, spell_declaration, spell_file, declared, definition, switch}
-use Rattle.nk_grammar.specs.FileMachine.{Reading, reading, between, in_policy, port_read, policy_on, policy_done, begin_declaration, one_more, open_count, read_one}
+use Rattle.nk_grammar.specs.FileMachine.{Reading, reading, between, in_policy, port_read, policy_on, policy_done, one_more, open_count, read_one}
 use Rattle.nk_grammar.proofs.Spelled.{IsFree, has_star, term_has_star, pol_has_star, early, late, early_late, one_star, step_atom}
 use Rattle.nk_grammar.proofs.Texts.{outside_refused, left_by}
 use Rattle.nk_nesting.specs.Counts.{open_in_pol, open_in_term, open_in_factor, open_in_atom, open_in_ports, open_in_declaration, open_in_file}

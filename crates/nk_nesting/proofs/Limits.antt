@@ -1,5 +1,5 @@
 -- The limit: what the reader does with tokens whose counts it follows.
-use Rattle.std.proofs.Common.{◌≡◌, ◌≤◌, ◌<◌, ℕ, suc, Bool, true, false, List, [], ◌∷◌, ◌++◌, length, refl, sym, subst, ◌∙◌, ap, append_assoc, append-nil, arith, Option, cond, inl, inr, ◌⊎◌, ⊎_elim}
+use Rattle.std.proofs.Common.{◌≡◌, ◌≤◌, ◌<◌, ℕ, suc, Bool, true, false, List, [], ◌∷◌, ◌++◌, length, refl, sym, subst, ◌∙◌, ap, append_assoc, arith, Option, cond, inl, inr, ◌⊎◌, ⊎_elim}
 use Rattle.std.specs.Prelude.{Some, None, Ok, Err, All, IsSomeAnd, map, nat_le, option_and_then}
 use Rattle.std.specs.declared.result.Result.{Result}
 use Rattle.std.proofs.lemmas.Bool.Decides.{nat_tests}
