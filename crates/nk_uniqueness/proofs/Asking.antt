@@ -95,7 +95,7 @@ one_told_of law fields x table (breaking f) (breaking g) h k = ap breaking (one_
 -- what asking in memory answers is told of its names
 told_of_asked : (program : Program) (asked : Asked) (a : Answer) → IsAsked program asked (Ok a) → IsToldOfNamed program asked (queried_by a)
 told_of_asked program asked (Holds c) h = h
-told_of_asked program asked (Breaks f) h = h
+told_of_asked program asked (Breaks f) h = (h.0, h.1, h.2.0)
 
 module _ (program other : Program) (same : said_by program ≡ said_by other) where
   -- of a question that is named a cause holds in each program that says the same

@@ -1,8 +1,8 @@
 -- The runs of the policy of two switches, and what is left of it after the link.
 use Rattle.std.proofs.Common.{◌≡◌, ℕ, ◌+◌, ◌⊎◌, inl, inr, ⊎_elim, List, [], ◌∷◌, ◌++◌, refl, sym, ap, subst, ◌∙◌}
 use Rattle.std.specs.Prelude.{slice_index, slice_set}
-use Rattle.nk_policy.specs.Policy.{Policy, Policies, test, assign, seq_of, link, no_part, part}
-use Rattle.nk_policy.specs.Meaning.{Way, keep, keep_where, set_field, record_as, followed_by, way_of, way_of_all, Gives}
+use Rattle.nk_policy.specs.Policy.{test, assign, link, no_part, part}
+use Rattle.nk_policy.specs.Meaning.{Way, keep, keep_where, set_field, record_as, followed_by, way_of_all, Gives}
 use Rattle.nk_policy.specs.Progress.{Marked, Front, numbered, no_dup, at_dup, within_either, RecordsAt, AllRecordAt}
 use Rattle.nk_worked.specs.TwoSwitches.{crossing, after_link}
 

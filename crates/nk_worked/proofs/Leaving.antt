@@ -1,5 +1,5 @@
 -- What enters at 1:1 leaves after one crossing.
-use Rattle.std.proofs.Common.{◌≡◌, ℕ, List, [], ◌∷◌, refl, sym, ap, ◌∙◌}
+use Rattle.std.proofs.Common.{ℕ, List, refl, ap, ◌∙◌}
 use Rattle.nk_policy.specs.Meaning.{Gives}
 use Rattle.nk_worked.specs.TwoSwitches.{crossing}
 use Rattle.nk_worked.specs.TheirTable.{entering, its_history, LeavesAfterOneCrossing}

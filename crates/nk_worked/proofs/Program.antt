@@ -1,20 +1,16 @@
 -- A program has the policy as its one let, and it is accepted.
-use Rattle.std.proofs.Common.{◌≡◌, ℕ, ◌<◌, ◌≤◌, zero, suc, inl, ⊎_elim, Some, List, [], ◌∷◌, codes, refl, sym, ap, subst, ◌∙◌, arith}
-use Rattle.std.specs.Prelude.{All, AllPairs, Contains}
+use Rattle.std.proofs.Common.{◌≡◌, ℕ, ◌<◌, ◌≤◌, zero, suc, ⊎_elim, Some, List, [], ◌∷◌, codes, refl, sym, ap, subst, arith}
+use Rattle.std.specs.Prelude.{AllPairs, Contains}
 use denote.RawPtr.{null_ptr}
-use Rattle.nk_field.specs.Packet.{FieldTable}
 use Rattle.nk_field.proofs.Lists.{In}
 use Rattle.nk_field.proofs.Ascending.{all_from_members}
 use Rattle.nk_topo.specs.Topology.{IsTopology, SwitchPorts}
-use Rattle.nk_policy.specs.Policy.{Policy}
-use Rattle.nk_policy.specs.Ranges.{IsOver}
 use Rattle.nk_policy.specs.Tree.{tree_of}
 use Rattle.nk_policy.specs.declared.policy.Pol.{Pol, Test, Set, Link}
 use Rattle.nk_policy.specs.declared.policy.Pol.TheViews.{Seq}
 use Rattle.nk_policy.specs.declared.policy.Pols.{Pols}
 use Rattle.nk_policy.proofs.Trees.{tree_of_seq}
 use Rattle.nk_names.specs.Accepted.{IsAccepted}
-use Rattle.nk_names.specs.Named.{policy_named}
 use Rattle.nk_names.specs.ProgramValue.{IsProgram, IsLet}
 use Rattle.nk_table.specs.Worked.{one_link}
 use Rattle.nk_compile.specs.Carries.{Carries}

@@ -1,9 +1,8 @@
 -- The tree of worked rows.
-use Rattle.std.proofs.Common.{◌≡◌, ◌≢◌, ℕ, List, [], ◌∷◌, refl, sym, ap, arith}
+use Rattle.std.proofs.Common.{◌≡◌, List, [], ◌∷◌, refl, sym, arith}
 use Rattle.nk_store.specs.Diagram.{leaf}
 use Rattle.nk_table.specs.declared.Bucket.{Bucket}
-use Rattle.nk_worked.specs.TwoSwitches.{dst_and_tag}
-use Rattle.nk_worked.specs.WorkedRows.{by_port, back, both, HasDropRowAndGroup}
+use Rattle.nk_worked.specs.WorkedRows.{back, both, HasDropRowAndGroup}
 use Rattle.nk_worked.proofs.Packets.{in_range}
 
 back_not_both : leaf back ≡ leaf both → ⊥

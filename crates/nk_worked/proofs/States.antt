@@ -1,16 +1,15 @@
 -- What the two tags stand for, and where each leads from a packet.
-use Rattle.std.proofs.Common.{◌≡◌, ◌≢◌, ℕ, zero, suc, ◌+◌, ◌⊎◌, inl, inr, ⊎_elim, Some, None, List, [], ◌∷◌, refl, sym, ap, subst, ◌∙◌, arith}
-use Rattle.std.specs.Prelude.{◌↔◌, slice_index, slice_set, slice_get, Contains}
+use Rattle.std.proofs.Common.{◌≡◌, ◌≢◌, ℕ, zero, suc, ◌+◌, ◌⊎◌, inl, ⊎_elim, Some, None, List, [], ◌∷◌, refl, sym, ap, subst, ◌∙◌, arith}
+use Rattle.std.specs.Prelude.{slice_index, slice_set, slice_get, Contains}
 use Rattle.std.specs.List.Sorted.{IsStrictlyIncreasing}
 use Rattle.nk_field.proofs.Lists.{in_from_contains, contains_from_in}
 use Rattle.nk_policy.specs.Policy.{Policy}
 use Rattle.nk_policy.specs.After.{after}
 use Rattle.nk_policy.specs.Meaning.{Gives}
 use Rattle.nk_policy.specs.Progress.{RecordsAt}
-use Rattle.nk_policy.specs.Labels.{HasExactly}
-use Rattle.nk_compile.specs.PrintedTable.{IsState, StateRecords, IsResult}
+use Rattle.nk_compile.specs.PrintedTable.{IsState, IsResult}
 use Rattle.nk_worked.specs.TwoSwitches.{crossing, after_link, one_set}
-use Rattle.nk_worked.proofs.Crossing.{near, far, At, crossed, at_dups, recorded, rest_sets, rest_given, rest_records_nothing}
+use Rattle.nk_worked.proofs.Crossing.{near, far, crossed, at_dups, recorded, rest_sets, rest_given, rest_records_nothing}
 
 -- none is not some
 pub none_is_none : {A : Type 0} (a : A) → None ≡ Some a → ⊥

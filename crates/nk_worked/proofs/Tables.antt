@@ -1,17 +1,16 @@
 -- The two tables are those that are printed for the policy.
-use Rattle.std.proofs.Common.{◌≡◌, ◌≢◌, ℕ, ◌<◌, ◌≤◌, zero, suc, true, false, inl, inr, ⊎_elim, Some, List, [], ◌∷◌, codes, refl, sym, ap, subst, ◌∙◌, arith}
+use Rattle.std.proofs.Common.{◌≡◌, ◌≢◌, ℕ, ◌<◌, ◌≤◌, zero, suc, true, false, inl, inr, ⊎_elim, Some, [], ◌∷◌, codes, refl, sym, ap, subst, ◌∙◌, arith}
 use Rattle.std.specs.Prelude.{◌↔◌, Contains, All, AllPairs}
 use Rattle.std.specs.List.Sorted.{IsStrictlyIncreasing}
 use Rattle.nk_field.specs.Packet.{IsFieldTable}
 use Rattle.nk_field.proofs.FieldTables.{distinct_with}
-use Rattle.nk_field.proofs.Lists.{In, in_from_contains, contains_from_in}
+use Rattle.nk_field.proofs.Lists.{in_from_contains, contains_from_in}
 use Rattle.nk_field.proofs.Ascending.{all_from_members, increasing_from}
 use Rattle.nk_topo.specs.Topology.{Link, AreLinks, is_port, link_from}
 use Rattle.nk_policy.specs.Distinct.{HasDistinct}
 use Rattle.nk_policy.specs.Ranges.{IsInRange}
 use Rattle.nk_names.specs.Accepted.{IsStart}
 use Rattle.nk_store.specs.Diagram.{leaf}
-use Rattle.nk_table.specs.declared.Table.{Table}
 use Rattle.nk_table.specs.Worked.{one_link}
 use Rattle.nk_compile.specs.PrintedTable.{IsTreeOf}
 use Rattle.nk_compile.specs.WholeTable.{HasRowsAt, TagTree, IsSwitchTable, IsTableOf, link_end}

@@ -1,6 +1,6 @@
 -- The policy of two switches has the one tag set, and what compiles it asks.
 use Rattle.std.proofs.Common.{◌≡◌, ◌≢◌, ℕ, ◌+◌, ◌*◌, inl, inr, ⊎_elim, List, [], ◌∷◌, ◌++◌, length, refl, sym, ap, subst, ◌∙◌, arith}
-use Rattle.std.specs.Prelude.{◌↔◌, IsTrue, map, slice_index, slice_set, Contains}
+use Rattle.std.specs.Prelude.{IsTrue, map, slice_index, Contains}
 use Rattle.std.specs.List.Sorted.{IsStrictlyIncreasing}
 use Rattle.nk_field.proofs.Lists.{contains_from_in}
 use Rattle.nk_field.proofs.Ascending.{rising_from}

@@ -1,9 +1,8 @@
 -- The trees of the two switches: their leaves are the bucket lists that the policy asks for.
-use Rattle.std.proofs.Common.{◌≡◌, ℕ, ◌≤◌, Bool, true, false, inl, inr, ⊎_elim, List, [], ◌∷◌, refl, sym, ap, subst, ◌∙◌, arith}
-use Rattle.std.specs.Prelude.{◌==◌, nat_le, if◌then◌else◌, slice_index, slice_set, Contains, AllPairs}
+use Rattle.std.proofs.Common.{◌≡◌, ℕ, ◌≤◌, Bool, true, false, inl, inr, List, [], ◌∷◌, refl, sym, ap, subst, ◌∙◌, arith}
+use Rattle.std.specs.Prelude.{◌==◌, nat_le, if◌then◌else◌, slice_index, Contains, AllPairs}
 use Rattle.std.proofs.lemmas.Bool.Decides.{nat_tests}
-use Rattle.nk_field.specs.Packet.{IsPacket}
-use Rattle.nk_field.proofs.Lists.{in_from_contains, contains_from_in, numbers_decided}
+use Rattle.nk_field.proofs.Lists.{in_from_contains, numbers_decided}
 use Rattle.nk_store.specs.Diagram.{Diagram, leaf, case, no_branch, branch, leaf_at}
 use Rattle.nk_table.specs.declared.Bucket.{Bucket}
 use Rattle.nk_table.specs.declared.Exit.{Exit}
@@ -12,7 +11,6 @@ use Rattle.nk_extract.specs.Buckets.{bucket_of, IsBucketBefore}
 use Rattle.nk_compile.specs.PrintedTable.{IsResult, IsBucketList, IsTreeOf}
 use Rattle.nk_worked.specs.TwoSwitches.{dst_and_tag, crossing, one_set, tagged}
 use Rattle.nk_worked.proofs.Packets.{from_front}
-use Rattle.nk_worked.proofs.Crossing.{near}
 use Rattle.nk_worked.proofs.States.{only_one, there, first_result, leads_over, second_result, leads_out}
 
 -- a number passes the test with itself

@@ -15,6 +15,7 @@ use Rattle.nk_names.specs.ProgramValue.{IsProgram}
 use Rattle.nk_names.specs.declared.Program.{Program}
 use Rattle.nk_table.specs.Worked.{one_link, packet}
 use Rattle.nk_table.specs.Hops.{Copy, left_after, waiting}
+use Rattle.nk_tabtext.specs.InOrder.{AreInOrder}
 use Rattle.nk_tabtext.specs.Text.{table_bytes}
 use Rattle.nk_compile.specs.WholeTable.{IsTableOf}
 use Rattle.nk_compile.specs.Carries.{Carries}
@@ -67,6 +68,7 @@ its_text =
     ++ codes "table 1\nrow 2 : vlan=0 pt=1 -> [vlan:=1 out 2]\n"
     ++ codes "table 2\nrow 2 : vlan=1 pt=2 -> [vlan:=0 out in]\nrow 0 : vlan=1 -> [vlan:=0 out 2]\n"
 
--- they are printed so
-abbrev pub IsPrintedSo : Type 0
-IsPrintedSo = table_bytes two_tables ≡ its_text
+-- they are in the order in which tables are printed, and this is what is printed
+pub record ArePrintedSo : Type 0 where
+  pub in_order : AreInOrder two_tables
+  pub text : table_bytes two_tables ≡ its_text

@@ -2,7 +2,7 @@
 -- the link, and out of port 2 of switch 2.
 use Rattle.std.specs.Prelude.{ℕ, Some, List, [], ◌∷◌, codes}
 use Rattle.nk_field.specs.Packet.{FieldTable}
-use Rattle.nk_policy.specs.Policy.{Policy, Policies, test, assign, seq_of, link, no_part, part}
+use Rattle.nk_policy.specs.Policy.{Policy, test, assign, seq_of, link, no_part, part}
 use Rattle.nk_policy.specs.After.{id_policy}
 use Rattle.nk_table.specs.declared.Tables.{Tables}
 use Rattle.nk_table.specs.declared.Table.{Table}

@@ -2,7 +2,7 @@
 -- vlan (0 to 7). From port 1 and from port 3 a packet goes back and out of port 9, at port 2 it is dropped, elsewhere it goes
 -- back.
 use Rattle.std.specs.Prelude.{◌≡◌, ℕ, ◌≤◌, Some, List, [], ◌∷◌, length, filter}
-use Rattle.nk_store.specs.Diagram.{Diagram, leaf, case, no_branch, branch, leaf_at}
+use Rattle.nk_store.specs.Diagram.{Diagram, leaf, case, no_branch, branch}
 use Rattle.nk_store.specs.Nodes.{InRange}
 use Rattle.nk_table.specs.declared.Bucket.{Bucket}
 use Rattle.nk_table.specs.declared.Group.{Group}

@@ -1,6 +1,6 @@
 //! What the laws on tables and on rows ask can be met where something happens: two switches and one link, and a tree whose
 //! rows have a drop row and a group.
-ghost use Rattle.nk_worked.specs.TheirTable.{IsPrintedThere, IsAcceptedThere, LeavesAfterOneCrossing, IsPrintedSo};
+ghost use Rattle.nk_worked.specs.TheirTable.{IsPrintedThere, IsAcceptedThere, LeavesAfterOneCrossing, ArePrintedSo};
 ghost use Rattle.nk_worked.specs.WorkedRows.{HasDropRowAndGroup};
 
 /// Two switches and one link: the tables are those that are printed for a policy over the link, which a program has and
@@ -9,7 +9,7 @@ pub fn two_switches_and_one_link()
     ensures compilable { IsPrintedThere }
     ensures accepted { IsAcceptedThere }
     ensures leaves { LeavesAfterOneCrossing }
-    ensures text { IsPrintedSo }
+    ensures text { ArePrintedSo }
 {}
 
 /// A tree whose rows have one that drops, and a group that two of them share.
