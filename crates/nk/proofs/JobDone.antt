@@ -9,10 +9,10 @@ use Rattle.nk.specs.Succeeding.{AcceptsNamed, HasJob, GiveSame}
 use Rattle.nk.proofs.Kinds.{Kind, compile_kind, equal_kind, not_both}
 
 module _ (bytes : List ℕ) where
-  abbrev Whole : Type 0
+  abbrev pub Whole : Type 0
   Whole = HasJob bytes GiveSame
 
-  abbrev Apart : Type 0
+  abbrev pub Apart : Type 0
   Apart = HasJob bytes (λ program p q. ¬ GiveSame program p q)
 
   not_both_jobs : Whole → Apart → ⊥
