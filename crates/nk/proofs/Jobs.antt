@@ -87,25 +87,37 @@ module _ (bytes : List ℕ) (program : Program) (d : Declares bytes (said_by pro
       -- with the third
       pub ends_third : (o : Outcome) → IsOther o × ToCompared (said_by program) (codes "go") (codes "same") o → IsJobOver bytes o
       ends_third o h =
-          inr (go.0, compile_is (codes "go") (done go.0) go.1,
-          inr (cast.0, compile_is (codes "cast") (done cast.0) cast.1, inl (h.0, equal_is (codes "go") (codes "same") o h.1)))
+          inr (
+            go.0,
+            compile_is (codes "go") (done go.0) go.1,
+            inr (cast.0, compile_is (codes "cast") (done cast.0) cast.1, inl (h.0, equal_is (codes "go") (codes "same") o h.1)),
+          )
 
       -- and behind all of them
       pub all_counted : (equal_line : List ℕ)
           → Step (ToCompared (said_by program) (codes "go") (codes "same")) (CountsRows program (codes "go") (codes "same")) equal_line
           → (text : List ℕ) → text ≡ go_line ++ cast_line ++ equal_line → IsJobOver bytes (done text)
       all_counted equal_line equal text told =
-          inr (go.0, compile_is (codes "go") (done go.0) go.1,
-          inr (cast.0, compile_is (codes "cast") (done cast.0) cast.1,
-          inr (equal.0, equal_is (codes "go") (codes "same") (done equal.0) equal.1,
-          record {
-            program = program;
-            declares = d;
-            go_line = go_line;
-            cast_line = cast_line;
-            equal_line = equal_line;
-            go = go.2;
-            cast = cast.2;
-            equal = equal.2;
-            told = ap done told;
-          })))
+          inr (
+            go.0,
+            compile_is (codes "go") (done go.0) go.1,
+            inr (
+              cast.0,
+              compile_is (codes "cast") (done cast.0) cast.1,
+              inr (
+                equal.0,
+                equal_is (codes "go") (codes "same") (done equal.0) equal.1,
+                record {
+                  program = program;
+                  declares = d;
+                  go_line = go_line;
+                  cast_line = cast_line;
+                  equal_line = equal_line;
+                  go = go.2;
+                  cast = cast.2;
+                  equal = equal.2;
+                  told = ap done told;
+                },
+              ),
+            ),
+          )

@@ -16,8 +16,7 @@ let same = pt=9;key:=2078669041;(id + ~home;hop;(~home;hop)*);home;pt:=9\n\
 let cast = sw=1;pt=9;(pt:=5;tree + pt:=6;tree)*;pt:=9\n";
 
 /// What is counted of it.
-const COUNTS: &[u8] =
-    b"go tags 2 rows 20 groups 0\ncast tags 1 rows 3 groups 1\nequal rows 9\n";
+const COUNTS: &[u8] = b"go tags 2 rows 20 groups 0\ncast tags 1 rows 3 groups 1\nequal rows 9\n";
 
 /// The message for words that are no command.
 const USAGE: &[u8] = b"usage: nk COMMAND ARGUMENTS\n";
@@ -51,7 +50,11 @@ fn generated_programs_and_jobs(rt: HostRuntime) -> Result<(), Fail> {
             status,
             out: if is_done { said } else { b"" },
             err: if is_done { b"" } else { said },
-            calls: if is_done { (0, pieces, 0) } else { (0, 0, pieces) },
+            calls: if is_done {
+                (0, pieces, 0)
+            } else {
+                (0, 0, pieces)
+            },
         };
         assert!(rt; comes_true(rt.alloc(), &case)?, "{words:?}");
     }
