@@ -6,7 +6,7 @@ use Rattle.nk.specs.Compiling.{IsCompileAnswer}
 use Rattle.nk.specs.Generating.{IsCounted, IsJobOver, IsOther, OrThen}
 use Rattle.nk.specs.Outcome.{Outcome, done, differs, text_refused, policy_refused}
 use Rattle.nk.specs.Succeeding.{AcceptsNamed, HasJob, GiveSame}
-use Rattle.nk.proofs.Kinds.{Kind, compile_kind, equal_kind, not_both}
+use Rattle.nk.proofs.ByKind.{Kind, compile_kind, equal_kind, not_both}
 
 module _ (bytes : List ℕ) where
   abbrev pub Whole : Type 0

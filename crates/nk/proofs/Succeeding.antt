@@ -17,7 +17,7 @@ use Rattle.nk.specs.Use.{Use}
 use Rattle.nk.proofs.Endings.{complete}
 use Rattle.nk_gen.specs.Text.{generated}
 use Rattle.nk.specs.Generating.{IsGenAnswer}
-use Rattle.nk.proofs.Kinds.{Kind, compile_kind, equal_kind, check_kind, ask_kind, judge_kind, trace_kind, fly_kind}
+use Rattle.nk.proofs.ByKind.{Kind, compile_kind, equal_kind, check_kind, ask_kind, judge_kind, trace_kind, fly_kind}
 use Rattle.nk.proofs.JobDone.{job_kind}
 
 -- ---- each command
