@@ -1,6 +1,6 @@
 -- Which outcome is the answer to which bytes: the conditions of `Done` and of `Differs` exclude each other and every refusal.
 use Rattle.std.proofs.Common.{◌≡◌, ◌+◌, ℕ, List, refl, sym, subst, ◌∙◌, Bool, true, false, MatchBool}
-use Rattle.std.specs.Prelude.{Ok, Err, slice_index}
+use Rattle.std.specs.Prelude.{codes, Ok, Err, slice_index}
 use Rattle.std.specs.declared.result.Result.{Result}
 use Rattle.nk_field.specs.Packet.{FieldTable}
 use Rattle.nk_field.specs.Texts.{packet_of}
@@ -333,7 +333,7 @@ module _ (tells : Telling) (word bytes : List ℕ) where
   told_there o d h =
       let at = subst (λ r. ToTables tells r word o) d.declared h in
       let of = subst (λ r. ToPacket tells d.tables r o) d.given at in
-      subst (λ b. MatchBool b (tells d.tables d.packet o) _) d.at_port of
+      subst (λ b. MatchBool b (tells d.tables d.packet o) (o ≡ policy_refused (codes "refused C10: off port\n"))) d.at_port of
 
 pub trace_kind : (hops : ℕ) (word bytes : List ℕ) (o : Outcome) → ToTables (ToLocated hops) (tables_of bytes) word o → Kind o (HasLocated word bytes) ⊥
 trace_kind hops word bytes (done t) h = ((by_tables (ToLocated hops) word bytes (done t) (tables_of bytes) refl tt h).located, λ x. x)

@@ -5,6 +5,7 @@ use Rattle.std.specs.declared.result.Result.{Result}
 use Rattle.nk_lex.specs.declared.token.Token.{Token}
 use Rattle.nk_lex.specs.declared.token.LexError.{LexError}
 use Rattle.nk_lex.specs.declared.token.LexError.TheVariants as lexical
+use Rattle.nk_lex.specs.Lex.{tokens_of}
 use Rattle.nk_grammar.specs.declared.decl.GrammarError.{GrammarError}
 use Rattle.nk_grammar.specs.declared.decl.GrammarError.TheVariants as grammar
 use Rattle.nk_grammar.specs.Certified.{Row, Certified}
@@ -92,7 +93,7 @@ bytes_once (Ok ts) x y h k = tokens_once (file_of ts) x y h k
 bytes_once (Err e) x y h k = lexical_once e x y h k
 
 pub one_fault : (bytes x y : List ℕ) → HasFault bytes x → HasFault bytes y → x ≡ y
-one_fault bytes x y h k = bytes_once _ x y h k
+one_fault bytes x y h k = bytes_once (tokens_of bytes) x y h k
 
 -- likewise of a text with a certificate
 row_once : (e : CertError) (x y : List ℕ) → TellsRows e x → TellsRows e y → x ≡ y
@@ -117,4 +118,4 @@ certified_bytes_once (Ok ts) x y h k = certified_once (certified_of ts) x y h k
 certified_bytes_once (Err e) x y h k = lexical_once e x y h k
 
 pub one_certified_fault : (bytes x y : List ℕ) → HasCertifiedFault bytes x → HasCertifiedFault bytes y → x ≡ y
-one_certified_fault bytes x y h k = certified_bytes_once _ x y h k
+one_certified_fault bytes x y h k = certified_bytes_once (tokens_of bytes) x y h k
