@@ -4,7 +4,6 @@ use std::alloc::Global;
 use std::test::Fail;
 
 /// Whether a text is read as the tables of one in the printed form.
-#[tactic(auto, using(nk_tabtext::proofs::InOrder::printable_in_order))]
 fn is_read_as(alloc: Global, text: &[u8], printed: &[u8]) -> Result<bool, ReadError> {
     let tables = read_tables(alloc, text)?;
     Ok(table_text(alloc, &tables)?.as_slice() == printed)
