@@ -347,7 +347,7 @@ module _ (printed : OnePrinted) (writable : DeclaresWritable) (asked : Asked) (b
       let e =
       one_told_of_named m.program n.program same printed (table_of writable bytes h.0 h.1 m.program m.says) asked
       (holding m.tells.certificate) (holding n.tells.certificate)
-      (m.question, m.named, m.none, m.tells.related) (n.question, n.named, n.none, n.tells.related) in
+      (m.question, m.named, (m.none, m.tells.related)) (n.question, n.named, (n.none, n.tells.related)) in
       m.tells.told
       ∙ ap (λ f. cert_bytes f m.tells.certificate) (fields_alike m.program n.program same)
       ∙ ap (queried_text n.program.fields) e
@@ -374,7 +374,7 @@ module _ (printed : OnePrinted) (writable : DeclaresWritable) (asked : Asked) (b
       let e =
       one_told_of_named m.program n.program same printed (table_of writable bytes h.0 h.1 m.program m.says) asked
       (holding m.tells.certificate) (breaking n.found)
-      (m.question, m.named, m.none, m.tells.related) (n.question, n.named, n.least) in
+      (m.question, m.named, (m.none, m.tells.related)) (n.question, n.named, n.least) in
       subst IsHolding e tt
 
   held_unasked : (x y : List ℕ) → HeldText x → UnaskedText y → ⊥
