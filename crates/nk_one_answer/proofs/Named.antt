@@ -1,15 +1,13 @@
 -- What is answered of a name, of two names and of a query, over the bytes of a text, is one.
-use Rattle.std.proofs.Common.{◌≡◌, ℕ, ⊎_elim, List, refl, sym, ap, subst, ◌∙◌}
+use Rattle.std.proofs.Common.{◌≡◌, ℕ, ⊎_elim, List, sym, ap, subst, ◌∙◌}
 use Rattle.std.specs.Prelude.{codes}
-use Rattle.nk_field.specs.Order.{Found}
 use Rattle.nk_field.specs.Packet.{FieldTable, IsFieldTable}
 use Rattle.nk_names.specs.declared.Program.{Program}
 use Rattle.nk_names.specs.ProgramOf.{Said, said_by}
 use Rattle.nk_names.specs.ReadBack.{DeclaresWritable}
 use Rattle.nk_tabtext.specs.Text.{table_bytes}
-use Rattle.nk_compile.specs.declared.refusal.Refusal.{Refusal}
 use Rattle.nk_cert.specs.Certificates.{CertificateValue}
-use Rattle.nk_cert.specs.Verdicts.{Finding, RowPart, valid, invalid}
+use Rattle.nk_cert.specs.Verdicts.{Finding, valid, invalid}
 use Rattle.nk_certtext.specs.Text.{cert_bytes}
 use Rattle.nk_query.specs.Asked.{Asked}
 use Rattle.nk_query.specs.declared.error.QueryError.{QueryError}

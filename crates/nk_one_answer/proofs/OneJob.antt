@@ -1,13 +1,10 @@
 -- What a job answers is one.
-use Rattle.std.proofs.Common.{◌≡◌, ℕ, ◌++◌, List, [], inl, inr, length, refl, sym, ap, subst, ◌∙◌}
+use Rattle.std.proofs.Common.{◌≡◌, ℕ, ◌++◌, List, inl, inr, length, refl, sym, ap, subst, ◌∙◌}
 use Rattle.std.specs.Prelude.{codes}
-use Rattle.nk_field.specs.Packet.{FieldTable, IsFieldTable}
-use Rattle.nk_topo.specs.Topology.{Topology}
-use Rattle.nk_policy.specs.Policy.{Policy}
-use Rattle.nk_policy.specs.Tags.{AreTags}
+use Rattle.nk_field.specs.Packet.{IsFieldTable}
 use Rattle.nk_names.specs.Accepted.{IsStart}
 use Rattle.nk_names.specs.declared.Program.{Program}
-use Rattle.nk_names.specs.ProgramOf.{Said, said_by}
+use Rattle.nk_names.specs.ProgramOf.{said_by}
 use Rattle.nk_names.specs.ReadBack.{DeclaresWritable}
 use Rattle.nk_table.specs.declared.Tables.{Tables}
 use Rattle.nk_compile.specs.Counted.{HasTagSets, HasTagCount}
@@ -21,7 +18,7 @@ use Rattle.nk_uniqueness.proofs.OneTable.{one_tag_list}
 use Rattle.nk.specs.Comparing.{IsEqualAnswer}
 use Rattle.nk.specs.Compiling.{IsCompileAnswer}
 use Rattle.nk.specs.Generating.{CountsTables, CountsRows, IsCounted, IsJobOver, IsOther, OrThen, tables_line, rows_line}
-use Rattle.nk.specs.Outcome.{Outcome, done, differs, text_refused, policy_refused}
+use Rattle.nk.specs.Outcome.{Outcome, done}
 use Rattle.nk.proofs.OneText.{declares_once}
 use Rattle.nk_one_answer.proofs.Named.{packets_of, table_of, one_compile, one_equal}
 

@@ -1,5 +1,5 @@
 -- The runs of the policy of two switches, and what is left of it after the link.
-use Rattle.std.proofs.Common.{◌≡◌, ℕ, ◌+◌, ◌⊎◌, inl, inr, ⊎_elim, List, [], ◌∷◌, ◌++◌, refl, sym, ap, subst, ◌∙◌}
+use Rattle.std.proofs.Common.{◌≡◌, ℕ, ◌⊎◌, inl, inr, ⊎_elim, List, [], ◌∷◌, ◌++◌, refl, sym, ap, subst, ◌∙◌}
 use Rattle.std.specs.Prelude.{slice_index, slice_set}
 use Rattle.nk_policy.specs.Policy.{test, assign, link, no_part, part}
 use Rattle.nk_policy.specs.Meaning.{Way, keep, keep_where, set_field, record_as, followed_by, way_of_all, Gives}
