@@ -1,4 +1,4 @@
--- The tree of worked rows.
+-- A tree over the port, and the printed rows and groups that come of it.
 use Rattle.std.proofs.Common.{◌≡◌, List, [], ◌∷◌, refl, sym, arith}
 use Rattle.nk_store.specs.Diagram.{leaf}
 use Rattle.nk_table.specs.declared.Bucket.{Bucket}
