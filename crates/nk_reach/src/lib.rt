@@ -9,14 +9,13 @@ mod local;
 mod outs;
 mod rounds;
 mod search;
-mod shape;
 mod sides;
 
 pub use entries::{add, merge, under};
 pub use goal::{Goal, any_bad};
 pub use local::state_at;
+pub use nk_determ::Levels;
 pub use outs::{Given, by_out};
 pub use rounds::next_level;
 pub use search::levels;
-pub use shape::Levels;
 pub use sides::OneSide;

@@ -4,7 +4,7 @@ use Rattle.nk_reach.proofs.Growing.{rows_grow}
 use Rattle.nk_runs.proofs.Stands.{are_rows}
 use Rattle.nk_witness.specs.Finds.{found_of, target_of}
 use Rattle.nk_cert.specs.Together.{either_of}
-use Rattle.nk_tag.proofs.Naming.{pairs_are_entries}
+use Rattle.nk_determ.proofs.Naming.{pairs_are_entries}
 use Rattle.nk_bisim.proofs.Comparing.{levels_here, packets_are_sets, related_is, difference_is, levels_at, break_at, least_at}
 use Rattle.nk_bisim.proofs.comparison.compare_by_levels.Goals as goal
 

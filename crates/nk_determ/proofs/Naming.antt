@@ -6,8 +6,8 @@ use Rattle.nk_field.proofs.Ascending.{all_from_members, first_before, rest_in_or
 use Rattle.std.proofs.lemmas.List.Elements.{All-nil, All-cons}
 use Rattle.std.proofs.lemmas.List.Kept.{AllPairs-cons}
 use Rattle.nk_store.specs.Held.{Held}
-use Rattle.nk_reach.specs.Pairs.{Named, EachPair, IsPair, ArePairs}
-use Rattle.nk_tag.specs.Numbers.{AreEntries}
+use Rattle.nk_determ.specs.Pairs.{Named, EachPair, IsPair, ArePairs}
+use Rattle.nk_determ.specs.InOrder.{AreEntries}
 
 -- a level that names a set is one of the levels
 pub named_within : (ls : List (List (ℕ × ℕ))) (i s : ℕ) → Named (slice_index_or ls i []) s → i < length ls

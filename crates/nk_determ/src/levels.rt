@@ -1,7 +1,7 @@
-//! Levels.
+//! Levels as a value.
 ghost use Rattle.std.specs.Prelude.{◌≡◌};
 
-use nk_determ::SetId;
+use crate::sets::SetId;
 use nk_field::List;
 use nk_store::Id;
 
@@ -11,7 +11,7 @@ pub struct Levels {
     /// The levels, the first being the start; each has entries of a set and its packets, a set once.
     pub levels: List<List<(SetId, Id)>>,
     /// Whether they ended with a level that has a bad final.
-    pub(crate) broken: bool,
+    pub broken: bool,
 }
 
 impl Levels {
