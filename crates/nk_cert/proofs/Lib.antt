@@ -22,3 +22,4 @@ pub mod Standing
 pub mod Making
 pub mod Moved
 pub mod Weighing
+pub mod OneAlone

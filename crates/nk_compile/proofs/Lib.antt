@@ -28,3 +28,12 @@ pub mod Uniting
 pub mod Waits
 pub mod Whole
 pub mod WrongEnding
+pub mod Climbs
+pub mod Readable
+pub mod ResultBuckets
+pub mod SoundRows
+pub mod TableGroups
+pub mod Orders
+pub mod TooMany
+pub mod Reasons
+pub mod ReasonByName

@@ -15,3 +15,4 @@ pub mod Smallest
 pub mod Sought
 pub mod WholeTable
 pub mod WrongEnds
+pub mod TextTables

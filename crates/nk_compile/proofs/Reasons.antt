@@ -16,8 +16,8 @@ use Rattle.nk_compile.specs.declared.refusal.Refusal.{Refusal}
 use Rattle.nk_compile.specs.declared.refusal.Refusal.TheVariants.{NoPolicy, NoTag, TagUsed, LooseDup, SwitchSet, NoSuchLink, OffEdge, TooManyTags}
 use Rattle.nk_compile.specs.OffEdge.{EndsOffEdge, EndsOnEdges}
 use Rattle.nk_compile.specs.Refusals.{seen_for, seen, found_from, IsReason, IsRefused}
-use Rattle.nk_uniqueness.proofs.Orders.{one_least}
-use Rattle.nk_uniqueness.proofs.Fitting.{never_more}
+use Rattle.nk_compile.proofs.Orders.{one_least}
+use Rattle.nk_compile.proofs.TooMany.{never_more}
 
 -- equal options have equal values, and none is no value
 reason_is : (r s : Refusal) → Some r ≡ Some s → r ≡ s

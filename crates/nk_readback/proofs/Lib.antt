@@ -1,5 +1,0 @@
-pub mod Climbs
-pub mod Readable
-pub mod ResultBuckets
-pub mod SoundRows
-pub mod TableGroups
