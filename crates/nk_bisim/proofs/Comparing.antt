@@ -21,11 +21,11 @@ use Rattle.nk_reach.specs.Breaks.{IsBreak, Breaks}
 use Rattle.nk_reach.proofs.Growing.{rows_grow}
 use Rattle.nk_reach.proofs.Kept.{has_on}
 use Rattle.nk_runs.proofs.Stands.{packet_back, are_rows}
-use Rattle.nk_witness.specs.Finds.{first_set, first_packets, found_of}
-use Rattle.nk_witness.specs.Finds.{target_of as witness_target}
-use Rattle.nk_witness.specs.declared.found.Side.{Side}
-use Rattle.nk_witness.specs.declared.found.Side.TheVariants.{Left, Right}
-use Rattle.nk_witness.proofs.Settling.{levels_now}
+use Rattle.nk_reach.specs.Finds.{first_set, first_packets, found_of}
+use Rattle.nk_reach.specs.Finds.{target_of as witness_target}
+use Rattle.nk_reach.specs.declared.found.Side.{Side}
+use Rattle.nk_reach.specs.declared.found.Side.TheVariants.{Left, Right}
+use Rattle.nk_reach.proofs.Settling.{levels_now}
 use Rattle.nk_cert.specs.Equality.{on_left, on_right, AreSame, IsOfOneAlone, IsLeastDifference}
 use Rattle.nk_cert.specs.Equality.{Side as SideOfBoth}
 use Rattle.nk_cert.specs.Together.{either_of}

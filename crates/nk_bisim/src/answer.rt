@@ -3,7 +3,7 @@ ghost use Rattle.std.specs.Prelude.{◌≡◌};
 ghost use Rattle.nk_bisim.specs.declared.answer.CompareError.TheVariants.{NoMemory};
 
 use nk_cert::Certificate;
-use nk_witness::Found;
+use nk_reach::Found;
 use std::alloc::AllocError;
 use thiserror::Error;
 

@@ -15,7 +15,7 @@ use nk_field::Fields;
 use nk_names::Program;
 use nk_policy::{Pol, marked};
 use nk_store::Store;
-use nk_witness::least_history;
+use nk_reach::least_history;
 use std::alloc::{AllocError, Global};
 
 /// Whether two named policies give the same histories on every packet in range, located or not, the tag a field like any

@@ -2,7 +2,7 @@ use Rattle.std.proofs.Common.{◌≡◌, false, length, sym, subst, arith}
 use Rattle.nk_reach.specs.Pairs.{AreRows}
 use Rattle.nk_reach.proofs.Growing.{rows_grow}
 use Rattle.nk_runs.proofs.Stands.{are_rows}
-use Rattle.nk_witness.specs.Finds.{found_of, target_of}
+use Rattle.nk_reach.specs.Finds.{found_of, target_of}
 use Rattle.nk_cert.specs.Together.{either_of}
 use Rattle.nk_determ.proofs.Naming.{pairs_are_entries}
 use Rattle.nk_bisim.proofs.Comparing.{levels_here, packets_are_sets, related_is, difference_is, levels_at, break_at, least_at}
