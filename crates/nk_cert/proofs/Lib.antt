@@ -23,3 +23,4 @@ pub mod Making
 pub mod Moved
 pub mod Weighing
 pub mod OneAlone
+pub mod Comparing

@@ -12,8 +12,8 @@ use Rattle.nk_cert.specs.Printed.{IsPrinted}
 use Rattle.nk_cert.specs.Verdicts.{Finding, IsFinding}
 use Rattle.nk_cert.proofs.OneAlone.{no_difference}
 use Rattle.nk_bisim.specs.Answers.{IsCompared}
-use Rattle.nk_bisim.specs.declared.answer.Compared.{Compared}
-use Rattle.nk_bisim.specs.declared.answer.Compared.TheVariants.{Related, Broken}
+use Rattle.nk_cert.specs.declared.compared.Compared.{Compared}
+use Rattle.nk_cert.specs.declared.compared.Compared.TheVariants.{Related, Broken}
 use Rattle.nk_uniqueness.specs.Told.{Told, certified, alone, told_by, LacksOne, IsTold, IsToldFor, IsFoundFor}
 use Rattle.nk_compile.proofs.Orders.{one_least}
 use Rattle.nk_compile.proofs.Reasons.{none_some}

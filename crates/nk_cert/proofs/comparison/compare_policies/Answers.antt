@@ -7,9 +7,9 @@ use Rattle.nk_policy.proofs.Remade.{marked_dups}
 use Rattle.nk_names.proofs.Good.{over_marked, over_in_range, negates_marked}
 use Rattle.nk_auto.specs.Continued.{IsFit}
 use Rattle.nk_cert.proofs.Named.{fits_store}
-use Rattle.nk_bisim.specs.Answers.{IsComparison}
-use Rattle.nk_bisim.proofs.Comparing.{right_numbered, as_declared}
-use Rattle.nk_bisim.proofs.comparison.compare_policies.Goals as goal
+use Rattle.nk_cert.specs.Comparison.{IsComparison}
+use Rattle.nk_cert.proofs.Comparing.{right_numbered, as_declared}
+use Rattle.nk_cert.proofs.comparison.compare_policies.Goals as goal
 
 pub automaton_of_both-requires-clause-right : goal.automaton_of_both-requires-clause-right
 automaton_of_both-requires-clause-right c =

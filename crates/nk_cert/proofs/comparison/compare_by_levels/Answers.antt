@@ -5,8 +5,8 @@ use Rattle.nk_runs.proofs.Stands.{are_rows}
 use Rattle.nk_reach.specs.Finds.{found_of, target_of}
 use Rattle.nk_cert.specs.Together.{either_of}
 use Rattle.nk_determ.proofs.Naming.{pairs_are_entries}
-use Rattle.nk_bisim.proofs.Comparing.{levels_here, packets_are_sets, related_is, difference_is, levels_at, break_at, least_at}
-use Rattle.nk_bisim.proofs.comparison.compare_by_levels.Goals as goal
+use Rattle.nk_cert.proofs.Comparing.{levels_here, packets_are_sets, related_is, difference_is, levels_at, break_at, least_at}
+use Rattle.nk_cert.proofs.comparison.compare_by_levels.Goals as goal
 
 pub levels_of_both-requires-clause-rows : goal.levels_of_both-requires-clause-rows
 levels_of_both-requires-clause-rows c =

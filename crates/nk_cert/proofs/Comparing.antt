@@ -41,9 +41,9 @@ use Rattle.nk_cert.proofs.Levels.{same_by_levels}
 use Rattle.nk_cert.proofs.Rows.{both_stand}
 use Rattle.nk_cert.proofs.Sided.{levels_of_policies, goal_now}
 use Rattle.nk_cert.proofs.Breaking.{least_difference}
-use Rattle.nk_bisim.specs.Answers.{whose, IsRelated, IsComparison}
-use Rattle.nk_bisim.specs.declared.answer.Compared.{Compared}
-use Rattle.nk_bisim.specs.declared.answer.Compared.TheVariants.{Related, Broken}
+use Rattle.nk_cert.specs.Comparison.{whose, IsRelated, IsComparison}
+use Rattle.nk_cert.specs.declared.compared.Compared.{Compared}
+use Rattle.nk_cert.specs.declared.compared.Compared.TheVariants.{Related, Broken}
 
 -- both tell a side by one number
 same_target : (side : Side) → witness_target side ≡ target_of (whose side)
