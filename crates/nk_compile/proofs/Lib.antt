@@ -28,11 +28,6 @@ pub mod Uniting
 pub mod Waits
 pub mod Whole
 pub mod WrongEnding
-pub mod Climbs
-pub mod Readable
-pub mod ResultBuckets
-pub mod SoundRows
-pub mod TableGroups
 pub mod Orders
 pub mod TooMany
 pub mod Reasons

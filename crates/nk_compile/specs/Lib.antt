@@ -15,4 +15,3 @@ pub mod Smallest
 pub mod Sought
 pub mod WholeTable
 pub mod WrongEnds
-pub mod TextTables

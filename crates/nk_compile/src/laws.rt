@@ -13,7 +13,6 @@ ghost use Rattle.nk_table.specs.declared.Tables.{Tables};
 ghost use Rattle.nk_compile.specs.WholeTable.{IsTableOf};
 ghost use Rattle.nk_compile.specs.Carries.{Carries};
 ghost use Rattle.nk_compile.specs.Smallest.{MeetsAll};
-ghost use Rattle.nk_compile.specs.TextTables.{CompilesInOrder, CompilesPrintable};
 
 /// The printed table of a compilable policy carries it.
 pub fn the_printed_table_carries()
@@ -32,15 +31,4 @@ pub fn the_printed_table_carries()
 /// What the law asks can be met: the smallest table is printed for its policy.
 pub fn the_smallest_table_is_printed()
     ensures { MeetsAll }
-{}
-
-/// What compiling a name of a text's program prints is read back as itself, in all but one case: a switch with more groups
-/// than the largest number of a text, 281,474,976,710,655.
-pub fn compiled_tables_are_printable()
-    ensures { CompilesPrintable }
-{}
-
-/// What compiling a name of a text's program prints is in order: groups ascend by number, matches and assignments by field.
-pub fn compiled_tables_are_in_order()
-    ensures { CompilesInOrder }
 {}

@@ -30,13 +30,13 @@ use Rattle.nk_extract.specs.RuleTree.{rows_for}
 use Rattle.nk_group.specs.Groups.{rows_after, groups_of}
 use Rattle.nk_compile.specs.PrintedTable.{IsTreeOf}
 use Rattle.nk_compile.specs.WholeTable.{HasRowsAt, TagTree, rows_of_trees, IsSwitchTable, IsTableOf}
-use Rattle.nk_compile.specs.TextTables.{HasFewGroups, CompilesInOrder, CompilesPrintable}
+use Rattle.nk_readback.specs.TextTables.{HasFewGroups, CompilesInOrder, CompilesPrintable}
 use Rattle.nk_compile.proofs.FewTags.{tags_fit}
 use Rattle.nk_compile.proofs.Fitting.{fronts}
 use Rattle.nk_compile.proofs.Printed.{named_in}
-use Rattle.nk_compile.proofs.SoundRows.{IsSoundRow, sound_row}
+use Rattle.nk_readback.proofs.SoundRows.{IsSoundRow, sound_row}
 use Rattle.nk_tabtext.proofs.InOrder.{buckets_in_order, matches_in_order, targets_in_order}
-use Rattle.nk_compile.proofs.TableGroups.{Below, group_buckets_ok, groups_ok, groups_ascend, rows_ok}
+use Rattle.nk_readback.proofs.TableGroups.{Below, group_buckets_ok, groups_ok, groups_ascend, rows_ok}
 
 -- a tag with rows is one of the tags
 tag_low : (p : Policy) (tags : List (List ℕ)) (sw t : ℕ) → HasRowsAt p tags sw t → t ≤ length tags

@@ -25,8 +25,8 @@ use Rattle.nk_extract.proofs.Trees.{Tree, tests_only}
 use Rattle.nk_extract.proofs.Highest.{light}
 use Rattle.nk_extract.proofs.PlainRows.{rows_give_leaves, rows_are_chosen}
 use Rattle.nk_compile.specs.PrintedTable.{IsTreeOf, IsBucketList}
-use Rattle.nk_compile.proofs.Climbs.{Climbs, climb, climbs_within, put_ascends, in_put}
-use Rattle.nk_compile.proofs.ResultBuckets.{buckets_ok}
+use Rattle.nk_readback.proofs.Climbs.{Climbs, climb, climbs_within, put_ascends, in_put}
+use Rattle.nk_readback.proofs.ResultBuckets.{buckets_ok}
 
 -- a row with its whole bucket list that a text can write
 pub record IsSoundRow (fields : FieldTable) (r : Plain) : Type 0 where

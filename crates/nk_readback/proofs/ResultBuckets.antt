@@ -18,7 +18,7 @@ use Rattle.nk_tabtext.specs.ReadBack.{IsExit, IsBucketOf}
 use Rattle.nk_extract.specs.RuleTree.{put}
 use Rattle.nk_extract.specs.Buckets.{changes, bucket_of}
 use Rattle.nk_compile.specs.PrintedTable.{IsState, IsResult, IsBucketList}
-use Rattle.nk_compile.proofs.Climbs.{Climbs, climbs_within, put_ascends, in_put, differs, changes_climb}
+use Rattle.nk_readback.proofs.Climbs.{Climbs, climbs_within, put_ascends, in_put, differs, changes_climb}
 use Rattle.nk_compile.proofs.Fitting.{fronts}
 
 -- a list that isn't empty has a member

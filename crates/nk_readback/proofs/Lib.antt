@@ -1,0 +1,5 @@
+pub mod Climbs
+pub mod Readable
+pub mod ResultBuckets
+pub mod SoundRows
+pub mod TableGroups

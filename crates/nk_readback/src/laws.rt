@@ -1,0 +1,13 @@
+//! The law that joins compilation with the reading of table texts.
+ghost use Rattle.nk_readback.specs.TextTables.{CompilesInOrder, CompilesPrintable};
+
+/// What compiling a name of a text's program prints is read back as itself, in all but one case: a switch with more groups
+/// than the largest number of a text, 281,474,976,710,655.
+pub fn compiled_tables_are_printable()
+    ensures { CompilesPrintable }
+{}
+
+/// What compiling a name of a text's program prints is in order: groups ascend by number, matches and assignments by field.
+pub fn compiled_tables_are_in_order()
+    ensures { CompilesInOrder }
+{}
