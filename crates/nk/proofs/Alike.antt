@@ -10,8 +10,8 @@ use Rattle.nk_query.specs.Asked.{Asked, Question}
 use Rattle.nk_query.specs.Answers.{IsNamedQuestion, IsCause}
 use Rattle.nk_query.specs.declared.error.QueryError.{QueryError}
 use Rattle.nk_query.specs.declared.error.QueryError.TheVariants as query
-use Rattle.nk_uniqueness.proofs.Alike.{fields_alike, named_alike, one_policy}
-use Rattle.nk_uniqueness.proofs.Asking.{no_cause, one_question}
+use Rattle.nk_names.proofs.Alike.{fields_alike, named_alike, one_policy}
+use Rattle.nk_query.proofs.OneQuestion.{no_cause, one_question}
 use Rattle.nk.specs.Comparing.{AreNamed}
 use Rattle.nk.specs.Messages.{TellsQuery}
 

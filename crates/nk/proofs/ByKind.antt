@@ -22,8 +22,8 @@ use Rattle.nk_cert.specs.Verdicts.{RowPart, valid, invalid, IsFinding}
 use Rattle.nk_cert.proofs.Findings.{one_finding}
 use Rattle.nk_query.specs.Asked.{Asked, apart, waypoint, NoneBreaks}
 use Rattle.nk_query.specs.Answers.{asked_policy}
-use Rattle.nk_uniqueness.proofs.ByName.{never_refused}
-use Rattle.nk_uniqueness.proofs.Comparing.{no_difference}
+use Rattle.nk_compile.proofs.ReasonByName.{never_refused}
+use Rattle.nk_cert.proofs.OneAlone.{no_difference}
 use Rattle.nk.specs.Asking.{IsAskAnswer}
 use Rattle.nk.specs.CertifiedText.{HoldsCertificate}
 use Rattle.nk.specs.Checking.{IsCheckAnswer}

@@ -3,7 +3,7 @@ ghost use Rattle.std.specs.Prelude.{◌≡◌, ◌++◌, IfOk, OnOk, codes, deci
 ghost use Rattle.nk_bisim.specs.Answers.{whose};
 ghost use Rattle.nk_cert.specs.Values.{part_of};
 ghost use Rattle.nk_compile.specs.Refusals.{found_from};
-ghost use Rattle.nk_witness.specs.Finds.{found_of};
+ghost use Rattle.nk_reach.specs.Finds.{found_of};
 ghost use Rattle.nk.specs.Asking.{broken_lines};
 ghost use Rattle.nk.specs.Checking.{invalid_line, part_word};
 ghost use Rattle.nk.specs.Comparing.{difference_lines, side_line};
@@ -18,7 +18,7 @@ use nk_compile::Refusal;
 use nk_field::{Fields, History, Packet, history_text, packet_text};
 use nk_names::FaultKind;
 use nk_query::QueryError;
-use nk_witness::{Found, Side};
+use nk_reach::{Found, Side};
 use std::alloc::{AllocError, Global};
 
 /// `line N: WORDS` with a line feed.

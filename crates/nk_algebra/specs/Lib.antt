@@ -5,6 +5,7 @@ pub mod Spans
 pub mod Seqs
 pub mod Unions
 pub mod Predicates
+pub mod PacketSets
 pub mod Choices
 pub mod Halves
 pub mod Apart

@@ -1,20 +1,9 @@
-//! What comparing answers.
+//! Why comparing gives no answer.
 ghost use Rattle.std.specs.Prelude.{◌≡◌};
 ghost use Rattle.nk_bisim.specs.declared.answer.CompareError.TheVariants.{NoMemory};
 
-use nk_cert::Certificate;
-use nk_witness::Found;
 use std::alloc::AllocError;
 use thiserror::Error;
-
-/// How two policies compare.
-#[derive(Drop)]
-pub enum Compared {
-    /// They give the same histories on every packet: the printed certificate, which shows it.
-    Related(Certificate),
-    /// The least history that one of them alone has, with the packet that it starts from and its side.
-    Broken(Found),
-}
 
 /// Why two policies aren't compared.
 #[derive(Clone, Copy, PartialEq, Eq, Debug, Error)]

@@ -22,3 +22,5 @@ pub mod Standing
 pub mod Making
 pub mod Moved
 pub mod Weighing
+pub mod OneAlone
+pub mod Comparing

@@ -15,7 +15,7 @@ use Rattle.nk_reach.proofs.Kept.{packet_on}
 use Rattle.nk_reach.proofs.Growing.{under_on, under_back, under_named}
 use Rattle.nk_reach.proofs.Adding.{not_found, found_set, found_under, under_found}
 use Rattle.nk_tag.specs.Numbers.{later_level, AreEntries, AreLaterSets}
-use Rattle.nk_tag.proofs.Naming.{named_within}
+use Rattle.nk_determ.proofs.Naming.{named_within}
 use Rattle.nk_cert.specs.Certificates.{RowValue, CertificateValue}
 use Rattle.nk_cert.specs.FromLevels.{HaveRows, IsRowOf, IsCertificateOf}
 use Rattle.nk_cert.specs.Later.{or_else, packets_at, IsRowBy, AreLaterPackets}

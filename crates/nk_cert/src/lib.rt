@@ -1,8 +1,10 @@
-//! Certificates of equality: what they are and show, what is found of one, and the printed one; and the automaton and the
-//! levels of two policies together.
+//! Certificates of equality: what they are and show, what is found of one, and the printed one; the automaton and the levels
+//! of two policies together; and the comparison of two policies, with the printed certificate or the least history of one alone.
 #![tactic(auto)]
 
 mod checking;
+mod compared;
+mod comparison;
 mod entries;
 mod error;
 mod judge;
@@ -15,6 +17,8 @@ mod printed;
 mod shape;
 
 pub use checking::check_policies;
+pub use compared::Compared;
+pub use comparison::compare_policies;
 pub use error::CheckError;
 pub use leveling::{LevelsOfBoth, levels_of_both};
 pub use naming::check;

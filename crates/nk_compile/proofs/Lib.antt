@@ -28,3 +28,7 @@ pub mod Uniting
 pub mod Waits
 pub mod Whole
 pub mod WrongEnding
+pub mod Orders
+pub mod TooMany
+pub mod Reasons
+pub mod ReasonByName

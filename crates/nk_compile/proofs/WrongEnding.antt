@@ -21,8 +21,8 @@ use Rattle.nk_reach.specs.Pairs.{AreRows}
 use Rattle.nk_reach.specs.Levels.{AreLevels}
 use Rattle.nk_reach.specs.Sides.{Makes}
 use Rattle.nk_reach.specs.Breaks.{Breaks}
-use Rattle.nk_witness.specs.Finds.{first_set, first_packets}
-use Rattle.nk_witness.proofs.Settling.{settled}
+use Rattle.nk_reach.specs.Finds.{first_set, first_packets}
+use Rattle.nk_reach.proofs.Settling.{settled}
 use Rattle.nk_store.proofs.Stores.{grows_same}
 use Rattle.nk_reach.proofs.Growing.{sets_refl}
 use Rattle.nk_switches.proofs.Growing.{set_kept}

@@ -32,7 +32,7 @@ use nk_store::{Id, Store};
 use nk_table::{Table, Tables};
 use nk_tag::{NumberError, number};
 use nk_topo::Topo;
-use nk_witness::{Found, least_history};
+use nk_reach::{Found, least_history};
 use std::alloc::{AllocError, Global};
 
 /// The levels of an automaton's rows from the located untagged packets. Where an end at no edge port is met, the least history

@@ -16,3 +16,5 @@ pub mod Changings
 pub mod Pieces
 pub mod Cut
 pub mod Fields
+pub mod Naming
+pub mod Sending

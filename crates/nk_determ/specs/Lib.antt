@@ -4,3 +4,9 @@ pub mod Sets
 pub mod Branches
 pub mod States
 pub mod Unchanged
+pub mod Reach
+pub mod Pairs
+pub mod Levels
+pub mod Breaks
+pub mod InOrder
+pub mod Automaton

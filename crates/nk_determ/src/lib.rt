@@ -5,11 +5,13 @@
 mod assigned;
 mod branches;
 mod changing;
+mod levels;
 mod sets;
 mod splits;
 mod states;
 mod targets;
 
+pub use levels::Levels;
 pub use sets::{SetId, Sets};
 pub use splits::{mean_same, split};
 pub use states::state;

@@ -8,7 +8,7 @@ use nk_grammar::file;
 use nk_lex::{Token, tokens};
 use nk_names::reading::program;
 use nk_names::{NamesError, Program};
-use nk_witness::{Found, Side};
+use nk_reach::{Found, Side};
 use std::alloc::{AllocError, Global};
 use std::test::Fail;
 

@@ -6,7 +6,7 @@ use crate::programs::{declared, program_text};
 use nk_bisim::{Compared, compare};
 use nk_names::Program;
 use nk_policy::Pol;
-use nk_witness::{Found, Side};
+use nk_reach::{Found, Side};
 use std::alloc::Global;
 use std::test::Fail;
 

@@ -13,7 +13,7 @@ use nk_field::{Fid, Packet};
 use nk_policy::Pol;
 use nk_reach::{OneSide, levels};
 use nk_store::{Id, Store};
-use nk_witness::{Found, Side, least_history};
+use nk_reach::{Found, Side, least_history};
 use std::alloc::{AllocError, Global};
 use std::test::Fail;
 

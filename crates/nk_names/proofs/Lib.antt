@@ -14,3 +14,4 @@ pub mod Topologies
 pub mod Writable
 pub mod Predicates
 pub mod PredicatesBack
+pub mod Alike

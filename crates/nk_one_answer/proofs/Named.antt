@@ -16,9 +16,10 @@ use Rattle.nk_uniqueness.specs.Packets.{HavePackets}
 use Rattle.nk_uniqueness.specs.Queried.{Queried, holding, breaking, IsFoundOfNamed}
 use Rattle.nk_uniqueness.specs.Texts.{TextsHavePackets}
 use Rattle.nk_uniqueness.specs.Told.{Told, certified, alone, IsToldFor, IsFoundFor}
-use Rattle.nk_uniqueness.proofs.Alike.{fields_alike}
+use Rattle.nk_names.proofs.Alike.{fields_alike}
 use Rattle.nk_uniqueness.proofs.Asking.{one_cause, one_told_of_named, one_found_of_named}
-use Rattle.nk_uniqueness.proofs.ByName.{never_refused, one_refusal, one_compiled}
+use Rattle.nk_compile.proofs.ReasonByName.{never_refused, one_refusal}
+use Rattle.nk_uniqueness.proofs.ByName.{one_compiled}
 use Rattle.nk_uniqueness.proofs.Comparing.{OnePrinted, OneFinding, one_told_for, none_told, one_found_for, none_found}
 use Rattle.nk.specs.Asking.{IsHeld, IsBroken, LacksQuestion, IsAskAnswer, broken_lines}
 use Rattle.nk.specs.CertifiedText.{HoldsCertificate, HasCertifiedFault}

@@ -11,7 +11,7 @@ use Rattle.nk_compile.specs.Counted.{HasTagSets, HasTagCount}
 use Rattle.nk_uniqueness.specs.Packets.{HavePackets}
 use Rattle.nk_uniqueness.specs.Texts.{TextsHavePackets}
 use Rattle.nk_uniqueness.specs.Told.{Told, certified, alone}
-use Rattle.nk_uniqueness.proofs.Alike.{fields_alike, topo_alike, one_policy}
+use Rattle.nk_names.proofs.Alike.{fields_alike, topo_alike, one_policy}
 use Rattle.nk_uniqueness.proofs.ByName.{one_compiled}
 use Rattle.nk_uniqueness.proofs.Comparing.{OnePrinted, one_told_for}
 use Rattle.nk_uniqueness.proofs.OneTable.{one_tag_list}

@@ -15,7 +15,7 @@ use Rattle.nk_cert.specs.Certificates.{CertificateValue, IsCertificate}
 use Rattle.nk_cert.specs.Verdicts.{Finding, IsFinding}
 use Rattle.nk_cert.proofs.Soundness.{shows_equality}
 use Rattle.nk_cert.proofs.Together.{sides_of}
-use Rattle.nk_bisim.specs.Answers.{IsRelated}
+use Rattle.nk_cert.specs.Comparison.{IsRelated}
 use Rattle.nk_query.specs.Asked.{Question, apart_of, waypoint_of, are_predicates, question_policy, Breaks, NoneBreaks, IsBreaking, IsLeastBreak}
 use Rattle.nk_query.specs.Answers.{asked_policy, IsFitFor, IsJudgedFor}
 use Rattle.nk_query.proofs.Breaking.{numbered_gives, apart_breaks, waypoint_breaks}

@@ -8,13 +8,13 @@ use Rattle.nk_policy.specs.Tree.{tree_of}
 use Rattle.nk_policy.specs.declared.policy.Pol.{Pol}
 use Rattle.nk_names.specs.Complements.{NegatesPredicates}
 use Rattle.nk_names.specs.declared.Program.{Program}
-use Rattle.nk_witness.specs.Finds.{found_of}
+use Rattle.nk_reach.specs.Finds.{found_of}
 use Rattle.nk_cert.specs.Certificates.{CertificateValue}
 use Rattle.nk_cert.specs.Equality.{on_left}
 use Rattle.nk_cert.specs.Verdicts.{Finding, valid, IsFinding}
 use Rattle.nk_cert.specs.Values.{certificate_value, finding_of}
 use Rattle.nk_cert.specs.declared.shape.Verdict.{Verdict}
-use Rattle.nk_bisim.specs.Answers.{whose, IsRelated}
+use Rattle.nk_cert.specs.Comparison.{whose, IsRelated}
 use Rattle.nk_query.specs.Asked.{Asked, apart, waypoint, Question, NamesQuestion, LacksName, are_predicates, question_policy, NoneBreaks, IsLeastBreak}
 use Rattle.nk_query.specs.declared.shape.Query.{Query}
 use Rattle.nk_query.specs.declared.shape.Query.TheVariants.{Apart, Waypoint}

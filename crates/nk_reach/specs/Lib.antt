@@ -7,3 +7,9 @@ pub mod Rounds
 pub mod Sides
 pub mod Local
 pub mod Breaks
+pub mod Histories
+pub mod Pulls
+pub mod Backs
+pub mod Choices
+pub mod Finds
+pub mod Laws

@@ -1,6 +1,7 @@
 -- What one of two sides alone ends at. Each label has a diagram of marked ends: an out has target 1 where the left side
 -- ends and 2 where the right side does, and its act assigns exactly the fields that it changes, so that equal packets come
 -- of equal acts.
+pub use Rattle.nk_determ.specs.Breaks.{Makes}
 use Rattle.std.specs.Prelude.{◌≡◌, ℕ, ◌<◌, ◌⊎◌, ◌↔◌, Bool, true, false, nat_lt, eqb, cond, List, [], ◌∷◌, Some, length, slice_index, Contains}
 use Rattle.std.specs.List.{list_any}
 use Rattle.std.specs.Map.{lookup}
@@ -113,10 +114,6 @@ pub record AreMarked (old : Held) (rows : List ℕ) (left right bound n : ℕ) (
   pub count : length ends ≡ n
   pub start : 0 < n → HasLeaves new (slice_index ends 0) (λ pk. merged (marked old left 1 pk) (marked old right 2 pk))
   pub rest : (l : ℕ) → 0 < l → l < n → HasLeaves new (slice_index ends l) (λ pk. marked old (slice_index rows l) (mark_of bound l) pk)
-
--- the outs make the packet y, with that target
-abbrev pub Makes : List Out → List ℕ → List ℕ → ℕ → Type 0
-Makes outs pk y t = (g : List (ℕ × ℕ)) × Contains outs (record { act = g; target = t }) × (y ≡ applied g pk)
 
 -- the side with that mark and start ends with y at some label of the set
 abbrev pub EndsAt : Held → List ℕ → ℕ → ℕ → ℕ → List ℕ → List ℕ → List ℕ → Type 0

@@ -1,22 +1,32 @@
-//! Levels over set states: every set of labels at every packet that is met, by the least number of records, up to a goal.
+//! Levels over set states: every set of labels at every packet that is met, by the least number of records, up to a goal;
+//! and the least history that breaks the goal.
 #![tactic(auto)]
 
+mod back;
+mod choice;
 mod entries;
 mod follow;
+mod forward;
+mod found;
 mod goal;
 mod groups;
+pub mod laws;
+mod least;
 mod local;
 mod outs;
+mod pull;
 mod rounds;
 mod search;
-mod shape;
 mod sides;
+mod standing;
 
 pub use entries::{add, merge, under};
+pub use found::{Found, Side};
 pub use goal::{Goal, any_bad};
+pub use least::least_history;
 pub use local::state_at;
+pub use nk_determ::Levels;
 pub use outs::{Given, by_out};
 pub use rounds::next_level;
 pub use search::levels;
-pub use shape::Levels;
 pub use sides::OneSide;

@@ -11,10 +11,10 @@ use Rattle.nk_policy.specs.Distinct.{HasDistinct}
 use Rattle.nk_store.specs.declared.node.Out.{Out}
 use Rattle.nk_store.specs.Held.{Held, IsPacket, AreTidy}
 use Rattle.nk_determ.specs.States.{RowLeads}
-use Rattle.nk_auto.specs.Automaton.{IsAutomaton}
-use Rattle.nk_reach.specs.Pairs.{HavePlaces}
-use Rattle.nk_reach.specs.Sides.{Makes}
-use Rattle.nk_reach.specs.Breaks.{Breaks}
+use Rattle.nk_determ.specs.Automaton.{IsAutomaton}
+use Rattle.nk_determ.specs.Pairs.{HavePlaces}
+use Rattle.nk_determ.specs.Breaks.{Makes}
+use Rattle.nk_determ.specs.Breaks.{Breaks}
 use Rattle.nk_runs.specs.Labels.{IsAmong}
 use Rattle.nk_runs.proofs.Ends.{EndsAt}
 use Rattle.nk_runs.proofs.Walking.{walk_in_range, walks_met, walk_places, ends_given, given_walked}

@@ -11,10 +11,10 @@ use Rattle.nk_policy.proofs.ListParts.{last_of_list}
 use Rattle.nk_store.specs.declared.node.Out.{Out}
 use Rattle.nk_store.specs.Held.{Held, IsPacket, AreTidy}
 use Rattle.nk_determ.specs.Exact.{Sends}
-use Rattle.nk_auto.specs.Automaton.{IsAutomaton}
-use Rattle.nk_reach.specs.Pairs.{Node, HavePlaces, IsPair}
-use Rattle.nk_reach.specs.Levels.{At, InLevel, Bad, AreLevels}
-use Rattle.nk_tag.proofs.Naming.{named_entry}
+use Rattle.nk_determ.specs.Automaton.{IsAutomaton}
+use Rattle.nk_determ.specs.Pairs.{Node, HavePlaces, IsPair}
+use Rattle.nk_determ.specs.Levels.{At, InLevel, Bad, AreLevels}
+use Rattle.nk_determ.proofs.Naming.{named_entry}
 use Rattle.nk_runs.specs.Labels.{IsAmong}
 use Rattle.nk_runs.proofs.Numbers.{at_dup}
 use Rattle.nk_runs.proofs.Steps.{no_member, state_at, known}

@@ -8,9 +8,9 @@ use Rattle.nk_policy.specs.Labels.{IsLabelSet}
 use Rattle.nk_policy.proofs.LabelSteps.{at_next}
 use Rattle.nk_policy.proofs.ListParts.{last_of_list}
 use Rattle.nk_store.specs.Held.{Held, IsPacket, AreTidy}
-use Rattle.nk_auto.specs.Automaton.{IsAutomaton}
-use Rattle.nk_reach.specs.Pairs.{Node, IsStep}
-use Rattle.nk_reach.specs.Levels.{At}
+use Rattle.nk_determ.specs.Automaton.{IsAutomaton}
+use Rattle.nk_determ.specs.Pairs.{Node, IsStep}
+use Rattle.nk_determ.specs.Levels.{At}
 use Rattle.nk_runs.specs.Labels.{IsAmong, IsLabelled}
 use Rattle.nk_runs.proofs.Steps.{some_member, no_member, begins, follows, known}
 

@@ -5,9 +5,9 @@ use Rattle.nk_policy.specs.Policy.{Policy, dups_of}
 use Rattle.nk_policy.specs.After.{after}
 use Rattle.nk_store.specs.Nodes.{InRange}
 use Rattle.nk_store.specs.Held.{Held, IsId, IsPacket, Grows}
-use Rattle.nk_auto.specs.Automaton.{IsState, IsAutomaton}
-use Rattle.nk_auto.proofs.Sending.{sends_on, sends_back}
-use Rattle.nk_reach.specs.Pairs.{AreRows}
+use Rattle.nk_determ.specs.Automaton.{IsState, IsAutomaton}
+use Rattle.nk_determ.proofs.Sending.{sends_on, sends_back}
+use Rattle.nk_determ.specs.Pairs.{AreRows}
 
 -- a packet of the grown store is one of the old store
 pub packet_back : (old new : Held) (pk : List ℕ) → Grows old new → IsPacket new pk → IsPacket old pk

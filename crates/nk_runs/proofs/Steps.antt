@@ -14,9 +14,9 @@ use Rattle.nk_policy.proofs.Tests.{false_true}
 use Rattle.nk_store.specs.Held.{Held, IsPacket, AreTidy}
 use Rattle.nk_determ.specs.Exact.{Sends}
 use Rattle.nk_determ.specs.States.{RowLeads}
-use Rattle.nk_auto.specs.Automaton.{IsState, IsAutomaton}
-use Rattle.nk_auto.proofs.Sending.{sent_in_range}
-use Rattle.nk_reach.specs.Pairs.{IsStep}
+use Rattle.nk_determ.specs.Automaton.{IsState, IsAutomaton}
+use Rattle.nk_determ.proofs.Sending.{sent_in_range}
+use Rattle.nk_determ.specs.Pairs.{IsStep}
 use Rattle.nk_runs.proofs.Numbers.{dup_within, record_dup, rest_record_dup, at_dup}
 use Rattle.nk_runs.proofs.Listings.{all_listed, some_decided, sends_decided}
 

@@ -19,11 +19,11 @@ use Rattle.nk_policy.proofs.Parity.{bound_of, dups_below, odd_at, even_at}
 use Rattle.nk_store.specs.declared.node.Out.{Out}
 use Rattle.nk_store.specs.Held.{Held, IsPacket, Grows, AreTidy}
 use Rattle.nk_determ.specs.Sets.{Differ}
-use Rattle.nk_auto.specs.Automaton.{IsAutomaton}
-use Rattle.nk_reach.specs.Pairs.{Node, Named, Under, EachPair, IsPair}
-use Rattle.nk_reach.specs.Levels.{At, InLevel, IsFilled, AreLevels}
-use Rattle.nk_tag.specs.Numbers.{odd_level, IsAtOdd, IsFirst, IsNumberedBefore, AreNumbers}
-use Rattle.nk_tag.proofs.Naming.{named_within, named_entry, pairs_mapped}
+use Rattle.nk_determ.specs.Automaton.{IsAutomaton}
+use Rattle.nk_determ.specs.Pairs.{Node, Named, Under, EachPair, IsPair}
+use Rattle.nk_determ.specs.Levels.{At, InLevel, IsFilled, AreLevels}
+use Rattle.nk_determ.specs.InOrder.{odd_level, IsAtOdd, IsFirst, IsNumberedBefore, AreNumbers}
+use Rattle.nk_determ.proofs.Naming.{named_within, named_entry, pairs_mapped}
 use Rattle.nk_runs.specs.Labels.{IsAmong, members}
 use Rattle.nk_runs.proofs.Numbers.{dup_within, at_dup}
 use Rattle.nk_runs.proofs.Stands.{packet_back}

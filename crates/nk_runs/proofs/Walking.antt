@@ -15,9 +15,9 @@ use Rattle.nk_policy.proofs.ListParts.{last_of_list}
 use Rattle.nk_policy.proofs.PositionSteps.{gives_from_position, one_set, start_set}
 use Rattle.nk_store.specs.Held.{Held, IsPacket, AreTidy}
 use Rattle.nk_determ.specs.States.{RowLeads}
-use Rattle.nk_auto.specs.Automaton.{IsState, IsAutomaton}
-use Rattle.nk_reach.specs.Pairs.{Node, HavePlaces, IsStep}
-use Rattle.nk_reach.specs.Breaks.{Walks}
+use Rattle.nk_determ.specs.Automaton.{IsState, IsAutomaton}
+use Rattle.nk_determ.specs.Pairs.{Node, HavePlaces, IsStep}
+use Rattle.nk_determ.specs.Breaks.{Walks}
 use Rattle.nk_runs.specs.Walked.{IsMetBehind}
 use Rattle.nk_runs.proofs.Numbers.{dup_within, at_dup}
 use Rattle.nk_runs.proofs.Steps.{Known, some_member, no_member, begins, follows, known, state_at}

@@ -4,7 +4,7 @@ use Rattle.nk_field.specs.declared.packet.Packet.{Packet}
 use Rattle.nk_policy.specs.Policy.{Policy}
 use Rattle.nk_policy.specs.Labels.{HasExactly}
 use Rattle.nk_policy.specs.PositionSets.{IsPosition, last_from}
-use Rattle.nk_reach.specs.Pairs.{Node}
+use Rattle.nk_determ.specs.Pairs.{Node}
 
 -- the positions at which runs from pk can be that have recorded exactly u, there being one: before the first record the
 -- start alone, and behind it the label set

@@ -6,8 +6,8 @@ use Rattle.nk_policy.specs.Meaning.{Gives}
 use Rattle.nk_store.specs.declared.node.Out.{Out}
 use Rattle.nk_store.specs.Held.{Held, IsPacket}
 use Rattle.nk_determ.specs.States.{RowLeads}
-use Rattle.nk_reach.specs.Pairs.{HavePlaces}
-use Rattle.nk_reach.specs.Sides.{Makes}
+use Rattle.nk_determ.specs.Pairs.{HavePlaces}
+use Rattle.nk_determ.specs.Breaks.{Makes}
 
 -- of sets of places among the rows: the bad finals make, with target 0, exactly the packets at which members' rows end and
 -- that the test finds wrong

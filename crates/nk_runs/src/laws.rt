@@ -15,13 +15,13 @@ ghost use Rattle.nk_policy.specs.Tags.{AreTags};
 ghost use Rattle.nk_store.specs.declared.node.Out.{Out};
 ghost use Rattle.nk_store.specs.Held.{Held, IsPacket, Grows, AreTidy};
 ghost use Rattle.nk_determ.specs.Sets.{Differ};
-ghost use Rattle.nk_auto.specs.Automaton.{IsAutomaton};
+ghost use Rattle.nk_determ.specs.Automaton.{IsAutomaton};
 ghost use Rattle.nk_determ.specs.States.{RowLeads};
-ghost use Rattle.nk_reach.specs.Pairs.{Node, AreRows, HavePlaces, IsStep};
-ghost use Rattle.nk_reach.specs.Levels.{At, AreLevels};
-ghost use Rattle.nk_tag.specs.Numbers.{IsAtOdd, AreNumbers};
+ghost use Rattle.nk_determ.specs.Pairs.{Node, AreRows, HavePlaces, IsStep};
+ghost use Rattle.nk_determ.specs.Levels.{At, AreLevels};
+ghost use Rattle.nk_determ.specs.InOrder.{IsAtOdd, AreNumbers};
 ghost use Rattle.nk_runs.specs.Labels.{IsAmong, IsLabelled, members};
-ghost use Rattle.nk_reach.specs.Breaks.{Walks, Breaks};
+ghost use Rattle.nk_determ.specs.Breaks.{Walks, Breaks};
 ghost use Rattle.nk_runs.specs.Walked.{IsMetBehind};
 ghost use Rattle.nk_runs.specs.Wrong.{AreWrongEnds, HasWrongEnd};
 

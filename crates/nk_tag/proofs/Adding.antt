@@ -9,9 +9,9 @@ use Rattle.indexmap.specs.IndexSet.{insert_all}
 use Rattle.nk_field.specs.Order.{IsListedBefore}
 use Rattle.nk_field.proofs.Lists.{In, in_from_contains, contains_from_in, Apart}
 use Rattle.nk_determ.specs.Sets.{Differ}
-use Rattle.nk_reach.specs.Pairs.{Named, Once}
+use Rattle.nk_determ.specs.Pairs.{Named, Once}
 use Rattle.nk_tag.specs.Steps.{set_of, unseen, set_cmp, IsAdded}
-use Rattle.nk_tag.proofs.Naming.{pairs_mapped}
+use Rattle.nk_determ.proofs.Naming.{pairs_mapped}
 use Rattle.nk_tag.proofs.Listed.{number_of, apart_pairs, sorted_listed, apart_permuted, any_tells, inserted}
 
 -- an entry whose set has no number

@@ -7,10 +7,10 @@ use Rattle.nk_field.specs.Order.{IsListedBefore}
 use Rattle.nk_field.proofs.Lists.{In, in_from_contains, contains_from_in, in_either, in_decided, Decided, numbers_decided, Apart, apart_joined}
 use Rattle.nk_field.proofs.Ascending.{first_before, rest_in_order, all_from_members}
 use Rattle.nk_policy.specs.Labels.{IsWithoutDoubles, AtLeast}
-use Rattle.nk_reach.specs.Pairs.{Named}
+use Rattle.nk_determ.specs.Pairs.{Named}
 use Rattle.nk_tag.specs.Numbers.{IsNamedAt, IsFirstAt, IsNamedBefore, AreInOrder}
 use Rattle.nk_tag.specs.Steps.{IsAdded, AreBelow}
-use Rattle.nk_tag.proofs.Naming.{named_decided}
+use Rattle.nk_determ.proofs.Naming.{named_decided}
 
 -- no list stands before itself
 never_before : (xs : List ℕ) → IsListedBefore xs xs → ⊥

@@ -1,4 +1,3 @@
-pub mod Naming
 pub mod Listed
 mod Adding
 pub mod Below

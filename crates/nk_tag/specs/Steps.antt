@@ -6,7 +6,7 @@ use Rattle.std.specs.Cmp.Lexicographic.{slice_cmp}
 use Rattle.std.specs.declared.cmp.Ordering.{Ordering}
 use Rattle.nk_field.specs.Order.{IsListedBefore}
 use Rattle.nk_policy.specs.Labels.{IsWithoutDoubles}
-use Rattle.nk_reach.specs.Pairs.{Named}
+use Rattle.nk_determ.specs.Pairs.{Named}
 use Rattle.nk_tag.specs.Numbers.{IsNamedBefore}
 
 -- the members of an entry's set, beside its number

@@ -1,16 +1,15 @@
 //! The sets at levels in order: numbers of those at odd levels, and those behind the first level.
 ghost use Rattle.std.specs.Prelude.{◌≡◌, ◌≤◌, ◌<◌, ◌+◌, ◌*◌, ◌^◌, false, IfOk, IfErr, OnOk, [], length, map, All, nat_eq, slice_index_or};
 ghost use Rattle.std.specs.List.Sorted.{IsPermutation, IsSorted};
-ghost use Rattle.nk_reach.specs.Pairs.{Once};
+ghost use Rattle.nk_determ.specs.Pairs.{Once};
 ghost use Rattle.indexmap.specs.IndexSet.{insert_all};
 ghost use Rattle.nk_tag.specs.Numbers.{AreEntries, AreNumbers, AreLaterSets, IsFault};
 ghost use Rattle.nk_tag.specs.Steps.{unseen, set_cmp, IsAdded};
 
 use crate::error::NumberError;
 use indexmap::IndexSet;
-use nk_determ::{SetId, Sets};
+use nk_determ::{Levels, SetId, Sets};
 use nk_field::List;
-use nk_reach::Levels;
 use nk_store::Id;
 use std::alloc::{AllocError, Global};
 

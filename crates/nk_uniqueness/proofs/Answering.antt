@@ -11,7 +11,8 @@ use Rattle.nk_compile.specs.Refusals.{IsRefused}
 use Rattle.nk_compile.specs.Headline.{IsAcceptedByName, IsCompiled}
 use Rattle.nk_compile.specs.Answers.{IsAnswer}
 use Rattle.nk_uniqueness.specs.Packets.{HavePackets}
-use Rattle.nk_uniqueness.proofs.ByName.{never_refused, one_refusal, one_compiled}
+use Rattle.nk_compile.proofs.ReasonByName.{never_refused, one_refusal}
+use Rattle.nk_uniqueness.proofs.ByName.{one_compiled}
 
 abbrev Answer : Type 0
 Answer = Result Tables CompileError

@@ -6,17 +6,18 @@ use Rattle.nk_field.specs.Packet.{FieldTable, IsFieldTable}
 use Rattle.nk_policy.specs.Policy.{Policy, marked_from, dups_of}
 use Rattle.nk_names.specs.declared.Program.{Program}
 use Rattle.nk_names.specs.ProgramOf.{said_by}
-use Rattle.nk_cert.specs.Equality.{Side, on_left, on_right, AreSame, IsOfOneAlone, IsLeastDifference}
+use Rattle.nk_cert.specs.Equality.{Side, on_left, on_right, IsOfOneAlone, IsLeastDifference}
 use Rattle.nk_cert.specs.Certificates.{CertificateValue}
 use Rattle.nk_cert.specs.Printed.{IsPrinted}
 use Rattle.nk_cert.specs.Verdicts.{Finding, IsFinding}
+use Rattle.nk_cert.proofs.OneAlone.{no_difference}
 use Rattle.nk_bisim.specs.Answers.{IsCompared}
-use Rattle.nk_bisim.specs.declared.answer.Compared.{Compared}
-use Rattle.nk_bisim.specs.declared.answer.Compared.TheVariants.{Related, Broken}
+use Rattle.nk_cert.specs.declared.compared.Compared.{Compared}
+use Rattle.nk_cert.specs.declared.compared.Compared.TheVariants.{Related, Broken}
 use Rattle.nk_uniqueness.specs.Told.{Told, certified, alone, told_by, LacksOne, IsTold, IsToldFor, IsFoundFor}
-use Rattle.nk_uniqueness.proofs.Orders.{one_least}
-use Rattle.nk_uniqueness.proofs.Reasons.{none_some}
-use Rattle.nk_uniqueness.proofs.Alike.{fields_alike, named_alike, one_policy}
+use Rattle.nk_compile.proofs.Orders.{one_least}
+use Rattle.nk_compile.proofs.Reasons.{none_some}
+use Rattle.nk_names.proofs.Alike.{fields_alike, named_alike, one_policy}
 
 -- a history is of one side alone
 one_side : (fields : FieldTable) (p q : Policy) (s t : Side) (f : Found) → IsOfOneAlone fields p q s f → IsOfOneAlone fields p q t f → s ≡ t
@@ -31,11 +32,6 @@ pub one_difference : (fields : FieldTable) (p q : Policy) (s t : Side) (f g : Fo
 one_difference fields p q s t f g h k =
     let e = one_least (λ z. (side : Side) × IsOfOneAlone fields p q side z) f g h.1 k.1 in
     (one_side fields p q s t f h.0 (subst (λ z. IsOfOneAlone fields p q t z) (sym e) k.0), e)
-
--- policies that give the same histories have none
-pub no_difference : (fields : FieldTable) (p q : Policy) (s : Side) (f : Found) → AreSame fields p q → IsOfOneAlone fields p q s f → ⊥
-no_difference fields p q on_left f same h = h.2 ((same f.start h.0 f.records f.last).0 h.1)
-no_difference fields p q on_right f same h = h.2 ((same f.start h.0 f.records f.last).1 h.1)
 
 -- that two policies have at most one printed certificate
 abbrev pub OnePrinted : Type 0

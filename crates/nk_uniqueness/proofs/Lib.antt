@@ -1,9 +1,5 @@
-pub mod Orders
-pub mod Fitting
-pub mod Reasons
 pub mod Trees
 pub mod OneTable
-pub mod Alike
 pub mod ByName
 pub mod Answering
 pub mod Comparing

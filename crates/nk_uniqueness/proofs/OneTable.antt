@@ -14,7 +14,7 @@ use Rattle.nk_compile.specs.PrintedTable.{IsTreeOf}
 use Rattle.nk_compile.specs.WholeTable.{HasRowsAt, TagTree, rows_of_trees, IsSwitchTable, IsTableOf}
 use Rattle.nk_cert.proofs.OneTree.{three}
 use Rattle.nk_uniqueness.specs.Packets.{HavePackets}
-use Rattle.nk_uniqueness.proofs.Orders.{listed_once, same_sorted}
+use Rattle.nk_compile.proofs.Orders.{listed_once, same_sorted}
 use Rattle.nk_uniqueness.proofs.Trees.{one_tag_tree}
 
 number_is : (m n : ℕ) → Some m ≡ Some n → m ≡ n

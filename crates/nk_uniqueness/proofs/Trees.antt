@@ -11,7 +11,7 @@ use Rattle.nk_table.specs.declared.Bucket.{Bucket}
 use Rattle.nk_extract.specs.Buckets.{key_of, tag_of, IsBucketBefore}
 use Rattle.nk_compile.specs.PrintedTable.{IsBucketList, IsTreeOf}
 use Rattle.nk_cert.proofs.OneTree.{one_tree}
-use Rattle.nk_uniqueness.proofs.Orders.{lex_once, listed_once, same_sorted}
+use Rattle.nk_compile.proofs.Orders.{lex_once, listed_once, same_sorted}
 use Rattle.nk_field.specs.Order.{IsListedBefore}
 
 abbrev Tree : Type 0

@@ -20,7 +20,7 @@ use Rattle.nk_compile.specs.Smallest.{tag_alone, one_port, straight_back, one_ta
 use Rattle.nk_cert.specs.Equality.{Side, on_left, on_right, IsOfOneAlone}
 use Rattle.nk_uniqueness.specs.Packets.{HavePackets}
 use Rattle.nk_uniqueness.specs.Worked.{far_port, far_tables, ArePrintedFar, HasSeveralTables, AreMetBySmallPolicy, zeros, zeros_stay, IsSmallDifference}
-use Rattle.nk_uniqueness.proofs.Reasons.{none_some}
+use Rattle.nk_compile.proofs.Reasons.{none_some}
 use Rattle.nk_uniqueness.proofs.OneTable.{one_table as one_printed_table}
 
 -- the policy that keeps each packet records nothing, so it has no tag set

@@ -5,14 +5,14 @@ use Rattle.nk_field.specs.Packet.{FieldTable}
 use Rattle.nk_policy.specs.Policy.{Policy, marked_from, dups_of}
 use Rattle.nk_names.specs.declared.Program.{Program}
 use Rattle.nk_names.specs.Named.{policy_named}
-use Rattle.nk_witness.specs.Finds.{found_of}
+use Rattle.nk_reach.specs.Finds.{found_of}
 use Rattle.nk_cert.specs.Equality.{Side, IsLeastDifference}
 use Rattle.nk_cert.specs.Certificates.{CertificateValue}
 use Rattle.nk_cert.specs.Values.{certificate_value}
 use Rattle.nk_cert.specs.Verdicts.{Finding, IsFinding}
 use Rattle.nk_bisim.specs.Answers.{whose, IsRelated}
-use Rattle.nk_bisim.specs.declared.answer.Compared.{Compared}
-use Rattle.nk_bisim.specs.declared.answer.Compared.TheVariants.{Related, Broken}
+use Rattle.nk_cert.specs.declared.compared.Compared.{Compared}
+use Rattle.nk_cert.specs.declared.compared.Compared.TheVariants.{Related, Broken}
 
 -- a certificate, or whose history is found, and which
 pub data Told : Type 0 where

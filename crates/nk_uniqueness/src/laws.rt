@@ -24,7 +24,7 @@ ghost use Rattle.nk_cert.specs.Certificates.{CertificateValue};
 ghost use Rattle.nk_cert.specs.Equality.{Side, AreSame, IsLeastDifference};
 ghost use Rattle.nk_cert.specs.Verdicts.{Finding};
 ghost use Rattle.nk_bisim.specs.Answers.{IsCompared};
-ghost use Rattle.nk_bisim.specs.declared.answer.Compared.{Compared};
+ghost use Rattle.nk_cert.specs.declared.compared.Compared.{Compared};
 ghost use Rattle.nk_query.specs.Asked.{Asked, Question, NamesQuestion};
 ghost use Rattle.nk_query.specs.Answers.{IsNamedQuestion, IsCause, IsAsked};
 ghost use Rattle.nk_query.specs.declared.error.QueryError.{QueryError};

@@ -3,7 +3,7 @@ use Rattle.nk_store.proofs.Stores.{grows_same, grows_on}
 use Rattle.nk_reach.specs.Pairs.{HavePlaces}
 use Rattle.nk_reach.specs.Sides.{alone, ends_of, ends_same}
 use Rattle.nk_reach.proofs.Growing.{rows_grow, sets_refl}
-use Rattle.nk_witness.proofs.Settling.{settled}
+use Rattle.nk_reach.proofs.Settling.{settled}
 use Rattle.nk_level_tests.proofs.least.least_of.Goals as goal
 
 pub levels-requires-clause-rows : goal.levels-requires-clause-rows

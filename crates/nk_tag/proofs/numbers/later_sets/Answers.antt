@@ -1,7 +1,7 @@
 use Rattle.std.proofs.Common.{◌≡◌, suc, ◌+◌, ◌-◌, ◌≤◌, length, sym, subst, ◌∙◌, arith, get_or, []}
 use Rattle.nk_tag.specs.Numbers.{later_level, AreLaterSets}
 use Rattle.nk_tag.specs.Steps.{IsAdded, AreBelow}
-use Rattle.nk_tag.proofs.Naming.{named_within}
+use Rattle.nk_determ.proofs.Naming.{named_within}
 use Rattle.nk_tag.proofs.Below.{none_below, below_more, all_below}
 use Rattle.nk_tag.proofs.numbers.later_sets.Goals as goal
 

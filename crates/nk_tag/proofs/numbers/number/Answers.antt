@@ -1,6 +1,6 @@
 use Rattle.std.proofs.Common.{◌+◌, ◌*◌, ◌<◌, ◌≤◌, ◌/◌, length, refl, sym, subst, ◌∙◌, arith}
 use Rattle.nk_tag.specs.Numbers.{odd_level, AreNumbers}
-use Rattle.nk_tag.proofs.Naming.{named_within}
+use Rattle.nk_determ.proofs.Naming.{named_within}
 use Rattle.nk_tag.proofs.Below.{below_more, all_below, too_many}
 use Rattle.nk_tag.proofs.numbers.number.Goals as goal
 

@@ -1,5 +1,5 @@
-use Rattle.nk_uniqueness.proofs.Reasons.{one_reason}
-use Rattle.nk_uniqueness.proofs.ByName.{one_refusal}
+use Rattle.nk_compile.proofs.Reasons.{one_reason}
+use Rattle.nk_compile.proofs.ReasonByName.{one_refusal}
 use Rattle.nk_uniqueness.proofs.laws.a_policy_has_one_reason.Goals as goal
 
 pub returns-clause-policy : goal.returns-clause-policy

@@ -1,5 +1,5 @@
-use Rattle.nk_uniqueness.proofs.Reasons.{no_reason}
-use Rattle.nk_uniqueness.proofs.ByName.{never_refused}
+use Rattle.nk_compile.proofs.Reasons.{no_reason}
+use Rattle.nk_compile.proofs.ReasonByName.{never_refused}
 use Rattle.nk_uniqueness.proofs.laws.accepted_policies_have_no_reason.Goals as goal
 
 pub returns-clause-policy : goal.returns-clause-policy

@@ -1,4 +1,5 @@
-use Rattle.nk_uniqueness.proofs.Asking.{one_question, no_cause, one_cause}
+use Rattle.nk_query.proofs.OneQuestion.{one_question, no_cause}
+use Rattle.nk_uniqueness.proofs.Asking.{one_cause}
 use Rattle.nk_uniqueness.proofs.laws.one_question_is_asked.Goals as goal
 
 pub returns-clause-question : goal.returns-clause-question

@@ -1,0 +1,182 @@
+-- What levels of two policies say of them.
+use Rattle.std.proofs.Common.{◌≡◌, ℕ, ◌+◌, Bool, true, false, List, [], ◌∷◌, refl, sym, ap, subst, ◌∙◌, get_or}
+use Rattle.std.specs.Prelude.{◌↔◌, slice_index_or}
+use Rattle.nk_field.specs.declared.packet.Packet.{Packet}
+use Rattle.nk_field.specs.Packet.{FieldTable}
+use Rattle.nk_field.specs.Order.{Found, IsLeast}
+use Rattle.nk_policy.specs.Policy.{Policy, marked_from, dups_of}
+use Rattle.nk_policy.specs.Ranges.{IsInRange}
+use Rattle.nk_policy.specs.Meaning.{Way, Gives}
+use Rattle.nk_policy.proofs.Remade.{marked_ways, marked_again}
+use Rattle.nk_store.specs.declared.node.Out.{Out}
+use Rattle.nk_store.specs.Held.{Held, Grows, AreTidy}
+use Rattle.nk_store.proofs.Stores.{grows_on}
+use Rattle.nk_sets.specs.PacketSets.{is_in}
+use Rattle.nk_determ.specs.Sets.{Differ}
+use Rattle.nk_reach.specs.Pairs.{AreRows, EachPair, IsPair}
+use Rattle.nk_reach.specs.Rounds.{HaveSets}
+use Rattle.nk_reach.specs.Levels.{AreLevels}
+use Rattle.nk_reach.specs.Sides.{alone, ends_of}
+use Rattle.nk_reach.specs.Breaks.{IsBreak, Breaks}
+use Rattle.nk_reach.proofs.Growing.{rows_grow}
+use Rattle.nk_reach.proofs.Kept.{has_on}
+use Rattle.nk_runs.proofs.Stands.{packet_back, are_rows}
+use Rattle.nk_reach.specs.Finds.{first_set, first_packets, found_of}
+use Rattle.nk_reach.specs.Finds.{target_of as witness_target}
+use Rattle.nk_reach.specs.declared.found.Side.{Side}
+use Rattle.nk_reach.specs.declared.found.Side.TheVariants.{Left, Right}
+use Rattle.nk_reach.proofs.Settling.{levels_now}
+use Rattle.nk_cert.specs.Equality.{on_left, on_right, AreSame, IsOfOneAlone, IsLeastDifference}
+use Rattle.nk_cert.specs.Equality.{Side as SideOfBoth}
+use Rattle.nk_cert.specs.Together.{either_of}
+use Rattle.nk_cert.specs.Levelled.{IsAutomatonOfBoth, HasEach, AreLevelsOfBoth, AreSideLevels, target_of}
+use Rattle.nk_cert.specs.Certificates.{CertificateValue, IsCertificate}
+use Rattle.nk_cert.specs.FromLevels.{IsCertificateOf}
+use Rattle.nk_cert.specs.Printed.{IsPrinted}
+use Rattle.nk_cert.specs.Values.{certificate_value}
+use Rattle.nk_cert.proofs.FromLevels.{is_printed}
+use Rattle.nk_cert.proofs.Printing.{is_certificate}
+use Rattle.nk_cert.proofs.Together.{sides_of}
+use Rattle.nk_cert.proofs.Levels.{same_by_levels}
+use Rattle.nk_cert.proofs.Rows.{both_stand}
+use Rattle.nk_cert.proofs.Sided.{levels_of_policies, goal_now}
+use Rattle.nk_cert.proofs.Breaking.{least_difference}
+use Rattle.nk_cert.specs.Comparison.{whose, IsRelated, IsComparison}
+use Rattle.nk_cert.specs.declared.compared.Compared.{Compared}
+use Rattle.nk_cert.specs.declared.compared.Compared.TheVariants.{Related, Broken}
+
+-- both tell a side by one number
+same_target : (side : Side) → witness_target side ≡ target_of (whose side)
+same_target Left = refl
+same_target Right = refl
+
+-- entries over rows have sets of packets
+pub packets_are_sets : (st : Held) (ss : List (List ℕ)) (rows : ℕ) (ps : List (ℕ × ℕ)) → EachPair (IsPair st ss rows) ps → HaveSets st ps
+packets_are_sets st ss rows [] h = tt
+packets_are_sets st ss rows (p ∷ ps) h = (h.0.packets, packets_are_sets st ss rows ps h.1)
+
+-- what the goal finds bad in a store
+abbrev pub bad_in : Held → List ℕ → List ℕ → List ℕ → List Out
+bad_in st ends set pk = alone (ends_of st ends set pk)
+
+module _ (first : Held) (rows : List ℕ) (left right bound : ℕ) (new : Held) (ss : List (List ℕ)) (ends : List ℕ) (ls : List (List (ℕ × ℕ))) (broken : Bool) (rows_are : AreRows first rows)
+    (lv : AreSideLevels first rows left right bound new ss ends ls broken) where
+  -- the levels begin with the start at all packets
+  set_first : first_set ls ≡ lv.set
+  set_first = ap (λ (v : List (ℕ × ℕ)). (get_or v 0 (0, 0)).0) lv.levels.start_is
+
+  packets_first : first_packets ls ≡ lv.start
+  packets_first = ap (λ (v : List (ℕ × ℕ)). (get_or v 0 (0, 0)).1) lv.levels.start_is
+
+  start_alone : slice_index_or ss (first_set ls) [] ≡ 0 ∷ []
+  start_alone = ap (λ s. slice_index_or ss s []) set_first ∙ lv.set_is
+
+  each_first : HasEach new (first_packets ls)
+  each_first pk r =
+      subst (λ s. is_in new s pk ≡ true) (sym packets_first)
+      (has_on lv.old new lv.start pk lv.grown lv.start_id (lv.start_is pk (packet_back lv.old new pk lv.grown r)))
+
+  -- they are levels of the store as it is now
+  pub levels_here : AreLevels new new ss rows (first_set ls) (first_packets ls) (λ set pk. bad_in new ends set pk) ls broken
+  levels_here =
+      let begun = rows_grow first lv.old rows lv.begun rows_are in
+      let made : AreLevels new new ss rows lv.set lv.start (λ set pk. bad_in new ends set pk) ls broken =
+      levels_now lv.old new ss rows lv.set lv.start lv.bad (λ set pk. bad_in new ends set pk) ls broken lv.grown begun lv.start_id (λ n places. lv.read n.0 n.1 places) lv.levels in
+      subst (λ (v : ℕ). AreLevels new new ss rows v (first_packets ls) (λ set pk. bad_in new ends set pk) ls broken) (sym set_first)
+      (subst (λ (v : ℕ). AreLevels new new ss rows lv.set v (λ set pk. bad_in new ends set pk) ls broken) (sym packets_first) made)
+
+module _ (fields : FieldTable) (first : Held) (rows : List ℕ) (left right bound : ℕ) (p q : Policy) (a : IsAutomatonOfBoth fields first rows left right p q) (is : bound ≡ 1 + dups_of p)
+    (new : Held) (ss : List (List ℕ)) (ends : List ℕ) (ls : List (List (ℕ × ℕ))) (broken : Bool) (lv : AreSideLevels first rows left right bound new ss ends ls broken) where
+  -- without an end of one side alone both do the same, and what is made of the levels is the printed certificate
+  pub related_is :
+      broken ≡ false → Differ ss → IsInRange p fields → IsInRange q fields → (final : Held) → Grows new final
+      → (c : CertificateValue) → IsCertificateOf new final ss ls c → IsRelated fields p q c
+  related_is e differ rp rq final grew c made =
+      let levels = levels_of_policies fields first rows left right bound p q a is new ss ends ls broken lv in
+      let both = subst (λ b. AreLevelsOfBoth fields p q rows left right first lv.old new ss lv.set lv.start lv.bad ls b) e levels in
+      let same : AreSame fields p q = same_by_levels fields p q rows left right first lv.old new ss lv.set lv.start lv.bad ls false both both.levels in
+      let printed : IsPrinted fields p q c = is_printed fields p q rows left right first lv.old new final ss lv.set lv.start lv.bad ls both differ lv.grown grew c made in
+      let shows : IsCertificate fields p q c = is_certificate fields p q (sides_of p q a.numbered) rp rq same c printed in
+      record {
+        same = same;
+        printed = subst (λ r. IsPrinted fields p r c) (sym a.numbered.right) printed;
+        shows = subst (λ r. IsCertificate fields p r c) (sym a.numbered.right) shows;
+      }
+
+  -- and what is least of all that break the goal is the least difference
+  pub difference_is : AreTidy new → (side : Side) (f : Found)
+      → IsBreak new rows (slice_index_or ss (first_set ls) []) (first_packets ls) (λ set pk. bad_in new ends set pk) (witness_target side) f
+      → IsLeast (λ g. Breaks new rows (slice_index_or ss (first_set ls) []) (first_packets ls) (λ set pk. bad_in new ends set pk) g) f
+      → IsLeastDifference fields p q (whose side) f
+  difference_is tidy side f breaks least =
+      let rows_are = are_rows first rows (either_of p q) a.rows_are in
+      let alone_set = start_alone first rows left right bound new ss ends ls broken rows_are lv in
+      let here = both_stand fields first new rows left right p q a (grows_on first lv.old new lv.begun lv.grown) tidy in
+      least_difference fields new rows left right p q here (λ set pk. bad_in new ends set pk)
+      (goal_now fields first rows left right bound p q a is new ss ends ls broken lv) (first_packets ls)
+      (each_first first rows left right bound new ss ends ls broken rows_are lv) (whose side) f
+      (subst (λ t. IsBreak new rows (0 ∷ []) (first_packets ls) (λ set pk. bad_in new ends set pk) t f) (same_target side)
+      (subst (λ s. IsBreak new rows s (first_packets ls) (λ set pk. bad_in new ends set pk) (witness_target side) f) alone_set breaks))
+      (subst (λ s. IsLeast (λ g. Breaks new rows s (first_packets ls) (λ set pk. bad_in new ends set pk) g) f) alone_set least)
+
+-- the same where the rows are given as a slice
+module _ (new : Held) (ss : List (List ℕ)) (ends : List ℕ) (ls : List (List (ℕ × ℕ))) (slice rows : List ℕ) (same : slice ≡ rows) where
+  pub levels_at : (broken : Bool) → AreLevels new new ss rows (first_set ls) (first_packets ls) (λ set pk. bad_in new ends set pk) ls broken
+      → AreLevels new new ss slice (first_set ls) (first_packets ls) (λ set pk. bad_in new ends set pk) ls broken
+  levels_at broken h =
+      subst (λ r. AreLevels new new ss r (first_set ls) (first_packets ls) (λ set pk. bad_in new ends set pk) ls broken) (sym same) h
+
+  pub break_at : (t : ℕ) (f : Found) → IsBreak new slice (slice_index_or ss (first_set ls) []) (first_packets ls) (λ set pk. bad_in new ends set pk) t f
+      → IsBreak new rows (slice_index_or ss (first_set ls) []) (first_packets ls) (λ set pk. bad_in new ends set pk) t f
+  break_at t f h =
+      subst (λ r. IsBreak new r (slice_index_or ss (first_set ls) []) (first_packets ls) (λ set pk. bad_in new ends set pk) t f) same h
+
+  pub least_at : (f : Found) → IsLeast (λ g. Breaks new slice (slice_index_or ss (first_set ls) []) (first_packets ls) (λ set pk. bad_in new ends set pk) g) f
+      → IsLeast (λ g. Breaks new rows (slice_index_or ss (first_set ls) []) (first_packets ls) (λ set pk. bad_in new ends set pk) g) f
+  least_at f h =
+      subst (λ r. IsLeast (λ g. Breaks new r (slice_index_or ss (first_set ls) []) (first_packets ls) (λ set pk. bad_in new ends set pk) g) f) same h
+
+-- a policy that is numbered from a number on is the same numbered so once more
+pub right_numbered : (q r : Policy) (n m : ℕ) → r ≡ marked_from q n → n ≡ m → marked_from r m ≡ r
+right_numbered q r n m e same =
+    ap (λ k. marked_from r k) (sym same) ∙ ap (λ z. marked_from z n) e ∙ marked_again q n n ∙ sym e
+
+-- a policy that is numbered anew gives the same histories
+module _ (fields : FieldTable) (p q : Policy) (n : ℕ) where
+  renumbered : (pk : Packet) (w : List Packet) (y : Packet) → Gives (marked_from q n) pk w y ↔ Gives q pk w y
+  renumbered pk w y = (
+    λ r. subst (λ (R : Way Packet). R pk w y) (marked_ways (λ x. x) q n) r,
+    λ r. subst (λ (R : Way Packet). R pk w y) (sym (marked_ways (λ x. x) q n)) r,
+  )
+
+  alone_of : (side : SideOfBoth) (f : Found) → IsOfOneAlone fields p (marked_from q n) side f ↔ IsOfOneAlone fields p q side f
+  alone_of on_left f = (
+    λ h. (h.0, h.1, λ g. h.2 ((renumbered f.start f.records f.last).1 g)),
+    λ h. (h.0, h.1, λ g. h.2 ((renumbered f.start f.records f.last).0 g)),
+  )
+  alone_of on_right f = (
+    λ h. (h.0, (renumbered f.start f.records f.last).0 h.1, h.2),
+    λ h. (h.0, (renumbered f.start f.records f.last).1 h.1, h.2),
+  )
+
+  -- the certificate of the one is that of the other
+  related_as_declared : (c : CertificateValue) → IsRelated fields p (marked_from q n) c → IsRelated fields p q c
+  related_as_declared c h = record {
+    same = λ pk ok w y.
+        let e = h.same pk ok w y in
+        let k = renumbered pk w y in
+        (λ g. k.0 (e.0 g), λ g. e.1 (k.1 g));
+    printed = subst (λ r. IsPrinted fields p r c) (marked_again q n (1 + dups_of p)) h.printed;
+    shows = subst (λ r. IsCertificate fields p r c) (marked_again q n (1 + dups_of p)) h.shows;
+  }
+
+  -- so the comparison is that of the policies as they are declared
+  pub as_declared : (r : Compared) → IsComparison fields p (marked_from q n) r → IsComparison fields p q r
+  as_declared (Related c) h = related_as_declared (certificate_value c) h
+  as_declared (Broken f) h = (
+    (alone_of (whose f.side) (found_of f)).0 h.0,
+    (
+      (h.1.0.0, (alone_of h.1.0.0 (found_of f)).0 h.1.0.1),
+      λ g one. h.1.1 g (one.0, (alone_of one.0 g).1 one.1),
+    ),
+  )

@@ -1,0 +1,66 @@
+//! Two policies compared.
+ghost use Rattle.std.specs.Prelude.{◌≡◌, ◌+◌, ◌<◌, ◌^◌, ℕ, IfOk};
+ghost use Rattle.nk_field.specs.Packet.{FieldTable};
+ghost use Rattle.nk_policy.specs.Policy.{Policy, marked_from, dups_of};
+ghost use Rattle.nk_policy.specs.Tree.{tree_of};
+ghost use Rattle.nk_policy.specs.Ranges.{IsInRange, IsOver};
+ghost use Rattle.nk_names.specs.Complements.{NegatesPredicates};
+ghost use Rattle.nk_cert.specs.Levelled.{IsAutomatonOfBoth};
+ghost use Rattle.nk_cert.specs.Comparison.{IsComparison};
+
+use crate::compared::Compared;
+use crate::leveling::levels_of_both;
+use crate::pairing::{Both, automaton_of_both, number_behind};
+use crate::printed::certificate_of;
+use nk_determ::Sets;
+use nk_field::Fields;
+use nk_policy::{Pol, marked};
+use nk_reach::least_history;
+use nk_store::Store;
+use std::alloc::{AllocError, Global};
+
+/// Whether two policies give the same histories on every packet in range, located or not, the tag a field like any other; where
+/// they do, with the printed certificate, and where they don't, with the least history that one of them alone has (two automata
+/// followed together: Foster et al., POPL 2015). The left policy's dups are numbered from 1 on in text order; the right one's may
+/// have any numbers, and are numbered on from the left one's. Each complement is of a predicate, tests and assignments are of
+/// the fields and their values; how deep a policy is doesn't matter. The only error is that memory ran out.
+pub fn compare_policies(
+    alloc: Global,
+    fields: &Fields,
+    p: &Pol,
+    q: &Pol,
+) -> Result<Compared, AllocError>
+    requires numbered { marked_from (tree_of p.now) 1 ≡ tree_of p.now }
+    requires few { 1 + dups_of (tree_of p.now) + dups_of (tree_of q.now) < 2 ^ 32 }
+    requires left_complements { NegatesPredicates (tree_of p.now) }
+    requires right_complements { NegatesPredicates (tree_of q.now) }
+    requires left_over { IsOver fields.now (tree_of p.now) }
+    requires right_over { IsOver fields.now (tree_of q.now) }
+    ensures { IfOk result (IsComparison fields.now (tree_of p.now) (tree_of q.now)) }
+{
+    let bound = number_behind(p);
+    let q = marked(alloc, q, bound)?;
+    let mut st = Store::new(alloc, fields)?;
+    let both = automaton_of_both(&mut st, p, &q)?;
+    compare_by_levels(&mut st, &both, bound as usize)
+}
+
+/// Two policies compared by their automaton; labels below `bound` are the left one's.
+fn compare_by_levels(st: &mut Store, both: &Both, bound: usize) -> Result<Compared, AllocError>
+    requires automaton { (fields : FieldTable) × (p : Policy) × (q : Policy)
+        × IsAutomatonOfBoth fields st.old both.now.rows both.now.left both.now.right p q × (bound ≡ 1 + dups_of p) }
+    ensures { IfOk result (λ r. (fields : FieldTable) (p q : Policy)
+        → IsAutomatonOfBoth fields st.old both.now.rows both.now.left both.now.right p q → bound ≡ 1 + dups_of p
+        → IsInRange p fields → IsInRange q fields → IsComparison fields p q r) }
+{
+    let mut ss = Sets::new(st.alloc());
+    let mut lv = levels_of_both(st, &mut ss, both, bound)?;
+    ss.differ();
+    if !lv.levels.broken() {
+        let certificate = certificate_of(st, &ss, &lv.levels)?;
+        return Ok(Compared::Related(certificate));
+    }
+    st.laws();
+    let found = least_history(st, &mut ss, both.rows.as_slice(), &lv.levels, &mut lv.goal)?;
+    Ok(Compared::Broken(found))
+}

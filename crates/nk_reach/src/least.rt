@@ -1,0 +1,179 @@
+//! The least history.
+ghost use Rattle.std.specs.Prelude.{◌≡◌, ℕ, ◌+◌, ◌-◌, ◌<◌, ◌≤◌, [], true, IfOk, OnOk, length, slice_index_or, List as Items};
+ghost use Rattle.nk_field.specs.Order.{IsLeast};
+ghost use Rattle.nk_store.specs.Held.{Held, IsPacket, Grows};
+ghost use Rattle.nk_determ.specs.Sets.{SetsGrow, Differ};
+ghost use Rattle.nk_reach.specs.Pairs.{AreRows};
+ghost use Rattle.nk_reach.specs.Levels.{AreLevels};
+ghost use Rattle.nk_reach.specs.Rounds.{AreSpare};
+ghost use Rattle.nk_reach.specs.Histories.{IsBreak, Breaks};
+ghost use Rattle.nk_reach.specs.Backs.{AreBacks};
+ghost use Rattle.nk_reach.specs.Finds.{first_set, first_packets, target_of, found_of};
+
+use crate::back::bad_level;
+use crate::standing::Entries;
+use crate::forward::{last_packet, least_under, next_packet};
+use crate::found::{Found, Side};
+use crate::pull::pull_level;
+use nk_determ::{Levels, SetId, Sets};
+use nk_field::{History, List};
+use crate::goal::Goal;
+use nk_store::{Id, Store};
+use std::alloc::{AllocError, Global};
+
+/// The least history that breaks a goal: it starts at one of the packets that the levels start from, its records follow
+/// the rows' set states, and a bad final of the side that is told makes its last packet. Fewer records come first, then the
+/// lesser start, then the records in turn, then the last packet; where a bad final of either side makes that history, the
+/// left side is told. The levels are those of these rows and this goal, and ended at a bad final. The only error is that
+/// memory ran out.
+pub fn least_history<G: Goal>(
+    st: &mut Store,
+    ss: &mut Sets,
+    rows: &[Id],
+    l: &Levels,
+    g: &mut G,
+) -> Result<Found, AllocError>
+    requires fits { G.fits g.old st.old }
+    requires labels { length rows.now ≤ G.labels g.old }
+    requires rows { AreRows st.old rows.now }
+    requires levels { AreLevels st.old st.old ss.old rows.now (first_set l.now.levels) (first_packets l.now.levels) (G.bad_of g.old st.old) l.now.levels l.now.broken }
+    requires broken { l.now.broken ≡ true }
+    ensures grows { Grows st.old st.new }
+    ensures sets { SetsGrow ss.old ss.new }
+    ensures breaks { IfOk result (λ f.
+        IsBreak st.old rows.now (slice_index_or ss.old (first_set l.now.levels) []) (first_packets l.now.levels) (G.bad_of g.old st.old) (target_of f.side) (found_of f)) }
+    ensures least { IfOk result (λ f.
+        IsLeast (Breaks st.old rows.now (slice_index_or ss.old (first_set l.now.levels) []) (first_packets l.now.levels) (G.bad_of g.old st.old)) (found_of f)) }
+    ensures left { IfOk result (λ f.
+        IsBreak st.old rows.now (slice_index_or ss.old (first_set l.now.levels) []) (first_packets l.now.levels) (G.bad_of g.old st.old) 0 (found_of f) → f.side ≡ Side.Left) }
+    ensures range { IfOk result (λ f. IsPacket st.old f.history.last) }
+    ensures fits { OnOk result (G.fits g.new st.new) }
+    ensures labels { OnOk result (G.labels g.new ≡ G.labels g.old) }
+    ensures same { OnOk result ((st : Held) (set pk : Items ℕ) → G.bad_of g.new st set pk ≡ G.bad_of g.old st set pk) }
+{
+    let mut cut = spare(st.alloc(), rows)?;
+    let mut backs = List::new(st.alloc());
+    let found = go_forward(st, ss, rows, &mut cut, &mut backs, l, g)?;
+    Ok(found)
+}
+
+/// Goes forward by least packets. The lists of each level's packets from where something bad is met are put into `backs`.
+fn go_forward<G: Goal>(
+    st: &mut Store,
+    ss: &mut Sets,
+    rows: &[Id],
+    cut: &mut List<Id>,
+    backs: &mut List<Entries>,
+    l: &Levels,
+    g: &mut G,
+) -> Result<Found, AllocError>
+    requires cut { AreSpare st.old rows.now cut.old }
+    requires fits { G.fits g.old st.old }
+    requires labels { length rows.now ≤ G.labels g.old }
+    requires rows { AreRows st.old rows.now }
+    requires levels { AreLevels st.old st.old ss.old rows.now (first_set l.now.levels) (first_packets l.now.levels) (G.bad_of g.old st.old) l.now.levels l.now.broken }
+    requires broken { l.now.broken ≡ true }
+    ensures grows { Grows st.old st.new }
+    ensures sets { SetsGrow ss.old ss.new }
+    ensures breaks { IfOk result (λ f.
+        IsBreak st.old rows.now (slice_index_or ss.old (first_set l.now.levels) []) (first_packets l.now.levels) (G.bad_of g.old st.old) (target_of f.side) (found_of f)) }
+    ensures least { IfOk result (λ f.
+        IsLeast (Breaks st.old rows.now (slice_index_or ss.old (first_set l.now.levels) []) (first_packets l.now.levels) (G.bad_of g.old st.old)) (found_of f)) }
+    ensures left { IfOk result (λ f.
+        IsBreak st.old rows.now (slice_index_or ss.old (first_set l.now.levels) []) (first_packets l.now.levels) (G.bad_of g.old st.old) 0 (found_of f) → f.side ≡ Side.Left) }
+    ensures range { IfOk result (λ f. IsPacket st.old f.history.last) }
+    ensures fits { OnOk result (G.fits g.new st.new) }
+    ensures labels { OnOk result (G.labels g.new ≡ G.labels g.old) }
+    ensures same { OnOk result ((st : Held) (set pk : Items ℕ) → G.bad_of g.new st set pk ≡ G.bad_of g.old st set pk) }
+{
+    let made = backs_of(st, ss, rows, cut, l, g)?;
+    *backs = made;
+    let last = l.levels.len() - 1;
+    let set = start_set(l);
+    let whole = backs.at(last);
+    let start = least_under(st, whole, set)?;
+    let mut records = List::new(st.alloc());
+    let mut s = set;
+    let mut x = start;
+    for i in 0..last {
+        let here = backs.at(last - i);
+        let next = backs.at(last - i - 1);
+        let step = next_packet(st, ss, rows, cut, s, &x, here, next)?;
+        records.push(step.1)?;
+        s = step.0;
+        x = step.1;
+    }
+    let end = last_packet(st, ss, s, &x, g)?;
+    Ok(Found {
+        start,
+        history: History {
+            records,
+            last: end.packet,
+        },
+        side: side_of(end.target),
+    })
+}
+
+/// As many diagrams as rows, to be written over.
+fn spare(alloc: Global, rows: &[Id]) -> Result<List<Id>, AllocError>
+    ensures { IfOk result (λ cut. cut ≡ rows.now) }
+{
+    let cut = Vec::from_slice(alloc, rows)?;
+    Ok(List::from_vec(cut))
+}
+
+/// The set that levels start from.
+fn start_set(l: &Levels) -> SetId
+    requires levels { 0 < length l.now.levels }
+    requires entries { 0 < length (slice_index_or l.now.levels 0 []) }
+    ensures { result ≡ first_set l.now.levels }
+{
+    l.levels.at(0).at(0).0
+}
+
+/// The side of a bad final.
+fn side_of(target: u64) -> Side
+    ensures left { target ≡ 0 → result ≡ Side.Left }
+    ensures right { target ≡ 1 → result ≡ Side.Right }
+{
+    if target == 0 { Side::Left } else { Side::Right }
+}
+
+/// For each level, from the last one back, its packets from where something bad is met in the levels that are left.
+fn backs_of<G: Goal>(
+    st: &mut Store,
+    ss: &mut Sets,
+    rows: &[Id],
+    cut: &mut List<Id>,
+    l: &Levels,
+    g: &mut G,
+) -> Result<List<Entries>, AllocError>
+    requires fits { G.fits g.old st.old }
+    requires labels { length rows.now ≤ G.labels g.old }
+    requires rows { AreRows st.old rows.now }
+    requires cut { AreSpare st.old rows.now cut.old }
+    requires levels { AreLevels st.old st.old ss.old rows.now (first_set l.now.levels) (first_packets l.now.levels) (G.bad_of g.old st.old) l.now.levels l.now.broken }
+    ensures grows { Grows st.old st.new }
+    ensures sets { SetsGrow ss.old ss.new }
+    ensures differ { OnOk result (Differ ss.new) }
+    ensures cut { OnOk result (AreSpare st.new rows.now cut.new) }
+    ensures count { IfOk result (λ backs. length backs ≡ length l.now.levels) }
+    ensures ok { IfOk result (λ backs. AreBacks st.old st.new ss.old ss.new rows.now (G.bad_of g.old st.old) l.now.levels (length l.now.levels - 1) (length l.now.levels) backs) }
+    ensures fits { OnOk result (G.fits g.new st.new) }
+    ensures labels { OnOk result (G.labels g.new ≡ G.labels g.old) }
+    ensures same { OnOk result ((st : Held) (set pk : Items ℕ) → G.bad_of g.new st set pk ≡ G.bad_of g.old st set pk) }
+{
+    let last = l.levels.len() - 1;
+    let level = l.levels.at(last);
+    let first = bad_level(st, ss, level, g)?;
+    let mut backs = List::new(st.alloc());
+    backs.push(first)?;
+    for k in 0..last {
+        let before = l.levels.at(last - 1 - k);
+        let next = backs.at(k);
+        let back = pull_level(st, ss, rows, cut, before, next)?;
+        backs.push(back)?;
+    }
+    ss.differ();
+    Ok(backs)
+}
