@@ -1,5 +1,5 @@
 -- Diagrams without the assignments to a field that don't change the packet.
-use Rattle.std.proofs.Common.{ℕ, min, List, [], sym, arith, get_or}
+use Rattle.std.proofs.Common.{ℕ, min, [], sym, arith, get_or}
 use Rattle.nk_store.specs.Held.{Held, IsId, look, HasLeaves, AreTidy}
 use Rattle.nk_determ.specs.Unchanged.{leaf_changing, HasValues}
 use Rattle.nk_determ.proofs.Withouts.{leaf_stays}
