@@ -1,5 +1,5 @@
 -- What is made of one diagram stays so while the store grows, and so do the tables of it.
-use Rattle.std.proofs.Common.{◌≡◌, ℕ, ◌≤◌, cond, eqb, List, Option, Some, None, sym, ap, subst, ◌∙◌, arith, inl, inr}
+use Rattle.std.proofs.Common.{◌≡◌, ℕ, ◌≤◌, cond, eqb, List, Option, Some, None, sym, ap, subst, ◌∙◌, inl, inr}
 use Rattle.std.specs.Map.{lookup}
 use Rattle.std.proofs.lemmas.Bool.Decides.{eqb_tells}
 use Rattle.std.specs.Prelude.{OnOk}
@@ -11,42 +11,49 @@ use Rattle.nk_store.specs.Held.{Held, IsId, look, top, Grows, HasLeaves}
 use Rattle.nk_algebra.specs.MadeOf.{IsMadeOf, AreMadeOf}
 use Rattle.nk_algebra.proofs.Gathers.{same_order}
 
-module _ (P : List ℕ → List ℕ) (L : List Out → List Out) where
+module _ (P : List ℕ → List ℕ) (M : List ℕ → List ℕ → List Out → List Out) (F : ℕ → ℕ) where
   -- what is made of a diagram is made of it in a store that grew
-  pub made_grows : (old new : Held) (d r : ℕ) → Grows old new → IsMadeOf P L old d r → IsMadeOf P L new d r
+  pub made_grows : (old new : Held) (d r : ℕ) → Grows old new → IsMadeOf P M F old d r → IsMadeOf P M F new d r
   made_grows old new d r g k = record {
     id = g.ids d k.id;
     leaves = record {
       id = g.ids r k.leaves.id;
-      leaf = λ pk w. g.leaves r pk k.leaves.id ∙ k.leaves.leaf pk w ∙ ap L (sym (g.leaves d (P pk) k.id));
+      leaf = λ pk w. g.leaves r pk k.leaves.id ∙ k.leaves.leaf pk w
+          ∙ ap (λ os. M old.maxes pk os) (sym (g.leaves d (P pk) k.id))
+          ∙ ap (λ ms. M ms pk (look new d (P pk))) (sym g.maxes);
     };
-    later = let a = g.tops d k.id in let b = g.tops r k.leaves.id in let l = k.later in omega (arith, a, b, l);
+    later = subst (λ t. F t ≤ top new r) (sym (g.tops d k.id)) (subst (λ t. F (top old d) ≤ t) (sym (g.tops r k.leaves.id)) k.later);
   }
 
   -- and so is a table of them
-  pub rows_grow : (old new : Held) (rows : List (ℕ × ℕ)) → Grows old new → AreMadeOf P L old rows → AreMadeOf P L new rows
+  pub rows_grow : (old new : Held) (rows : List (ℕ × ℕ)) → Grows old new → AreMadeOf P M F old rows → AreMadeOf P M F new rows
   rows_grow old new rows g are d r e = made_grows old new d r g (are d r e)
 
   -- what was made of a diagram of an earlier store is made of it now
   pub made_now :
-      (old new : Held) (d r : ℕ) → Grows old new → IsId old d → HasLeaves new r (λ pk. L (look old d (P pk)))
-      → top old d ≤ top new r → IsMadeOf P L new d r
+      (old new : Held) (d r : ℕ) → Grows old new → IsId old d → HasLeaves new r (λ pk. M old.maxes pk (look old d (P pk)))
+      → F (top old d) ≤ top new r → IsMadeOf P M F new d r
   made_now old new d r g i h l = record {
     id = g.ids d i;
-    leaves = record { id = h.id; leaf = λ pk w. h.leaf pk w ∙ ap L (sym (g.leaves d (P pk) i)) };
-    later = let a = g.tops d i in omega (arith, a, l);
+    leaves = record {
+      id = h.id;
+      leaf = λ pk w. h.leaf pk w
+          ∙ ap (λ os. M old.maxes pk os) (sym (g.leaves d (P pk) i))
+          ∙ ap (λ ms. M ms pk (look new d (P pk))) (sym g.maxes);
+    };
+    later = subst (λ t. F t ≤ top new r) (sym (g.tops d i)) l;
   }
 
   -- a table with one more row
   pub rows_put :
-      (st : Held) (d r : ℕ) (old new : List (ℕ × ℕ)) → AreMadeOf P L st old → IsMadeOf P L st d r
-      → ((q : ℕ) → lookup (eqb q) new ≡ cond (eqb d q) (Some r) (lookup (eqb q) old)) → AreMadeOf P L st new
+      (st : Held) (d r : ℕ) (old new : List (ℕ × ℕ)) → AreMadeOf P M F st old → IsMadeOf P M F st d r
+      → ((q : ℕ) → lookup (eqb q) new ≡ cond (eqb d q) (Some r) (lookup (eqb q) old)) → AreMadeOf P M F st new
   rows_put st d r old new are one put q z e =
       elim (eqb_tells d q) [
         | inl same ↦
             let is : Some r ≡ Some z = sym (put q ∙ ap (λ b. cond b (Some r) (lookup (eqb q) old)) same.0) ∙ e in
             let z_is : r ≡ z = ap (value_or r) is in
-            subst (λ k. IsMadeOf P L st k z) same.1 (subst (IsMadeOf P L st d) z_is one)
+            subst (λ k. IsMadeOf P M F st k z) same.1 (subst (IsMadeOf P M F st d) z_is one)
         | inr other ↦ are q z (sym (put q ∙ ap (λ b. cond b (Some r) (lookup (eqb q) old)) other.0) ∙ e)
       ]
     where

@@ -4,12 +4,14 @@ use Rattle.std.specs.Map.{lookup}
 use Rattle.nk_store.specs.declared.node.Out.{Out}
 use Rattle.nk_store.specs.Held.{Held, IsId, look, top, HasLeaves}
 
--- at each packet r has what L makes of the leaf that d has at the packet that P makes; it tests no field before those of d
-pub record IsMadeOf (P : List ℕ → List ℕ) (L : List Out → List Out) (st : Held) (d r : ℕ) : Type 0 where
+-- at each packet r has what M makes of the leaf that d has at the packet that P makes; it tests no field before those that F leaves
+-- of the first one of d
+pub record IsMadeOf
+    (P : List ℕ → List ℕ) (M : List ℕ → List ℕ → List Out → List Out) (F : ℕ → ℕ) (st : Held) (d r : ℕ) : Type 0 where
   pub id : IsId st d
-  pub leaves : HasLeaves st r (λ pk. L (look st d (P pk)))
-  pub later : top st d ≤ top st r
+  pub leaves : HasLeaves st r (λ pk. M st.maxes pk (look st d (P pk)))
+  pub later : F (top st d) ≤ top st r
 
 -- each row leads from a diagram to what is made of it
-abbrev pub AreMadeOf : (List ℕ → List ℕ) → (List Out → List Out) → Held → List (ℕ × ℕ) → Type 0
-AreMadeOf P L st rows = (d r : ℕ) → lookup (eqb d) rows ≡ Some r → IsMadeOf P L st d r
+abbrev pub AreMadeOf : (List ℕ → List ℕ) → (List ℕ → List ℕ → List Out → List Out) → (ℕ → ℕ) → Held → List (ℕ × ℕ) → Type 0
+AreMadeOf P M F st rows = (d r : ℕ) → lookup (eqb d) rows ≡ Some r → IsMadeOf P M F st d r

@@ -1,7 +1,7 @@
 //! A choice by a field between diagrams that test any fields.
 ghost use Rattle.std.specs.Prelude.{◌≡◌, ℕ, ◌<◌, ◌≤◌, min, true, IfOk, OnOk, List as Items, slice_index};
 ghost use Rattle.std.specs.Map.{lookup};
-ghost use Rattle.nk_store.specs.Nodes.{child_at, joined, Each};
+ghost use Rattle.nk_store.specs.Nodes.{child_at, Each};
 ghost use Rattle.nk_store.specs.Held.{IsId, IsChild, IsWhole, look, top, Grows, HasLeaves, AreParts};
 ghost use Rattle.nk_algebra.specs.Subs.{sub};
 ghost use Rattle.nk_algebra.specs.Choices.{AreChoices, first_of, IsCut, parts_eq, AreChosen};
@@ -9,8 +9,8 @@ ghost use Rattle.nk_algebra.specs.Choices.{AreChoices, first_of, IsCut, parts_eq
 use crate::halves::choose_all;
 use crate::part::{found_near, part_at, part_near, tested};
 use nk_field::{Fid, List};
-use nk_store::{Id, Node, Store};
-use std::alloc::{AllocError, Global};
+use nk_store::{Id, Node, Store, join_neighbours};
+use std::alloc::AllocError;
 use std::collections::HashMap;
 
 /// Up to how many parts, or intervals of an earlier field, a choice is made by the values of earlier fields. Else it is made by
@@ -31,7 +31,7 @@ pub fn choose(st: &mut Store, f: Fid, parts: List<(u64, Id)>) -> Result<Id, Allo
     if parts.len() > FEW && !is_narrow(st, f, &parts) {
         return choose_all(st, f, &parts);
     }
-    let kept = join(st.alloc(), &parts)?;
+    let kept = join_neighbours(st.alloc(), &parts)?;
     let mut seen = HashMap::new(st.alloc());
     choose_by(st, &mut seen, f, kept)
 }
@@ -71,21 +71,6 @@ fn unchanged_to(st: &Store, g: Fid, v: u64, parts: &List<(u64, Id)>) -> u64
         least = least.min(until);
     }
     least
-}
-
-/// The parts with neighbours of one diagram joined.
-fn join(alloc: Global, parts: &List<(u64, Id)>) -> Result<List<(u64, Id)>, AllocError>
-    ensures { IfOk result (λ kept. kept ≡ joined parts.now) }
-{
-    let mut kept = List::new(alloc);
-    let n = parts.len();
-    for i in 0..n {
-        let part = *parts.at(i);
-        if i + 1 == n || parts.at(i + 1).1 != part.1 {
-            kept.push(part)?;
-        }
-    }
-    Ok(kept)
 }
 
 /// Whether all parts test later fields alone.
@@ -285,7 +270,7 @@ fn choose_parts(
     let mut from = 0;
     loop {
         let (end, cut) = cut_at(st, g, from, parts)?;
-        let kept = join(st.alloc(), &cut)?;
+        let kept = join_neighbours(st.alloc(), &cut)?;
         let child = choose_by(st, seen, f, kept)?;
         pieces.push((end, child))?;
         if end == max {

@@ -1,5 +1,5 @@
 //! Operations leaf by leaf.
-ghost use Rattle.std.specs.Prelude.{◌≡◌, ℕ, ◌≤◌, min, [], ◌++◌, true, IfOk, IfSome, OnOk, OnErr, List as Items, drop, length};
+ghost use Rattle.std.specs.Prelude.{◌≡◌, ℕ, ◌≤◌, min, [], ◌++◌, IfOk, IfSome, OnOk, drop, length};
 ghost use Rattle.nk_store.specs.Held.{IsId, look, top, Grows, HasLeaves};
 ghost use Rattle.nk_algebra.specs.Leaves.{merged, guarded, absent};
 ghost use Rattle.nk_algebra.specs.Predicates.{IsPredicate, Ends};
@@ -44,22 +44,11 @@ fn united(st: &Store, a: Id, b: Id) -> Option<Id>
     requires right { IsId st.now b }
     ensures { IfSome result (λ d. HasLeaves st.now d (λ pk. merged (look st.now a pk) (look st.now b pk))) }
 {
-    if a == b || is_nothing(st, b) {
+    if a == b || st.drops(b) {
         st.laws();
         return Some(a);
     }
-    if is_nothing(st, a) { Some(b) } else { None }
-}
-
-/// Whether a diagram drops each packet.
-fn is_nothing(st: &Store, d: Id) -> bool
-    requires { IsId st.now d }
-    ensures { result ≡ true → (pk : Items ℕ) → look st.now d pk ≡ [] }
-{
-    match st.view(d) {
-        Node::Leaf(outs) => outs.is_empty(),
-        Node::Case(_, _) => false,
-    }
+    if st.drops(a) { Some(b) } else { None }
 }
 
 /// Two ascending lists as one.

@@ -15,15 +15,17 @@ mod seqs;
 mod spans;
 mod sums;
 mod unions;
+mod walks;
 
 pub use aims::{aim, assign};
 pub use choices::choose;
 pub use constants::{empty, identity};
 pub use leaves::{both, negate, union};
 pub use maps::{LeafMap, map_leaves};
-pub use pairs::{Join, merge};
+pub use pairs::{Join, first_field, merge};
 pub use part::{part_at, part_near, tested};
 pub use restricts::restrict;
 pub use seqs::{after, out_count, put_after, seq, shift};
 pub use spans::{range, span, test};
 pub use unions::union_all;
+pub use walks::{NodeMap, known, map_nodes};

@@ -44,7 +44,7 @@ pub trait Join {
 }
 
 /// The first field that one of two diagrams tests, if any.
-fn first_field(st: &Store, a: Id, b: Id) -> Option<Fid>
+pub fn first_field(st: &Store, a: Id, b: Id) -> Option<Fid>
     requires left { IsId st.now a }
     requires right { IsId st.now b }
     ensures { MatchOption result ((top st.now a ≡ 18) × (top st.now b ≡ 18)) (λ f. IsFirst st.now a b f) }

@@ -1,11 +1,10 @@
 -- Acts without the assignments to one field that don't change the packet.
-use Rattle.std.specs.Prelude.{◌≡◌, ℕ, ◌≤◌, map, min, Bool, true, cond, eqb, ltb, ◌&&◌, List, [], ◌∷◌, Some, slice_index}
+use Rattle.std.specs.Prelude.{◌≡◌, ℕ, map, min, Bool, true, cond, eqb, ltb, ◌&&◌, List, [], ◌∷◌, slice_index}
 use Rattle.std.specs.List.{Contains, flat_map, list_any}
-use Rattle.std.specs.Map.{lookup}
 use Rattle.nk_field.specs.Act.{left_without}
 use Rattle.nk_store.specs.declared.node.Out.{Out}
 use Rattle.nk_store.specs.Operations.{gathered}
-use Rattle.nk_store.specs.Held.{Held, IsId, look, top, HasLeaves}
+use Rattle.nk_store.specs.Held.{Held, look}
 
 -- whether the act assigns the value n to the field f
 abbrev pub assigns : ℕ → ℕ → List (ℕ × ℕ) → Bool
@@ -78,14 +77,3 @@ HasValues f vs st d = HasItems (leaf_values f) vs st d
 -- the fields that acts of the diagram assign are among these
 abbrev pub AssignsAmong : List ℕ → Held → ℕ → Type 0
 AssignsAmong fs st d = HasItems leaf_fields fs st d
-
--- r has the leaves of d with their acts without the assignments to f that don't change the packet; it tests no field
--- before f and those of d
-pub record IsChanging (f : ℕ) (st : Held) (d r : ℕ) : Type 0 where
-  pub id : IsId st d
-  pub leaves : HasLeaves st r (λ pk. leaf_changing st.maxes f pk (look st d pk))
-  pub later : min f (top st d) ≤ top st r
-
--- each row leads from a diagram to that one
-abbrev pub AreChanging : ℕ → Held → List (ℕ × ℕ) → Type 0
-AreChanging f st rows = (d r : ℕ) → lookup (eqb d) rows ≡ Some r → IsChanging f st d r

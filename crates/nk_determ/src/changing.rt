@@ -1,18 +1,16 @@
 //! Diagrams without the assignments to one field that don't change the packet.
-ghost use Rattle.std.specs.Prelude.{◌≡◌, ℕ, ◌<◌, ◌≤◌, map, min, cond, eqb, IfOk, OnOk, MatchOption, List as Items, slice_index};
+ghost use Rattle.std.specs.Prelude.{◌≡◌, ℕ, ◌<◌, ◌≤◌, map, min, cond, IfOk, List as Items, slice_index};
 ghost use Rattle.std.specs.List.Sorted.{IsNonDecreasing};
-ghost use Rattle.std.specs.Map.{lookup};
 ghost use Rattle.nk_store.specs.Nodes.{child_at};
 ghost use Rattle.nk_store.specs.Held.{IsId, IsWhole, look, top, Grows, HasLeaves, AreParts};
-ghost use Rattle.nk_algebra.specs.Subs.{sub, IsSplit};
-ghost use Rattle.nk_determ.specs.Unchanged.{assigns, act_without, out_without, leaf_without, leaf_changing, HasValues, AreChanging};
+ghost use Rattle.nk_algebra.specs.Subs.{sub};
+ghost use Rattle.nk_determ.specs.Unchanged.{assigns, act_without, out_without, leaf_without, leaf_changing, HasValues};
 
 use crate::assigned::{assigned, next_cut};
-use nk_algebra::{LeafMap, map_leaves, part_near};
+use nk_algebra::{LeafMap, NodeMap, map_leaves, map_nodes, part_near};
 use nk_field::{Act, Fid, List};
-use nk_store::{Id, Node, Out, Store};
+use nk_store::{Id, Out, Store};
 use std::alloc::{AllocError, Global};
-use std::collections::HashMap;
 
 /// Each act without the assignment to a field, where that is of a value.
 #[derive(Drop)]
@@ -62,6 +60,35 @@ fn assigns(f: Fid, n: u64, sets: &[(Fid, u64)]) -> bool
     sets.iter().any(|s| s.0 == f && s.1 == n)
 }
 
+/// Diagrams without the assignments to a field that don't change the packet keep the fields before it.
+#[derive(Drop)]
+struct Unchanged {
+    field: Fid,
+}
+
+impl NodeMap for Unchanged {
+    ghost taken = { λ _ pk. pk };
+
+    ghost made = { λ s maxes pk os. leaf_changing maxes s.field pk os };
+
+    ghost kept = { λ s. s.field };
+
+    ghost first = { λ s t. min s.field t };
+
+    ghost allowed = { λ _ _. Unit {0} };
+
+    fn place(&self) -> usize {
+        self.field.place()
+    }
+
+    fn laws(&self) {}
+
+    fn change(&self, st: &mut Store, d: Id) -> Result<Id, AllocError> {
+        let _place = self.field.place();
+        drop_here(st, self.field, d)
+    }
+}
+
 /// The diagram without the assignments to a field that don't change the packet.
 pub(crate) fn drop_unchanged(st: &mut Store, f: Fid, d: Id) -> Result<Id, AllocError>
     requires id { IsId st.old d }
@@ -69,101 +96,7 @@ pub(crate) fn drop_unchanged(st: &mut Store, f: Fid, d: Id) -> Result<Id, AllocE
     ensures grows { Grows st.old st.new }
     ensures ok { IfOk result (λ r. HasLeaves st.new r (λ pk. leaf_changing st.old.maxes f pk (look st.old d pk))) }
 {
-    let mut seen = HashMap::new(st.alloc());
-    drop_once(st, &mut seen, f, d)
-}
-
-/// The diagram without those assignments, which is looked up where it was made before.
-#[cycle(drop)]
-fn drop_once(st: &mut Store, seen: &mut HashMap<Id, Id>, f: Fid, d: Id) -> Result<Id, AllocError>
-    requires id { IsId st.old d }
-    requires field { f < 18 }
-    requires seen { AreChanging f st.old seen.old.entries }
-    ensures grows { Grows st.old st.new }
-    ensures ok { IfOk result (λ r. HasLeaves st.new r (λ pk. leaf_changing st.old.maxes f pk (look st.old d pk))) }
-    ensures later { IfOk result (λ r. min f (top st.old d) ≤ top st.new r) }
-    ensures seen { OnOk result (AreChanging f st.new seen.new.entries) }
-{
-    if let Some(r) = known(seen, d) {
-        return Ok(r);
-    }
-    let r = drop_new(st, seen, f, d)?;
-    seen.insert(d, r)?;
-    Ok(r)
-}
-
-/// What the table has for a diagram.
-fn known(seen: &HashMap<Id, Id>, d: Id) -> Option<Id>
-    ensures { result ≡ lookup (eqb d) seen.now.entries }
-{
-    seen.get(&d).copied()
-}
-
-/// The diagram without those assignments, made anew.
-#[cycle(drop)]
-fn drop_new(st: &mut Store, seen: &mut HashMap<Id, Id>, f: Fid, d: Id) -> Result<Id, AllocError>
-    requires id { IsId st.old d }
-    requires field { f < 18 }
-    requires seen { AreChanging f st.old seen.old.entries }
-    ensures grows { Grows st.old st.new }
-    ensures ok { IfOk result (λ r. HasLeaves st.new r (λ pk. leaf_changing st.old.maxes f pk (look st.old d pk))) }
-    ensures later { IfOk result (λ r. min f (top st.old d) ≤ top st.new r) }
-    ensures seen { OnOk result (AreChanging f st.new seen.new.entries) }
-{
-    match first_before(st, d, f) {
-        None => drop_here(st, f, d),
-        Some(g) => {
-            let parts = drop_parts(st, seen, f, g, d)?;
-            st.case(g, parts)
-        }
-    }
-}
-
-/// The field that the diagram tests first, where it stands before another one.
-fn first_before(st: &Store, d: Id, f: Fid) -> Option<Fid>
-    requires id { IsId st.now d }
-    requires field { f < 18 }
-    ensures { MatchOption result (f ≤ top st.now d) (λ g. (g < f) × (top st.now d ≡ g) × IsSplit st.now g d) }
-{
-    match st.view(d) {
-        Node::Case(g, _) => { if *g < f { Some(*g) } else { None } }
-        Node::Leaf(_) => None,
-    }
-}
-
-/// The parts of the diagram without those assignments, by an earlier field.
-#[cycle(drop)]
-fn drop_parts(
-    st: &mut Store,
-    seen: &mut HashMap<Id, Id>,
-    f: Fid,
-    g: Fid,
-    d: Id,
-) -> Result<List<(u64, Id)>, AllocError>
-    requires id { IsId st.old d }
-    requires field { f < 18 }
-    requires before { g < f }
-    requires first { top st.old d ≡ g }
-    requires split { IsSplit st.old g d }
-    requires seen { AreChanging f st.old seen.old.entries }
-    ensures grows { Grows st.old st.new }
-    ensures parts { IfOk result (λ ps. AreParts st.new g ps) }
-    ensures ok { IfOk result (λ ps. (v : ℕ) (pk : Items ℕ) → IsWhole pk → look st.new (child_at 0 ps v) pk ≡ leaf_changing st.old.maxes f pk (look st.old (sub st.old g v d) pk)) }
-    ensures seen { OnOk result (AreChanging f st.new seen.new.entries) }
-{
-    let max = st.max(g);
-    let mut parts = List::new(st.alloc());
-    let mut near = 0;
-    let mut from = 0;
-    loop {
-        let (end, child) = part_near(st, d, g, from, &mut near);
-        let to = drop_once(st, seen, f, child)?;
-        parts.push((end, to))?;
-        if end == max {
-            return Ok(parts);
-        }
-        from = end + 1;
-    }
+    map_nodes(st, &Unchanged { field: f }, d)
 }
 
 /// The diagram without those assignments, where it tests no field before that one.

@@ -1,5 +1,5 @@
 -- The ways through a diagram of the store, node by node, and what a way's row is. The else-child is found by number.
-use Rattle.std.specs.Prelude.{◌≡◌, ℕ, ◌+◌, ◌-◌, ◌≤◌, ◌==◌, ◌||◌, Bool, true, false, not, nat_lt, min, cond, eqb, if◌then◌else◌, List, [], ◌∷◌, ◌++◌, length, map, filter, Option, Some, None}
+use Rattle.std.specs.Prelude.{◌≡◌, ℕ, ◌+◌, ◌-◌, ◌≤◌, ◌==◌, ◌||◌, Bool, false, not, nat_lt, min, cond, eqb, if◌then◌else◌, List, [], ◌∷◌, ◌++◌, length, map, filter, Option, Some, None}
 use Rattle.std.specs.List.{flat_map}
 use Rattle.std.specs.Map.{lookup}
 use Rattle.nk_store.specs.ElseChild.{Span, spans, else_of}
@@ -8,6 +8,7 @@ use Rattle.nk_store.specs.declared.node.Node.{Node}
 use Rattle.nk_store.specs.declared.node.Node.TheVariants.{Leaf, Case}
 use Rattle.nk_store.specs.declared.node.Out.{Out}
 use Rattle.nk_store.specs.Nodes.{node_at, child_at}
+pub use Rattle.nk_store.specs.Nodes.{is_empty_leaf}
 use Rattle.nk_store.specs.Held.{Held}
 use Rattle.nk_store.specs.Diagram.{Diagram, Branches, leaf, case, no_branch, branch}
 use Rattle.nk_store.specs.Intervals.{counted}
@@ -40,12 +41,6 @@ abbrev pub node_ways : ℕ → Node → (ℕ → Bool) → (ℕ → List Path) �
 node_ways tag (Leaf outs) drops ways = record { matches = []; buckets = bucket_list tag outs; shown = false } ∷ []
 node_ways tag (Case f parts) drops ways =
     flat_map (span_ways f (drops (else_of parts)) (else_of parts) ways) (spans parts 0) ++ ways (else_of parts)
-
--- whether a node is the empty leaf
-abbrev pub is_empty_leaf : Node → Bool
-is_empty_leaf (Leaf []) = true
-is_empty_leaf (Leaf (o ∷ os)) = false
-is_empty_leaf (Case f parts) = false
 
 -- the ways of the node of a number
 abbrev pub ways_in : ℕ → List Node → ℕ → List Path

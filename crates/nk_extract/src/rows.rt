@@ -1,14 +1,13 @@
 //! The rows of a diagram at a switch.
-ghost use Rattle.std.specs.Prelude.{◌≡◌, ◌≤◌, ◌<◌, ℕ, Some, length, IfOk};
+ghost use Rattle.std.specs.Prelude.{◌≡◌, ℕ, Some, IfOk};
 ghost use Rattle.nk_store.specs.Held.{IsId, node_of};
-ghost use Rattle.nk_store.specs.Nodes.{child_at};
 ghost use Rattle.nk_extract.specs.Ways.{at_switch};
 ghost use Rattle.nk_extract.specs.RowsOf.{IsFrame, IsPrintable, AreRowsOf};
 
 use crate::row::{Frame, Way};
 use crate::walk::walk;
 use nk_field::List;
-use nk_store::{Id, Node, Store};
+use nk_store::{Id, Node, Store, part_child};
 use nk_table::Plain;
 use std::alloc::{AllocError, Global};
 
@@ -77,25 +76,10 @@ fn root(st: &Store, d: Id, switch: u64) -> Id
         Node::Leaf(_) => d,
         Node::Case(f, parts) => {
             if f.place() == 0 {
-                part(parts.as_slice(), switch)
+                part_child(parts.as_slice(), switch)
             } else {
                 d
             }
         }
     }
-}
-
-/// The child of the part that holds the value.
-fn part(parts: &[(u64, Id)], value: u64) -> Id
-    requires { 0 < length parts.now }
-    ensures { result ≡ child_at 0 parts.now value }
-{
-    let mut child = parts[0].1;
-    for (end, c) in parts {
-        if value <= *end {
-            return *c;
-        }
-        child = *c;
-    }
-    child
 }

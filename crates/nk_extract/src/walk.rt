@@ -51,7 +51,7 @@ fn walk_case(
 {
     let high = st.max(f);
     let other = else_child(st.alloc(), high, parts)?;
-    let shown = printed(is_drop(st, other), way.shown);
+    let shown = printed(st.drops(other), way.shown);
     let mut from: u128 = 0;
     for (end, c) in parts {
         walk_values(st, frame, f, shown, other, *c, from as u64, *end, way, rows)?;
@@ -92,17 +92,6 @@ fn walk_values(
             return Ok(());
         }
         v += 1;
-    }
-}
-
-/// Whether a diagram is the empty leaf.
-fn is_drop(st: &Store, d: Id) -> bool
-    requires { IsId st.now d }
-    ensures { result ≡ is_empty_leaf (node_of st.now d) }
-{
-    match st.view(d) {
-        Node::Leaf(outs) => outs.len() == 0,
-        Node::Case(_, _) => false,
     }
 }
 

@@ -1,6 +1,6 @@
 -- The policy that is made for a set is the predicate of its tree, term by term.
 use Rattle.std.proofs.Common.{◌≡◌, ◌≢◌, ℕ, suc, ◌+◌, ◌-◌, ◌<◌, ◌≤◌, Bool, true, false, cond, List, [], ◌∷◌, ◌++◌, length, refl, sym, ap, subst, ◌∙◌, arith, eqb, append_assoc, append-nil, length-append}
-use Rattle.std.specs.Prelude.{◌==◌, not, map, nat_lt, nat_eq}
+use Rattle.std.specs.Prelude.{◌==◌, map, nat_lt}
 use Rattle.std.specs.List.{flat_map}
 use Rattle.std.proofs.lemmas.Bool.Decides.{nat_tests}
 use Rattle.nk_policy.specs.declared.policy.Pol.{Pol}
@@ -8,9 +8,9 @@ use Rattle.nk_policy.specs.Policy.{Policy, test, sum_of, not_of, part}
 use Rattle.nk_policy.specs.Tree.{tree_of, trees_of}
 use Rattle.nk_policy.specs.After.{id_policy, drop_policy}
 use Rattle.nk_store.specs.declared.node.Node.{Node}
-use Rattle.nk_store.specs.declared.node.Node.TheVariants.{Case}
+use Rattle.nk_store.specs.declared.node.Node.TheVariants.{Leaf, Case}
 use Rattle.nk_store.specs.declared.node.Out.{Out}
-use Rattle.nk_store.specs.Nodes.{Each, Sound}
+use Rattle.nk_store.specs.Nodes.{is_empty_leaf, Each, Sound}
 use Rattle.nk_store.specs.Held.{Held, IsId, node_of, IsNodeOf}
 use Rattle.nk_store.specs.Diagram.{leaf, case}
 use Rattle.nk_store.specs.Intervals.{same_tree, with_most, values_with, values_in, counted}
@@ -19,14 +19,9 @@ use Rattle.nk_sets.specs.PacketSets.{has_out, IsSet}
 use Rattle.nk_sets.specs.Predicate.{SetTree, SetInterval, same_outs, is_empty_set, parts_of, sum_of_terms, guarded, terms_of, else_condition, else_terms, predicate_of}
 use Rattle.nk_sets.specs.Trees.{branches_of, set_tree}
 use Rattle.nk_sets.specs.PolicyOf.{interval_at, intervals_at}
-use Rattle.nk_sets.proofs.SetTrees.{set_case, same_is}
+use Rattle.nk_sets.proofs.SetTrees.{set_leaf, set_case, same_is}
 
--- a leaf is empty where it has no out
-pub none_counted : (outs : List Out) (n : ℕ) → n ≡ length outs → nat_eq n 0 ≡ not (has_out outs)
-none_counted [] n e = ap (λ k. nat_eq k 0) e
-none_counted (o ∷ os) n e = let h : n ≢ 0 = λ z. omega (arith, e, z) in grind (arith, nat_tests, h)
-
--- and not where it has some
+-- a leaf is not empty where it has some out
 pub some_counted : (outs : List Out) (n : ℕ) → n ≡ length outs → nat_lt 0 n ≡ has_out outs
 some_counted [] n e = ap (λ k. nat_lt 0 k) e
 some_counted (o ∷ os) n e = let h : 0 < n = omega (arith, e) in grind (arith, nat_tests, h)
@@ -36,6 +31,14 @@ pub case_kind :
     (st : Held) (c f : ℕ) (ps : List (ℕ × ℕ)) (n : Node) → IsId st c → n ≡ node_of st c → n ≡ Case f ps
     → IsNodeOf st c n → set_tree st c ≡ case f (branches_of ps (set_tree st))
 case_kind st c f ps n id at is means = set_case st c f ps id (sym at ∙ is) (subst (IsNodeOf st c) is means).below
+
+-- the tree of a node is that of the empty set exactly where the node is the leaf with no out
+pub none_is :
+    (st : Held) (c : ℕ) (n : Node) → IsId st c → n ≡ node_of st c → IsNodeOf st c n
+    → is_empty_leaf n ≡ is_empty_set (set_tree st c)
+none_is st c (Leaf []) id at means = sym (ap is_empty_set (set_leaf st c [] id (sym at)))
+none_is st c (Leaf (o ∷ os)) id at means = sym (ap is_empty_set (set_leaf st c (o ∷ os) id (sym at)))
+none_is st c (Case f ps) id at means = sym (ap is_empty_set (case_kind st c f ps (Case f ps) id at refl means))
 
 -- one more element
 pub mapped_push : {A B : Type 0} (g : A → B) (xs : List A) (y : A) → map g (xs ++ y ∷ []) ≡ map g xs ++ g y ∷ []

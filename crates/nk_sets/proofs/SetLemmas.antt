@@ -6,7 +6,7 @@ use Rattle.std.specs.declared.cmp.Ordering.TheVariants.{Less, Equal, Greater}
 use Rattle.nk_store.specs.declared.node.Node.{Node}
 use Rattle.nk_store.specs.declared.node.Node.TheVariants.{Leaf, Case}
 use Rattle.nk_store.specs.declared.node.Out.{Out}
-use Rattle.nk_store.specs.Nodes.{child_at, node_at, look_in, Sound, InRange}
+use Rattle.nk_store.specs.Nodes.{child_at, is_empty_leaf, node_at, look_in, Sound, InRange}
 use Rattle.nk_store.specs.Held.{Held, IsId, node_of, look, IsPacket, Grows}
 use Rattle.nk_store.proofs.Looks.{look_leaf, fits_at}
 use Rattle.nk_store.proofs.Same.{child-first, child-rest, set_in_range, zero_in_range, look_child, node_once}
@@ -106,11 +106,11 @@ module _ (maxes : List ℕ) (ns : List Node) (sound : Sound maxes ns) where
   some_in i h n = some_below (suc i) i (omega arith) h n
 
 -- a set that stands at no empty leaf has a packet
-pub case_in :
-    (st : Held) (s f : ℕ) (ps : List (ℕ × ℕ)) → Sound st.maxes st.nodes → IsId st s → node_of st s ≡ Case f ps
+pub filled_in :
+    (st : Held) (s : ℕ) → Sound st.maxes st.nodes → IsId st s → is_empty_leaf (node_of st s) ≡ false
     → (pk : List ℕ) × IsPacket st pk × (is_in st s pk ≡ true)
 unfolding IsId node_of look
-case_in st s f ps sound id e = some_in st.maxes st.nodes sound s id (λ n. let z : Case f ps ≡ Leaf [] = sym e ∙ n in absurd cc)
+filled_in st s sound id e = some_in st.maxes st.nodes sound s id (λ n. let z : true ≡ false = sym (ap is_empty_leaf n) ∙ e in absurd cc)
 
 -- two tests that follow from each other are one
 pub both_true : (a b : Bool) → (a ≡ true → b ≡ true) → (b ≡ true → a ≡ true) → a ≡ b

@@ -1,12 +1,12 @@
 //! What a diagram does at the packets of a set.
-ghost use Rattle.std.specs.Prelude.{◌≡◌, ℕ, ◌≤◌, ◌⊎◌, min, [], true, IfOk, IfSome, MatchOption, List as Items, slice_index};
+ghost use Rattle.std.specs.Prelude.{◌≡◌, ℕ, ◌≤◌, ◌⊎◌, min, IfOk, IfSome, List as Items};
 ghost use Rattle.nk_store.specs.Nodes.{child_at};
 ghost use Rattle.nk_store.specs.Held.{IsId, IsWhole, look, top, Grows, HasLeaves, AreParts};
 ghost use Rattle.nk_algebra.specs.Leaves.{guarded};
 ghost use Rattle.nk_algebra.specs.Subs.{sub, IsFirst};
 ghost use Rattle.nk_sets.specs.Cuts.{IsEnd};
 
-use nk_algebra::part_near;
+use nk_algebra::{first_field, part_near};
 use nk_field::{Fid, List};
 use nk_store::{Id, Node, Operation, Store};
 use std::alloc::AllocError;
@@ -79,37 +79,12 @@ fn known(st: &Store, s: Id, d: Id) -> Option<Id>
     requires diagram { IsId st.now d }
     ensures { IfSome result (λ r. HasLeaves st.now r (λ pk. guarded (look st.now s pk) (look st.now d pk))) }
 {
-    if s == d || drops(st, d) {
+    if s == d || st.drops(d) {
         return Some(d);
     }
     match st.view(s) {
         Node::Leaf(outs) => Some(if outs.is_empty() { s } else { d }),
         Node::Case(_, _) => st.recall(Operation::Both, s, d),
-    }
-}
-
-/// Whether the diagram drops each packet.
-fn drops(st: &Store, d: Id) -> bool
-    requires { IsId st.now d }
-    ensures { result ≡ true → (pk : Items ℕ) → look st.now d pk ≡ [] }
-{
-    match st.view(d) {
-        Node::Leaf(outs) => outs.is_empty(),
-        Node::Case(_, _) => false,
-    }
-}
-
-/// The first field that one of both tests, if any.
-fn first_field(st: &Store, a: Id, b: Id) -> Option<Fid>
-    requires left { IsId st.now a }
-    requires right { IsId st.now b }
-    ensures { MatchOption result ((top st.now a ≡ 18) × (top st.now b ≡ 18)) (λ f. IsFirst st.now a b f) }
-{
-    match (st.view(a), st.view(b)) {
-        (Node::Leaf(_), Node::Leaf(_)) => None,
-        (Node::Case(f, _), Node::Leaf(_)) => Some(*f),
-        (Node::Leaf(_), Node::Case(g, _)) => Some(*g),
-        (Node::Case(f, _), Node::Case(g, _)) => Some(if *f < *g { *f } else { *g }),
     }
 }
 
@@ -147,7 +122,7 @@ fn end_of(st: &Store, here: Id, end_here: u64, end_there: u64) -> u64
     requires { IsId st.now here }
     ensures { IsEnd (look st.now here) end_here end_there result }
 {
-    if drops(st, here) {
+    if st.drops(here) {
         end_here
     } else {
         end_here.min(end_there)

@@ -3,7 +3,7 @@ ghost use Rattle.std.specs.Prelude.{◌≡◌, ℕ, List as Items, true, false};
 ghost use Rattle.nk_store.specs.Held.{IsId, IsWhole, IsPacket};
 ghost use Rattle.nk_sets.specs.PacketSets.{is_in};
 
-use nk_store::{Id, Node, Store};
+use nk_store::{Id, Store};
 
 /// Whether no packet is in the set. Any diagram will do: its set is that of the packets with an out.
 pub fn is_empty(st: &Store, s: Id) -> bool
@@ -12,8 +12,5 @@ pub fn is_empty(st: &Store, s: Id) -> bool
     ensures no { result ≡ false → (pk : Items ℕ) × IsPacket st.now pk × (is_in st.now s pk ≡ true) }
 {
     let _laws = st.laws();
-    match st.view(s) {
-        Node::Leaf(outs) => outs.len() == 0,
-        Node::Case(_, _) => false,
-    }
+    st.drops(s)
 }

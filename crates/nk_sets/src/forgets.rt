@@ -1,11 +1,10 @@
 //! Sets with a field forgotten.
-ghost use Rattle.std.specs.Prelude.{◌≡◌, ◌<◌, eqb, map, IfOk, OnOk, MatchOption};
-ghost use Rattle.std.specs.Map.{lookup};
+ghost use Rattle.std.specs.Prelude.{◌≡◌, ◌<◌, map, IfOk, OnOk, MatchOption};
 ghost use Rattle.nk_store.specs.Held.{IsId, IsStill, IsCase, Grows, top};
 ghost use Rattle.nk_sets.specs.PacketSets.{IsSet};
 ghost use Rattle.nk_sets.specs.Forgets.{IsForgotten, AreForgotten};
 
-use nk_algebra::union_all;
+use nk_algebra::{known, union_all};
 use nk_field::{Fid, List};
 use nk_store::{Id, Node, Store};
 use std::alloc::{AllocError, Global};
@@ -38,13 +37,6 @@ fn forget_once(st: &mut Store, seen: &mut HashMap<Id, Id>, s: Id, f: Fid) -> Res
     let r = forget_new(st, seen, s, f)?;
     seen.insert(s, r)?;
     Ok(r)
-}
-
-/// What the table has for a set.
-fn known(seen: &HashMap<Id, Id>, s: Id) -> Option<Id>
-    ensures { result ≡ lookup (eqb s) seen.now.entries }
-{
-    seen.get(&s).copied()
 }
 
 /// The set with the field forgotten, made anew.

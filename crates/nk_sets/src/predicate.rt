@@ -229,10 +229,7 @@ fn is_none(st: &Store, c: Id) -> bool
     ensures { result ≡ is_empty_set (set_tree st.now c) }
 {
     let _laws = st.laws();
-    match st.view(c) {
-        Node::Leaf(outs) => outs.len() == 0,
-        Node::Case(_, _) => false,
-    }
+    st.drops(c)
 }
 
 /// Whether a set is that of all packets.

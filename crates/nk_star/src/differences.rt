@@ -1,12 +1,12 @@
 //! The outs of a diagram that another one lacks.
-ghost use Rattle.std.specs.Prelude.{◌≡◌, ℕ, [], true, IfOk, IfSome, List as Items};
+ghost use Rattle.std.specs.Prelude.{◌≡◌, IfOk, IfSome};
 ghost use Rattle.nk_store.specs.Leaves.{Strict};
 ghost use Rattle.nk_store.specs.Held.{IsId, look, Grows, HasLeaves};
 ghost use Rattle.nk_store.specs.Operations.{has_out, lacking};
 
 use nk_algebra::{Join, merge};
 use nk_field::List;
-use nk_store::{Id, Node, Operation, Out, Store};
+use nk_store::{Id, Operation, Out, Store};
 use std::alloc::{AllocError, Global};
 
 /// The outs of the first leaf that the second one lacks.
@@ -37,21 +37,10 @@ fn known_missing(st: &Store, a: Id, b: Id) -> Option<Id>
     requires right { IsId st.now b }
     ensures { IfSome result (λ d. HasLeaves st.now d (λ pk. lacking (look st.now a pk) (look st.now b pk))) }
 {
-    if is_nothing(st, a) {
+    if st.drops(a) {
         return Some(a);
     }
-    if is_nothing(st, b) { Some(a) } else { None }
-}
-
-/// Whether a diagram drops each packet.
-fn is_nothing(st: &Store, d: Id) -> bool
-    requires { IsId st.now d }
-    ensures { result ≡ true → (pk : Items ℕ) → look st.now d pk ≡ [] }
-{
-    match st.view(d) {
-        Node::Leaf(outs) => outs.is_empty(),
-        Node::Case(_, _) => false,
-    }
+    if st.drops(b) { Some(a) } else { None }
 }
 
 /// The outs of a leaf that another one, which ascends, lacks.

@@ -1,5 +1,5 @@
 -- What nodes, kept newest first, mean. A node's number is how many nodes were made before it.
-use Rattle.std.specs.Prelude.{◌≡◌, ℕ, ◌+◌, ◌<◌, ◌≤◌, cond, leb, eqb, List, [], ◌∷◌, length, slice_index}
+use Rattle.std.specs.Prelude.{◌≡◌, ℕ, ◌+◌, ◌<◌, ◌≤◌, Bool, true, false, cond, leb, eqb, List, [], ◌∷◌, length, slice_index}
 use Rattle.nk_store.specs.declared.node.Node.{Node}
 use Rattle.nk_store.specs.declared.node.Node.TheVariants.{Leaf, Case}
 use Rattle.nk_store.specs.declared.node.Out.{Out}
@@ -14,6 +14,12 @@ child_at d (p ∷ ps) v = cond (leb v p.0) p.1 (child_at p.1 ps v)
 abbrev pub node_at : List Node → ℕ → Node
 node_at [] i = Leaf []
 node_at (n ∷ older) i = cond (eqb i (length older)) n (node_at older i)
+
+-- whether a node is the leaf with no out
+abbrev pub is_empty_leaf : Node → Bool
+is_empty_leaf (Leaf []) = true
+is_empty_leaf (Leaf (o ∷ os)) = false
+is_empty_leaf (Case f ps) = false
 
 -- the leaf that a node gives a packet, by those that its children give
 abbrev pub node_look : Node → (ℕ → List Out) → List ℕ → List Out

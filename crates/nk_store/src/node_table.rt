@@ -1,10 +1,11 @@
 //! The nodes of a store, each once.
-ghost use Rattle.std.specs.Prelude.{◌≡◌, ℕ, ◌+◌, ◌-◌, ◌<◌, ◌≤◌, [], ◌++◌, length, replicate, reverse, true, slice_index, IfOk};
-ghost use Rattle.nk_store.specs.Nodes.{child_at, joined, Fits, Sound};
+ghost use Rattle.std.specs.Prelude.{◌≡◌, ℕ, ◌+◌, ◌-◌, ◌<◌, ◌≤◌, [], ◌++◌, length, replicate, reverse, true, slice_index, IfOk, List as Items};
+ghost use Rattle.nk_store.specs.Nodes.{child_at, is_empty_leaf, Fits, Sound};
 ghost use Rattle.nk_store.specs.Leaves.{Strict, Every, Suits};
 ghost use Rattle.nk_store.specs.Held.{IsId, node_of, look, top, Grows, HasLeaves, AreParts, IsNodeOf, IsStill, IsReduced, AreTidy, Agree, IsCanonical, IsOver, HasFields};
 
 use crate::node::{Id, Node, Out};
+use crate::parts::{in_whole, part_child};
 use indexmap::IndexSet;
 use nk_field::{Fid, Fields, List, PLACES, Packet};
 use std::alloc::{AllocError, Global};
@@ -108,6 +109,18 @@ impl NodeTable {
         d == e
     }
 
+    /// Whether a diagram drops each packet: whether it is the leaf with no out.
+    pub(crate) fn drops(&self, d: Id) -> bool
+        requires { IsId self.now d }
+        ensures is { result ≡ is_empty_leaf (node_of self.now d) }
+        ensures yes { result ≡ true → (pk : Items ℕ) → look self.now d pk ≡ [] }
+    {
+        match self.view(d) {
+            Node::Leaf(outs) => outs.is_empty(),
+            Node::Case(_, _) => false,
+        }
+    }
+
     /// The leaf that a diagram gives a packet.
     pub(crate) fn look(&self, d: Id, p: &Packet) -> &[Out]
         requires { IsId self.now d }
@@ -186,58 +199,6 @@ impl NodeTable {
         let (place, _) = self.nodes.insert_full(node)?;
         Ok(Id::new(place))
     }
-}
-
-/// The child of the part that holds the value.
-fn part_child(parts: &[(u64, Id)], value: u64) -> Id
-    requires { 0 < length parts.now }
-    ensures { result ≡ child_at 0 parts.now value }
-{
-    let mut child = parts[0].1;
-    for (end, c) in parts {
-        if value <= *end {
-            return *c;
-        }
-        child = *c;
-    }
-    child
-}
-
-/// The parts with neighbours of one child joined; where there are none, these parts themselves.
-fn in_whole(alloc: Global, parts: List<(u64, Id)>) -> Result<List<(u64, Id)>, AllocError>
-    ensures { IfOk result (λ kept. kept ≡ joined parts) }
-{
-    if are_apart(parts.as_slice()) {
-        return Ok(parts);
-    }
-    join(alloc, &parts)
-}
-
-/// Whether neighbours have different children.
-fn are_apart(parts: &[(u64, Id)]) -> bool
-    ensures { result ≡ true → joined parts.now ≡ parts.now }
-{
-    for i in 1..parts.len() {
-        if parts[i - 1].1 == parts[i].1 {
-            return false;
-        }
-    }
-    true
-}
-
-/// The parts with neighbours of one child joined.
-fn join(alloc: Global, parts: &List<(u64, Id)>) -> Result<List<(u64, Id)>, AllocError>
-    ensures { IfOk result (λ kept. kept ≡ joined parts.now) }
-{
-    let mut kept = List::new(alloc);
-    let n = parts.len();
-    for i in 0..n {
-        let part = *parts.at(i);
-        if i + 1 == n || parts.at(i + 1).1 != part.1 {
-            kept.push(part)?;
-        }
-    }
-    Ok(kept)
 }
 
 /// The largest value at each place, 0 where no field is.

@@ -1,7 +1,7 @@
 //! The store.
 ghost use Rattle.std.specs.Prelude.{◌≡◌, ℕ, ◌≤◌, [], ◌∷◌, length, true, slice_index, IfOk, IfSome, List as Items};
 ghost use Rattle.nk_store.specs.declared.node.Out.{Out};
-ghost use Rattle.nk_store.specs.Nodes.{child_at, Sound};
+ghost use Rattle.nk_store.specs.Nodes.{child_at, is_empty_leaf, Sound};
 ghost use Rattle.nk_store.specs.Leaves.{Strict, Every, Suits, AreOrdered};
 ghost use Rattle.nk_store.specs.Held.{IsId, node_of, look, top, Grows, HasLeaves, AreParts, IsNodeOf, IsStill, IsReduced, AreTidy, Agree, IsCanonical, IsOver, HasFields};
 ghost use Rattle.nk_store.specs.Rows.{IsAnswer, passing};
@@ -108,6 +108,15 @@ impl Store {
         ensures canonical { Agree self.now d e → result ≡ true }
     {
         self.table.same(d, e)
+    }
+
+    /// Whether a diagram drops each packet: whether it is the leaf with no out.
+    pub fn drops(&self, d: Id) -> bool
+        requires { IsId self.now d }
+        ensures is { result ≡ is_empty_leaf (node_of self.now d) }
+        ensures yes { result ≡ true → (pk : Items ℕ) → look self.now d pk ≡ [] }
+    {
+        self.table.drops(d)
     }
 
     /// The leaf that a diagram gives a packet.

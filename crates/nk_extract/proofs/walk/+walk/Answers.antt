@@ -30,8 +30,8 @@ walk-returns-in-Case t c =
     ∙ sym (ways_case c.args.frame.now.tag c.args.st.now c.args.d c.in-Case.f c.in-Case.parts c.requires.id (sym c.view.ensures.node ∙ c.in-Case.is) (joined_some c.in-Case.parts (case_is t c).joined) (case_is t c).below)))
     c.walk_case.ensures
 
-pub walk_case-is_drop-requires : goal.walk_case-is_drop-requires
-walk_case-is_drop-requires t c = subst (IsId c.args.st.now) (sym c.in_ok-other.ensures)
+pub walk_case-drops-requires : goal.walk_case-drops-requires
+walk_case-drops-requires t c = subst (IsId c.args.st.now) (sym c.in_ok-other.ensures)
     (else_has (IsId c.args.st.now) c.args.parts.now (joined_some c.args.parts.now c.requires.case.joined) (each_of (IsChild c.args.st.now c.args.f) (IsId c.args.st.now) c.args.parts.now (λ k l. l.id) c.requires.case.parts_ok.children))
 
 item_has : (P : ℕ → Type 0) (ps : List (ℕ × ℕ)) (i : ℕ) (p : ℕ × ℕ) → i < length ps → p ≡ get_or ps i p → Each P ps → P p.1
@@ -59,7 +59,7 @@ walk_case-returns t c =
     on_ok c.walk.result _ _
     (case_returns c.args.frame.now.width c.args.frame.now.tag c.args.frame.now.to c.args.way.now.matches c.args.way.now.shown c.args.f c.args.parts.now (λ k. is_empty_leaf (node_of c.args.st.now k)) (ways c.args.frame.now.tag c.args.st.now) c.args.rows.now.items c.loop-end.rows.items c.walk.new.rows.items c.in_ok-other.other c.printed-shown.result (drop c.loop-end.end-index c.args.parts.now) c.loop-end.from
     c.in_ok-other.ensures
-    (c.printed-shown.ensures ∙ ap (λ b. not b || c.args.way.now.shown) c.is_drop.ensures)
+    (c.printed-shown.ensures ∙ ap (λ b. not b || c.args.way.now.shown) c.drops.ensures.is)
     (drop_all c.loop-end.end-index c.args.parts.now c.loop-end-test.false)
     c.loop-end.invariant.made)
     c.walk.ensures

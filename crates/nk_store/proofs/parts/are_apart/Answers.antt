@@ -1,6 +1,6 @@
 use Rattle.std.proofs.Common.{sym, ◌∙◌, arith}
 use Rattle.nk_store.proofs.Joins.{apart_next, apart_joined}
-use Rattle.nk_store.proofs.node_table.are_apart.Goals as goal
+use Rattle.nk_store.proofs.parts.are_apart.Goals as goal
 
 pub loop-i-init : goal.loop-i-init
 loop-i-init c = (omega arith, λ d k a b. absurd (omega (arith, a)))
