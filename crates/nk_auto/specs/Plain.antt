@@ -1,10 +1,9 @@
 -- Policies whose diagram is a leaf at each packet by recursion on the tree: no star, no dup, no link literal, and each
--- complement over a predicate; and what their diagrams mean.
-use Rattle.std.specs.Prelude.{◌≡◌, ℕ, ◌≤◌, true, List, slice_index, Contains}
-use Rattle.nk_field.specs.Act.{applied}
+-- complement over a predicate.
+use Rattle.std.specs.Prelude.{◌≡◌, ℕ, ◌≤◌, true, List, slice_index}
 use Rattle.nk_policy.specs.Policy.{Policy, Policies, test, assign, sum_of, seq_of, not_of, star_of, dup, link, no_part, part, is_predicate}
 use Rattle.nk_policy.specs.Ranges.{AssignsOnly}
-use Rattle.nk_store.specs.Held.{Held, look}
+pub use Rattle.nk_store.specs.Sends.{Sends}
 
 abbrev mutual
   -- the policy is so
@@ -26,7 +25,3 @@ abbrev mutual
 -- each assignment outside complements sets a field to at most its highest value
 abbrev pub IsWithin : List ℕ → Policy → Type 0
 IsWithin maxes p = AssignsOnly (λ f n. n ≤ slice_index maxes f) p
-
--- the diagram sends the packet on as y to the target
-abbrev pub Sends : Held → ℕ → List ℕ → List ℕ → ℕ → Type 0
-Sends st d pk y target = (g : List (ℕ × ℕ)) × Contains (look st d pk) (record { act = g; target = target }) × (y ≡ applied g pk)

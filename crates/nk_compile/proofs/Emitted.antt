@@ -12,7 +12,7 @@ use Rattle.nk_table.specs.declared.Tables.{Tables}
 use Rattle.nk_table.specs.declared.Bucket.{Bucket}
 use Rattle.nk_table.specs.Rules.{sent_by, sent_for}
 use Rattle.nk_compile.specs.PrintedTable.{IsResult, IsBucketList}
-use Rattle.nk_extract.specs.Buckets.{bucket_of, key_of, tag_of, IsBucketBefore}
+use Rattle.nk_extract.specs.Buckets.{bucket_of, bucket_key, tag_of, IsBucketBefore}
 use Rattle.nk_compile.proofs.TagPlaces.{never_before}
 use Rattle.nk_compile.proofs.Sent.{sends}
 use Rattle.nk_compile.proofs.Reached.{Setting, AtState, Emits, past, result_ok}
@@ -32,7 +32,7 @@ none_is_none a e = cc
 
 -- a bucket doesn't stand before itself
 never_itself : (tag : ℕ) (b : Bucket) → IsBucketBefore tag b b → ⊥
-never_itself tag b h = ⊎_elim (λ e. never_before (key_of tag b) e) (λ r. never_before (tag_of tag b) r.1) h
+never_itself tag b h = ⊎_elim (λ e. never_before (bucket_key tag b) e) (λ r. never_before (tag_of tag b) r.1) h
 
 -- an element with an image has it among the images
 in_images :

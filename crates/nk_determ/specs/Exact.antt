@@ -1,8 +1,7 @@
 -- Acts that assign exactly the fields that they change.
 pub use Rattle.nk_store.specs.Operations.{exact, exact_out, split_leaf}
+pub use Rattle.nk_store.specs.Sends.{Sends}
 use Rattle.std.specs.Prelude.{◌≡◌, ℕ, List, [], ◌∷◌, slice_index}
-use Rattle.std.specs.List.{Contains}
-use Rattle.nk_field.specs.Act.{applied}
 use Rattle.nk_store.specs.Leaves.{Every}
 use Rattle.nk_store.specs.Held.{Held, IsPacket, look}
 
@@ -10,10 +9,6 @@ use Rattle.nk_store.specs.Held.{Held, IsPacket, look}
 abbrev pub IsExact : List ℕ → List (ℕ × ℕ) → Type 0
 IsExact pk [] = Unit {0}
 IsExact pk (s ∷ ss) = (slice_index pk s.0 ≡ s.1 → ⊥) × IsExact pk ss
-
--- the diagram sends the packet, made y, to the target
-abbrev pub Sends : Held → ℕ → List ℕ → List ℕ → ℕ → Type 0
-Sends st d pk y target = (g : List (ℕ × ℕ)) × Contains (look st d pk) (record { act = g; target = target }) × (y ≡ applied g pk)
 
 -- each act of the diagram changes each field that it assigns, at each packet
 abbrev pub AreExact : Held → ℕ → Type 0

@@ -1,72 +1,21 @@
 -- The ways of a diagram in the store are those of its tree, where equal trees have one number.
-use Rattle.std.proofs.Common.{◌≡◌, ◌≢◌, ℕ, zero, suc, ◌+◌, ◌-◌, ◌<◌, Bool, true, false, cond, inl, inr, List, [], ◌∷◌, ◌++◌, length, refl, sym, ap, subst, ◌∙◌, arith, eqb}
+use Rattle.std.proofs.Common.{◌≡◌, ◌≢◌, ℕ, zero, suc, ◌+◌, ◌-◌, ◌<◌, Bool, true, false, cond, inl, inr, List, [], ◌∷◌, ◌++◌, length, refl, sym, ap, subst, ◌∙◌, arith}
 use Rattle.std.specs.Prelude.{◌==◌, map, nat_lt}
 use Rattle.std.specs.List.{flat_map}
 use Rattle.std.proofs.lemmas.Bool.Decides.{nat_tests, eqb_tells}
 use Rattle.nk_store.specs.declared.node.Node.{Node}
 use Rattle.nk_store.specs.declared.node.Node.TheVariants.{Leaf, Case}
-use Rattle.nk_store.specs.declared.node.Out.{Out}
 use Rattle.nk_store.specs.Nodes.{node_at, Each}
-use Rattle.nk_store.specs.Diagram.{leaf, case, branch}
+use Rattle.nk_store.specs.Diagram.{case}
 use Rattle.nk_store.specs.Intervals.{same_tree, with_most, values_with, counted}
-use Rattle.nk_store.proofs.Looks.{node_at-old, node_at-new}
 use Rattle.nk_table.specs.Buckets.{same_buckets}
 use Rattle.nk_extract.specs.RuleTree.{Path, PathInterval, is_drop, with_match, exact_paths, paths_of, path_intervals}
 use Rattle.nk_store.specs.ElseChild.{Span, spans, size_of, largest, else_of}
-use Rattle.nk_extract.specs.Ways.{span_ways, node_ways, is_empty_leaf, ways_in, branches_of, node_tree, tree_in, bucket_list}
+use Rattle.nk_extract.specs.Ways.{span_ways, node_ways, is_empty_leaf, ways_in, bucket_list}
 use Rattle.nk_extract.proofs.Trees.{Tree, same_tree_tells, same_tree_self}
-use Rattle.nk_store.proofs.Children.{each_of}
+use Rattle.nk_store.specs.Trees.{branches_of, tree_in}
+use Rattle.nk_store.proofs.Trees.{tree_leaf, tree_case}
 use Rattle.nk_extract.proofs.Walks.{ways_at_case, ways_at_leaf}
-
--- branches with the same children
-branches_same :
-    (ps : List (ℕ × ℕ)) (a b : ℕ → Tree) → Each (λ c. a c ≡ b c) ps
-    → branches_of ps a ≡ branches_of ps b
-branches_same [] a b e = refl
-branches_same (p ∷ ps) a b e = ap (λ t. branch p.0 t (branches_of ps a)) e.0 ∙ ap (λ bs. branch p.0 (b p.1) bs) (branches_same ps a b e.1)
-
--- an older node keeps its tree
-tree_old :
-    (tag : ℕ) (n : Node) (older : List Node) (c : ℕ) → c < length older
-    → tree_in tag (n ∷ older) c ≡ tree_in tag older c
-tree_old tag n older c h = ap (λ b. cond b (node_tree tag n (λ k. tree_in tag older k)) (tree_in tag older c)) (let e : eqb c (length older) ≡ false = grind (arith, nat_tests, h) in e)
-
--- the newest node has the tree of its children
-tree_new :
-    (tag : ℕ) (n : Node) (older : List Node) (c : ℕ) → c ≡ length older
-    → tree_in tag (n ∷ older) c ≡ node_tree tag n (λ k. tree_in tag older k)
-tree_new tag n older c h = ap (λ b. cond b (node_tree tag n (λ k. tree_in tag older k)) (tree_in tag older c)) (let e : eqb c (length older) ≡ true = grind (arith, nat_tests, h) in e)
-
--- the tree of a leaf
-pub tree_leaf :
-    (tag : ℕ) (ns : List Node) (i : ℕ) (outs : List Out) → i < length ns → node_at ns i ≡ Leaf outs
-    → tree_in tag ns i ≡ leaf (bucket_list tag outs)
-tree_leaf tag [] i outs h e = absurd (omega arith)
-tree_leaf tag (n ∷ older) i outs h e =
-    elim (eqb_tells i (length older)) [
-      | inl same ↦ tree_new tag n older i same.1 ∙ ap (λ m. node_tree tag m (λ k. tree_in tag older k)) (sym (node_at-new n older) ∙ ap (λ k. node_at (n ∷ older) k) (sym same.1) ∙ e)
-      | inr other ↦
-          let below : i < length older = omega (arith, other.1) in
-          tree_old tag n older i below ∙ tree_leaf tag older i outs below (sym (node_at-old n older i below) ∙ e)
-    ]
-
--- the tree of a choice
-pub tree_case :
-    (tag : ℕ) (ns : List Node) (i f : ℕ) (ps : List (ℕ × ℕ)) → i < length ns → node_at ns i ≡ Case f ps
-    → Each (λ c. c < i) ps → tree_in tag ns i ≡ case f (branches_of ps (λ c. tree_in tag ns c))
-tree_case tag [] i f ps h e below = absurd (omega arith)
-tree_case tag (n ∷ older) i f ps h e below =
-    elim (eqb_tells i (length older)) [
-      | inl same ↦
-          tree_new tag n older i same.1
-          ∙ ap (λ m. node_tree tag m (λ k. tree_in tag older k)) (sym (node_at-new n older) ∙ ap (λ k. node_at (n ∷ older) k) (sym same.1) ∙ e)
-          ∙ ap (case f) (branches_same ps (λ c. tree_in tag older c) (λ c. tree_in tag (n ∷ older) c) (each_of (λ c. c < i) (λ c. tree_in tag older c ≡ tree_in tag (n ∷ older) c) ps (λ c l. sym (tree_old tag n older c (omega (arith, l, same.1)))) below))
-      | inr other ↦
-          let below' : i < length older = omega (arith, other.1) in
-          tree_old tag n older i below'
-          ∙ tree_case tag older i f ps below' (sym (node_at-old n older i below') ∙ e) below
-          ∙ ap (case f) (branches_same ps (λ c. tree_in tag older c) (λ c. tree_in tag (n ∷ older) c) (each_of (λ c. c < i) (λ c. tree_in tag older c ≡ tree_in tag (n ∷ older) c) ps (λ c l. sym (tree_old tag n older c (omega (arith, l, below')))) below))
-    ]
 
 -- a node whose children's trees are told apart by their numbers
 module _ (tree : ℕ → Tree) (ways : ℕ → List Path) (Good : ℕ → Type 0) (one : (c k : ℕ) → Good c → Good k → tree c ≡ tree k → c ≡ k) (made : (c : ℕ) → Good c → ways c ≡ paths_of (tree c)) where
@@ -172,12 +121,12 @@ module _ (tree : ℕ → Tree) (ways : ℕ → List Path) (Good : ℕ → Type 0
 drops_by :
     (tag : ℕ) (ns : List Node) (c : ℕ) (n : Node) → c < length ns → node_at ns c ≡ n
     → ((f : ℕ) (ps : List (ℕ × ℕ)) → n ≡ Case f ps → Each (λ k. k < c) ps)
-    → is_empty_leaf n ≡ is_drop (tree_in tag ns c)
-drops_by tag ns c (Leaf []) h e b = sym (ap is_drop (tree_leaf tag ns c [] h e))
-drops_by tag ns c (Leaf (o ∷ os)) h e b = sym (ap is_drop (tree_leaf tag ns c (o ∷ os) h e))
-drops_by tag ns c (Case f ps) h e b = sym (ap is_drop (tree_case tag ns c f ps h e (b f ps refl)))
+    → is_empty_leaf n ≡ is_drop (tree_in (bucket_list tag) ns c)
+drops_by tag ns c (Leaf []) h e b = sym (ap is_drop (tree_leaf (bucket_list tag) ns c [] h e))
+drops_by tag ns c (Leaf (o ∷ os)) h e b = sym (ap is_drop (tree_leaf (bucket_list tag) ns c (o ∷ os) h e))
+drops_by tag ns c (Case f ps) h e b = sym (ap is_drop (tree_case (bucket_list tag) ns c f ps h e (b f ps refl)))
 
-module _ (tag : ℕ) (ns : List Node) (Good : ℕ → Type 0) (id : (d : ℕ) → Good d → d < length ns) (some : (d f : ℕ) (ps : List (ℕ × ℕ)) → Good d → node_at ns d ≡ Case f ps → 0 < length ps) (below : (d f : ℕ) (ps : List (ℕ × ℕ)) → Good d → node_at ns d ≡ Case f ps → Each (λ c. c < d) ps) (good : (d f : ℕ) (ps : List (ℕ × ℕ)) → Good d → node_at ns d ≡ Case f ps → Each Good ps) (one : (c d : ℕ) → Good c → Good d → tree_in tag ns c ≡ tree_in tag ns d → c ≡ d) where
+module _ (tag : ℕ) (ns : List Node) (Good : ℕ → Type 0) (id : (d : ℕ) → Good d → d < length ns) (some : (d f : ℕ) (ps : List (ℕ × ℕ)) → Good d → node_at ns d ≡ Case f ps → 0 < length ps) (below : (d f : ℕ) (ps : List (ℕ × ℕ)) → Good d → node_at ns d ≡ Case f ps → Each (λ c. c < d) ps) (good : (d f : ℕ) (ps : List (ℕ × ℕ)) → Good d → node_at ns d ≡ Case f ps → Each Good ps) (one : (c d : ℕ) → Good c → Good d → tree_in (bucket_list tag) ns c ≡ tree_in (bucket_list tag) ns d → c ≡ d) where
   -- what holds of each child twice
   both : (P Q : ℕ → Type 0) (ps : List (ℕ × ℕ)) → Each P ps → Each Q ps → Each (λ c. P c × Q c) ps
   both P Q [] a b = tt
@@ -185,20 +134,20 @@ module _ (tag : ℕ) (ns : List Node) (Good : ℕ → Type 0) (id : (d : ℕ) �
 
   -- the ways of one node, by those of its children
   at_node :
-      (m i : ℕ) (n : Node) → ((c : ℕ) → c < i → Good c → ways_in tag ns c ≡ paths_of (tree_in tag ns c))
-      → Good i → node_at ns i ≡ n → ways_in tag ns i ≡ paths_of (tree_in tag ns i)
-  at_node m i (Leaf outs) ih g e = ways_at_leaf tag ns i outs (id i g) e ∙ sym (ap paths_of (tree_leaf tag ns i outs (id i g) e))
+      (m i : ℕ) (n : Node) → ((c : ℕ) → c < i → Good c → ways_in tag ns c ≡ paths_of (tree_in (bucket_list tag) ns c))
+      → Good i → node_at ns i ≡ n → ways_in tag ns i ≡ paths_of (tree_in (bucket_list tag) ns i)
+  at_node m i (Leaf outs) ih g e = ways_at_leaf tag ns i outs (id i g) e ∙ sym (ap paths_of (tree_leaf (bucket_list tag) ns i outs (id i g) e))
   at_node m i (Case f ps) ih g e =
       ways_at_case tag ns i f ps (id i g) e (some i f ps g e) (below i f ps g e)
-      ∙ node_is (λ c. tree_in tag ns c) (λ c. ways_in tag ns c) (λ c. (c < i) × Good c) (λ c k a b t. one c k a.1 b.1 t) (λ c a. ih c a.0 a.1) tag f ps (λ c. is_empty_leaf (node_at ns c))
+      ∙ node_is (λ c. tree_in (bucket_list tag) ns c) (λ c. ways_in tag ns c) (λ c. (c < i) × Good c) (λ c k a b t. one c k a.1 b.1 t) (λ c a. ih c a.0 a.1) tag f ps (λ c. is_empty_leaf (node_at ns c))
       (λ c a. drops_by tag ns c (node_at ns c) (id c a.1) refl (λ h qs q. below c h qs a.1 q)) (some i f ps g e) (both (λ c. c < i) Good ps (below i f ps g e) (good i f ps g e))
-      ∙ sym (ap paths_of (tree_case tag ns i f ps (id i g) e (below i f ps g e)))
+      ∙ sym (ap paths_of (tree_case (bucket_list tag) ns i f ps (id i g) e (below i f ps g e)))
 
   -- the ways of the numbers below m
-  up_to : (m i : ℕ) → i < m → Good i → ways_in tag ns i ≡ paths_of (tree_in tag ns i)
+  up_to : (m i : ℕ) → i < m → Good i → ways_in tag ns i ≡ paths_of (tree_in (bucket_list tag) ns i)
   up_to zero i h g = absurd (omega arith)
   up_to (suc m) i h g = at_node m i (node_at ns i) (λ c l k. up_to m c (omega (arith, l, h)) k) g refl
 
   -- the ways of a good number are those of its tree
-  pub ways_are : (i : ℕ) → Good i → ways_in tag ns i ≡ paths_of (tree_in tag ns i)
+  pub ways_are : (i : ℕ) → Good i → ways_in tag ns i ≡ paths_of (tree_in (bucket_list tag) ns i)
   ways_are i g = up_to (suc i) i (omega arith) g

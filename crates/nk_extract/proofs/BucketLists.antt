@@ -18,7 +18,7 @@ use Rattle.nk_store.specs.declared.node.Out.{Out}
 use Rattle.nk_table.specs.declared.Exit.TheVariants.{Back, Port}
 use Rattle.nk_extract.specs.RuleTree.{put}
 use Rattle.nk_extract.specs.Ways.{exit_of, bucket_for, bucket_list}
-use Rattle.nk_extract.specs.Buckets.{bucket_of, exit_key, key_of, tag_of, IsBucketBefore, AreBuckets}
+use Rattle.nk_extract.specs.Buckets.{bucket_of, exit_key, bucket_key, tag_of, IsBucketBefore, AreBuckets}
 use Rattle.nk_extract.proofs.Acts.{ascends, Avoids, change_avoids, without_avoids, put_is, IsActAt, bucket_is}
 
 -- what each out has, an out has
@@ -126,7 +126,7 @@ pub record IsPlainOut (maxes : List ℕ) (tag : ℕ) (o : Out) : Type 0 where
 
 module _ (maxes : List ℕ) (tag : ℕ) (ports : slice_index maxes 1 ≡ 65535) where
   -- a bucket's key is its act written out
-  key_is : (o : Out) → IsPlainOut maxes tag o → key_of tag (bucket_for tag o) ≡ flat o.act
+  key_is : (o : Out) → IsPlainOut maxes tag o → bucket_key tag (bucket_for tag o) ≡ flat o.act
   key_is o k =
       let left = without_avoids tag 1 o.act k.avoids in
       ap (λ l. exit_key (exit_of o.act) ++ l)
@@ -159,7 +159,7 @@ module _ (maxes : List ℕ) (tag : ℕ) (ports : slice_index maxes 1 ≡ 65535) 
       (o p : Out) → IsPlainOut maxes tag o → IsPlainOut maxes tag p
       → bucket_for tag o ≡ bucket_for tag p → o ≡ p
   bucket_one o p k l e =
-      let acts : o.act ≡ p.act = flat_one o.act p.act (sym (key_is o k) ∙ ap (key_of tag) e ∙ key_is p l) in
+      let acts : o.act ≡ p.act = flat_one o.act p.act (sym (key_is o k) ∙ ap (bucket_key tag) e ∙ key_is p l) in
       let tags : o.target ∷ [] ≡ p.target ∷ [] = sym (tag_is o k) ∙ ap (tag_of tag) e ∙ tag_is p l in
       let targets : o.target ≡ p.target = cc in
       ap (λ g. out_with g o.target) acts ∙ ap (λ t. out_with p.act t) targets
@@ -253,7 +253,7 @@ module _ (maxes : List ℕ) (tag : ℕ) (ports : slice_index maxes 1 ≡ 65535) 
       → IsBucketBefore tag (bucket_for tag o) (bucket_for tag p)
   bucket_before o p k l h =
       ⊎_elim
-      (λ b. inl (subst (λ z. IsListedBefore z (key_of tag (bucket_for tag p))) (sym (key_is o k)) (subst (IsListedBefore (flat o.act)) (sym (key_is p l)) b)))
+      (λ b. inl (subst (λ z. IsListedBefore z (bucket_key tag (bucket_for tag p))) (sym (key_is o k)) (subst (IsListedBefore (flat o.act)) (sym (key_is p l)) b)))
       (λ r. inr (
         key_is o k ∙ r.0 ∙ sym (key_is p l),
         subst (λ z. IsListedBefore z (tag_of tag (bucket_for tag p))) (sym (tag_is o k)) (subst (IsListedBefore (o.target ∷ [])) (sym (tag_is p l)) (inl r.1)),

@@ -1,13 +1,13 @@
 -- Of the ways that a packet meets, one alone is highest and has its leaf, or none is printed and the leaf is empty.
 use Rattle.std.proofs.Common.{◌≡◌, ◌≢◌, ℕ, ◌+◌, ◌<◌, ◌≤◌, Bool, true, false, cond, ◌⊎◌, inl, inr, ⊎_elim, List, [], ◌∷◌, ◌++◌, refl, sym, ap, subst, ◌∙◌, arith}
 use Rattle.std.specs.Prelude.{◌&&◌, ◌||◌, not, map, slice_index}
-use Rattle.std.specs.List.{flat_map}
+use Rattle.std.specs.List.{flat_map, AllByRecursion}
 use Rattle.nk_store.specs.Diagram.{Branches, leaf, case, no_branch, branch, leaf_at, IsReduced, AreReduced, AreTwo}
 use Rattle.nk_store.specs.Intervals.{same_tree, with_most, values_in}
 use Rattle.nk_table.specs.declared.Bucket.{Bucket}
 use Rattle.nk_table.specs.Buckets.{same_buckets}
 use Rattle.nk_extract.specs.RuleTree.{Path, PathInterval, is_drop, with_match, exact_paths, paths_of, path_intervals, bit_of, priority_of}
-use Rattle.nk_extract.specs.Chosen.{Every, Apart, IsTop}
+use Rattle.nk_extract.specs.Chosen.{Apart, IsTop}
 use Rattle.nk_extract.proofs.Lists.{every_weaker, every_append, every_map, every_flat_map, every_filter, every_true, filter_append_is, apart_append, apart_map, top_map, top_append}
 use Rattle.nk_extract.proofs.Bits.{bits_double, bit_positive}
 use Rattle.nk_extract.proofs.Trees.{Tree, TestsOnly, TestOnly, IsMatchable, Rising, rising_all, child_among, child_has, leaf_among_is, EachChild, IsInterval, intervals_are, with_most_has, same_tree_tells}
@@ -27,29 +27,29 @@ module _ (width tag : ℕ) (maxima : List ℕ) where
   -- the priorities of a node's ways are below the bit of a field before it
   node_light :
       (g f : ℕ) (bs : Branches (List Bucket)) → f < g → IsMatchable width tag g → AreTwo bs
-      → Every (λ i. Every (λ p. weight width tag p < bit_of width tag g) i.made) (path_intervals bs 0)
-      → Every (λ p. weight width tag p < bit_of width tag f) (paths_of (case g bs))
+      → AllByRecursion (λ i. AllByRecursion (λ p. weight width tag p < bit_of width tag g) i.made) (path_intervals bs 0)
+      → AllByRecursion (λ p. weight width tag p < bit_of width tag f) (paths_of (case g bs))
   node_light g f no_branch h m two e = absurd two
   node_light g f (branch end d bs) h m two e =
       let double = bits_double width tag f g h m.0 m.1 in
       let other = other_of bs end d in
       let Small : Path → Type 0 = λ p. weight width tag p < bit_of width tag g in
       let Below : Path → Type 0 = λ p. weight width tag p < bit_of width tag f in
-      let raise : (v : ℕ) (ps : List Path) → Every Small ps → Every Below (map (with_match g (is_drop other.child) v) ps) =
+      let raise : (v : ℕ) (ps : List Path) → AllByRecursion Small ps → AllByRecursion Below (map (with_match g (is_drop other.child) v) ps) =
       λ v ps small. every_map Below (with_match g (is_drop other.child) v) ps (every_weaker Small (λ p. Below (with_match g (is_drop other.child) v p)) ps (λ p s. omega (arith, s, double)) small) in
-      let by : (i : PathInterval) (b : Bool) → Every Small i.made → Every Below (cond b [] (flat_map (λ v. map (with_match g (is_drop other.child) v) i.made) (values_in i))) =
-      λ i b small. elim b as (λ t. Every Below (cond t [] (flat_map (λ v. map (with_match g (is_drop other.child) v) i.made) (values_in i)))) [
+      let by : (i : PathInterval) (b : Bool) → AllByRecursion Small i.made → AllByRecursion Below (cond b [] (flat_map (λ v. map (with_match g (is_drop other.child) v) i.made) (values_in i))) =
+      λ i b small. elim b as (λ t. AllByRecursion Below (cond t [] (flat_map (λ v. map (with_match g (is_drop other.child) v) i.made) (values_in i)))) [
         | true ↦ tt
         | false ↦ every_flat_map (λ v. Unit {0}) Below (λ v. map (with_match g (is_drop other.child) v) i.made) (values_in i) (λ v u. raise v i.made small) (every_true (λ v. Unit {0}) (values_in i) (λ v. tt))
       ] in
       every_append Below (flat_map (exact_paths g other) (path_intervals (branch end d bs) 0)) other.made
-      (every_flat_map (λ i. Every Small i.made) Below (exact_paths g other) (path_intervals (branch end d bs) 0) (λ i small. by i (same_tree other.child same_buckets i.child) small) e)
-      (every_weaker Small Below other.made (λ p s. omega (arith, s, double)) (with_most_has (λ i. Every Small i.made) (path_intervals (branch end d bs) 0) record { first = 0; last = end; child = d; made = paths_of d } (path_intervals bs (end + 1)) e.0 e.1))
+      (every_flat_map (λ i. AllByRecursion Small i.made) Below (exact_paths g other) (path_intervals (branch end d bs) 0) (λ i small. by i (same_tree other.child same_buckets i.child) small) e)
+      (every_weaker Small Below other.made (λ p s. omega (arith, s, double)) (with_most_has (λ i. AllByRecursion Small i.made) (path_intervals (branch end d bs) 0) record { first = 0; last = end; child = d; made = paths_of d } (path_intervals bs (end + 1)) e.0 e.1))
 
   mutual
     pub light :
         (d : Tree) (f : ℕ) → IsReduced d maxima (f + 1) → TestsOnly (IsMatchable width tag) d
-        → Every (λ p. weight width tag p < bit_of width tag f) (paths_of d)
+        → AllByRecursion (λ p. weight width tag p < bit_of width tag f) (paths_of d)
     light (leaf bs) f r m = (bit_positive width tag f, tt)
     light (case g bs) f r m = node_light g f bs (omega (arith, r.0)) m.0 r.1 (lights bs g 0 r.2 m.1)
 
@@ -57,7 +57,7 @@ module _ (width tag : ℕ) (maxima : List ℕ) where
     pub lights :
         (bs : Branches (List Bucket)) (g from : ℕ) → AreReduced bs maxima g
         → TestOnly (IsMatchable width tag) bs
-        → Every (λ i. Every (λ p. weight width tag p < bit_of width tag g) i.made) (path_intervals bs from)
+        → AllByRecursion (λ i. AllByRecursion (λ p. weight width tag p < bit_of width tag g) i.made) (path_intervals bs from)
     lights no_branch g from r m = tt
     lights (branch end d bs) g from r m = (light d g r.1 m.0, lights bs g (end + 1) r.3 m.1)
 
@@ -118,7 +118,7 @@ module _ (width tag : ℕ) (maxima : List ℕ) where
   module _ (pk : List ℕ) (f v : ℕ) (drops : Bool) where
     -- the highest way behind the packet's value is the highest of all
     pub lifted :
-        (xs ys : List Path) (q : Path) → Every (λ p. weight width tag p < bit_of width tag f) ys
+        (xs ys : List Path) (q : Path) → AllByRecursion (λ p. weight width tag p < bit_of width tag f) ys
         → IsTop Path (weight width tag) xs q
         → IsTop Path (weight width tag) (map (with_match f drops v) xs ++ ys) (with_match f drops v q)
     lifted xs ys q small t =
@@ -128,14 +128,14 @@ module _ (width tag : ℕ) (maxima : List ℕ) where
 
     -- and no two have one priority
     lifted_apart :
-        (xs ys : List Path) → Every (λ p. weight width tag p < bit_of width tag f) ys
+        (xs ys : List Path) → AllByRecursion (λ p. weight width tag p < bit_of width tag f) ys
         → Apart (weight width tag) xs → Apart (weight width tag) ys
         → Apart (weight width tag) (map (with_match f drops v) xs ++ ys)
     lifted_apart xs ys small a b =
         apart_append (weight width tag) (map (with_match f drops v) xs) ys
         (apart_map (weight width tag) (weight width tag) (with_match f drops v) xs (λ x y n s. n (omega (arith, s))) a)
         b
-        (every_map (λ x. Every (λ y. weight width tag x ≢ weight width tag y) ys) (with_match f drops v) xs (every_true (λ x. Every (λ y. weight width tag (with_match f drops v x) ≢ weight width tag y) ys) xs (λ x. every_weaker (λ p. weight width tag p < bit_of width tag f) (λ y. weight width tag (with_match f drops v x) ≢ weight width tag y) ys (λ y s. omega (arith, s)) small)))
+        (every_map (λ x. AllByRecursion (λ y. weight width tag x ≢ weight width tag y) ys) (with_match f drops v) xs (every_true (λ x. AllByRecursion (λ y. weight width tag (with_match f drops v x) ≢ weight width tag y) ys) xs (λ x. every_weaker (λ p. weight width tag p < bit_of width tag f) (λ y. weight width tag (with_match f drops v x) ≢ weight width tag y) ys (λ y s. omega (arith, s)) small)))
 
   -- what a packet meets at a node, where the child at its value is c and the else-child is t
   abbrev pub parts : List ℕ → ℕ → Tree → Tree → Bool → Bool → List Path
@@ -148,7 +148,7 @@ module _ (width tag : ℕ) (maxima : List ℕ) where
       ⊎ ((ms ≡ []) × (leaf_at c [] pk ≡ []) × (e ≡ false))
 
   -- the law at a node, by the law at its children; c is the child at the packet's value, t the else-child
-  module _ (pk : List ℕ) (f : ℕ) (c t : Tree) (small : (e : Bool) → Every (λ p. weight width tag p < bit_of width tag f) (met pk e (paths_of t))) (lc : Law pk c) (lt : Law pk t) where
+  module _ (pk : List ℕ) (f : ℕ) (c t : Tree) (small : (e : Bool) → AllByRecursion (λ p. weight width tag p < bit_of width tag f) (met pk e (paths_of t))) (lc : Law pk c) (lt : Law pk t) where
     -- one way is the highest at the node, or none is met
     node_outcome :
         (b : Bool) → same_tree t same_buckets c ≡ b → (e : Bool)
@@ -189,9 +189,9 @@ module _ (width tag : ℕ) (maxima : List ℕ) where
         let lc : Law pk c = child_has (Law pk) (leaf []) (branch end d bs) (slice_index maxima f) 0 (slice_index pk f) laws rise (within f able) (omega arith) in
         let split : (e : Bool) → met pk e (paths_of (case f (branch end d bs))) ≡ parts pk f c other.child (same_tree other.child same_buckets c) e =
         λ e. node_met pk e f bs end d (slice_index maxima f) (within f able) rise (leaf []) ∙ ap (λ ps. exact_met pk e f other.child (slice_index pk f) c ++ met pk e ps) it.made in
-        let made_small : Every (λ p. weight width tag p < bit_of width tag f) other.made = with_most_has (λ i. Every (λ p. weight width tag p < bit_of width tag f) i.made) (path_intervals (branch end d bs) 0) record { first = 0; last = end; child = d; made = paths_of d } (path_intervals bs (end + 1)) (lights (branch end d bs) f 0 r m).0 (lights (branch end d bs) f 0 r m).1 in
-        let small : (e : Bool) → Every (λ p. weight width tag p < bit_of width tag f) (met pk e (paths_of other.child)) =
-        λ e. every_filter (λ p. weight width tag p < bit_of width tag f) (λ p. goes pk p && (is_printed p || e)) (paths_of other.child) (subst (Every (λ p. weight width tag p < bit_of width tag f)) it.made made_small) in
+        let made_small : AllByRecursion (λ p. weight width tag p < bit_of width tag f) other.made = with_most_has (λ i. AllByRecursion (λ p. weight width tag p < bit_of width tag f) i.made) (path_intervals (branch end d bs) 0) record { first = 0; last = end; child = d; made = paths_of d } (path_intervals bs (end + 1)) (lights (branch end d bs) f 0 r m).0 (lights (branch end d bs) f 0 r m).1 in
+        let small : (e : Bool) → AllByRecursion (λ p. weight width tag p < bit_of width tag f) (met pk e (paths_of other.child)) =
+        λ e. every_filter (λ p. weight width tag p < bit_of width tag f) (λ p. goes pk p && (is_printed p || e)) (paths_of other.child) (subst (AllByRecursion (λ p. weight width tag p < bit_of width tag f)) it.made made_small) in
         let leaf_is : leaf_at (case f (branch end d bs)) [] pk ≡ leaf_at c [] pk = leaf_among_is (branch end d bs) [] (slice_index pk f) pk in
         record {
           outcome = λ e. subst (λ l. ((p : Path) × IsTop Path (weight width tag) (met pk e (paths_of (case f (branch end d bs)))) p × (p.buckets ≡ l)) ⊎ ((met pk e (paths_of (case f (branch end d bs))) ≡ []) × (l ≡ []) × (e ≡ false))) (sym leaf_is)

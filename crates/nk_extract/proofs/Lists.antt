@@ -1,57 +1,57 @@
 -- Facts on lists: the one element of most weight, elements that differ, and members.
 use Rattle.std.proofs.Common.{◌≡◌, ◌≢◌, ℕ, ◌<◌, Bool, true, false, cond, ◌⊎◌, inl, inr, ⊎_elim, List, [], ◌∷◌, ◌++◌, refl, sym, ap, subst, ◌∙◌, append_assoc, append-nil}
 use Rattle.std.specs.Prelude.{map, filter, ◌&&◌}
-use Rattle.std.specs.List.{flat_map}
+use Rattle.std.specs.List.{flat_map, AllByRecursion}
 use Rattle.nk_field.proofs.Lists.{In, Apart as AreApart}
-use Rattle.nk_extract.specs.Chosen.{Every, Apart, IsTop}
+use Rattle.nk_extract.specs.Chosen.{Apart, IsTop}
 
 -- a weaker property
 pub every_weaker :
-    {A : Type 0} (P Q : A → Type 0) (xs : List A) → ((x : A) → P x → Q x) → Every P xs → Every Q xs
+    {A : Type 0} (P Q : A → Type 0) (xs : List A) → ((x : A) → P x → Q x) → AllByRecursion P xs → AllByRecursion Q xs
 every_weaker P Q [] f e = tt
 every_weaker P Q (x ∷ xs) f e = (f x e.0, every_weaker P Q xs f e.1)
 
 -- of two lists joined
 pub every_append :
-    {A : Type 0} (P : A → Type 0) (xs ys : List A) → Every P xs → Every P ys → Every P (xs ++ ys)
+    {A : Type 0} (P : A → Type 0) (xs ys : List A) → AllByRecursion P xs → AllByRecursion P ys → AllByRecursion P (xs ++ ys)
 every_append P [] ys a b = b
 every_append P (x ∷ xs) ys a b = (a.0, every_append P xs ys a.1 b)
 
 -- of images
 pub every_map :
-    {A B : Type 0} (P : B → Type 0) (g : A → B) (xs : List A) → Every (λ x. P (g x)) xs
-    → Every P (map g xs)
+    {A B : Type 0} (P : B → Type 0) (g : A → B) (xs : List A) → AllByRecursion (λ x. P (g x)) xs
+    → AllByRecursion P (map g xs)
 every_map P g [] e = tt
 every_map P g (x ∷ xs) e = (e.0, every_map P g xs e.1)
 
 -- of all that is made
 pub every_flat_map :
     {A B : Type 0} (Q : A → Type 0) (P : B → Type 0) (g : A → List B) (xs : List A)
-    → ((x : A) → Q x → Every P (g x)) → Every Q xs → Every P (flat_map g xs)
+    → ((x : A) → Q x → AllByRecursion P (g x)) → AllByRecursion Q xs → AllByRecursion P (flat_map g xs)
 every_flat_map Q P g [] f e = tt
 every_flat_map Q P g (x ∷ xs) f e = every_append P (g x) (flat_map g xs) (f x e.0) (every_flat_map Q P g xs f e.1)
 
 -- with one more element, or without
 every_if :
-    {A : Type 0} (P : A → Type 0) (b : Bool) (x : A) (xs : List A) → P x → Every P xs
-    → Every P (cond b (x ∷ xs) xs)
+    {A : Type 0} (P : A → Type 0) (b : Bool) (x : A) (xs : List A) → P x → AllByRecursion P xs
+    → AllByRecursion P (cond b (x ∷ xs) xs)
 every_if P true x xs p e = (p, e)
 every_if P false x xs p e = e
 
 -- of what a filter keeps
 pub every_filter :
-    {A : Type 0} (P : A → Type 0) (test : A → Bool) (xs : List A) → Every P xs
-    → Every P (filter test xs)
+    {A : Type 0} (P : A → Type 0) (test : A → Bool) (xs : List A) → AllByRecursion P xs
+    → AllByRecursion P (filter test xs)
 every_filter P test [] e = tt
 every_filter P test (x ∷ xs) e = every_if P (test x) x (filter test xs) e.0 (every_filter P test xs e.1)
 
 -- what each element has, an element has
-pub every_in : {A : Type 0} (P : A → Type 0) (xs : List A) (x : A) → Every P xs → In xs x → P x
+pub every_in : {A : Type 0} (P : A → Type 0) (xs : List A) (x : A) → AllByRecursion P xs → In xs x → P x
 every_in P [] x e m = absurd m
 every_in P (y ∷ ys) x e m = ⊎_elim (λ s. subst P (sym s) e.0) (λ r. every_in P ys x e.1 r) m
 
 -- of a list, where it holds of anything
-pub every_true : {A : Type 0} (P : A → Type 0) (xs : List A) → ((x : A) → P x) → Every P xs
+pub every_true : {A : Type 0} (P : A → Type 0) (xs : List A) → ((x : A) → P x) → AllByRecursion P xs
 every_true P [] f = tt
 every_true P (x ∷ xs) f = (f x, every_true P xs f)
 
@@ -151,7 +151,7 @@ flat_map_append_is g (x ∷ xs) ys = ap (λ l. g x ++ l) (flat_map_append_is g x
 -- values differ in two lists joined
 pub apart_append :
     {A : Type 0} (value : A → ℕ) (xs ys : List A) → Apart value xs → Apart value ys
-    → Every (λ x. Every (λ y. value x ≢ value y) ys) xs → Apart value (xs ++ ys)
+    → AllByRecursion (λ x. AllByRecursion (λ y. value x ≢ value y) ys) xs → Apart value (xs ++ ys)
 apart_append value [] ys a b c = b
 apart_append value (x ∷ xs) ys a b c = (every_append (λ y. value x ≢ value y) xs ys a.0 c.0, apart_append value xs ys a.1 b c.1)
 
@@ -179,7 +179,7 @@ top_map low high g xs x f t = record {
 -- the highest stays so with lower ones behind
 pub top_append :
     {A : Type 0} (value : A → ℕ) (xs ys : List A) (x : A) → IsTop A value xs x
-    → Every (λ y. value y < value x) ys → IsTop A value (xs ++ ys) x
+    → AllByRecursion (λ y. value y < value x) ys → IsTop A value (xs ++ ys) x
 top_append value xs ys x t e = record {
   before = t.before;
   after = t.after ++ ys;

@@ -1,8 +1,8 @@
 -- The clamp on priorities never acts.
 use Rattle.std.proofs.Common.{◌≡◌, ℕ, ◌<◌, Bool, true, false, min, List, [], ◌∷◌, length, refl, ap, ◌∙◌, arith}
 use Rattle.std.specs.Prelude.{◌||◌, not, map, filter}
+use Rattle.std.specs.List.{AllByRecursion}
 use Rattle.nk_extract.specs.RuleTree.{Path, is_drop_list, paths_of, plain_row, put, priority_of, bit_of}
-use Rattle.nk_extract.specs.Chosen.{Every}
 use Rattle.nk_extract.specs.Ways.{row_behind, RowsAreMade}
 use Rattle.nk_extract.proofs.Lists.{every_weaker, every_filter, filter_same}
 use Rattle.nk_extract.proofs.Highest.{light}
@@ -16,7 +16,7 @@ or_none_is false = refl
 -- images by functions that agree on the elements
 map_every :
     {A B : Type 0} (P : A → Type 0) (g h : A → B) (xs : List A) → ((x : A) → P x → g x ≡ h x)
-    → Every P xs → map g xs ≡ map h xs
+    → AllByRecursion P xs → map g xs ≡ map h xs
 map_every P g h [] f e = refl
 map_every P g h (x ∷ xs) f e = ap (λ y. y ∷ map g xs) (f x e.0) ∙ ap (λ l. h x ∷ l) (map_every P g h xs f e.1)
 

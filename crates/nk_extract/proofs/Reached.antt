@@ -1,7 +1,7 @@
 -- Each printed way is the highest one for some packet in range.
 use Rattle.std.proofs.Common.{◌≡◌, ◌≢◌, ℕ, zero, suc, ◌+◌, ◌-◌, ◌<◌, ◌≤◌, Bool, true, false, cond, ⊎_elim, List, [], ◌∷◌, ◌++◌, refl, sym, ap, subst, ◌∙◌, arith, get_or-set_same, get_or-set_other}
 use Rattle.std.specs.Prelude.{◌&&◌, ◌||◌, not, map, slice_index, slice_set}
-use Rattle.std.specs.List.{flat_map}
+use Rattle.std.specs.List.{flat_map, AllByRecursion}
 use Rattle.nk_store.specs.Diagram.{Branches, leaf, case, no_branch, branch, IsReduced, AreReduced, AreTwo}
 use Rattle.nk_store.specs.Nodes.{InRange}
 use Rattle.nk_store.specs.Intervals.{same_tree, counted, values_in}
@@ -10,7 +10,7 @@ use Rattle.nk_field.proofs.Lists.{In, in_either, from_joined, from_mapped}
 use Rattle.nk_table.specs.declared.Bucket.{Bucket}
 use Rattle.nk_table.specs.Buckets.{same_buckets}
 use Rattle.nk_extract.specs.RuleTree.{Path, PathInterval, is_drop_list, is_drop, with_match, exact_paths, paths_of, path_intervals, bit_of}
-use Rattle.nk_extract.specs.Chosen.{Every, IsTop}
+use Rattle.nk_extract.specs.Chosen.{IsTop}
 use Rattle.nk_extract.proofs.Lists.{every_filter, every_in}
 use Rattle.nk_extract.proofs.Trees.{Tree, TestsOnly, TestOnly, IsMatchable, Rising, rising_all, child_among, EachChild, IsInterval, intervals_are, with_most_has, same_tree_self}
 use Rattle.nk_extract.proofs.Paths.{goes, is_printed, met, exact_met, flags}
@@ -86,10 +86,10 @@ module _ (width tag : ℕ) (maxima : List ℕ) (most_fields : width ≤ 18) wher
     -- the ways of the else-child that a packet meets are below the node's bit
     small :
         (pk : List ℕ) (e : Bool)
-        → Every (λ p. weight width tag p < bit_of width tag g) (met pk e (other_of bs end d).made)
+        → AllByRecursion (λ p. weight width tag p < bit_of width tag g) (met pk e (other_of bs end d).made)
     small pk e =
         every_filter (λ p. weight width tag p < bit_of width tag g) (λ p. goes pk p && (is_printed p || e)) (other_of bs end d).made
-        (with_most_has (λ i. Every (λ p. weight width tag p < bit_of width tag g) i.made) (path_intervals (branch end d bs) 0) record { first = 0; last = end; child = d; made = paths_of d } (path_intervals bs (end + 1)) (lights width tag maxima (branch end d bs) g 0 r m).0 (lights width tag maxima (branch end d bs) g 0 r m).1)
+        (with_most_has (λ i. AllByRecursion (λ p. weight width tag p < bit_of width tag g) i.made) (path_intervals (branch end d bs) 0) record { first = 0; last = end; child = d; made = paths_of d } (path_intervals bs (end + 1)) (lights width tag maxima (branch end d bs) g 0 r m).0 (lights width tag maxima (branch end d bs) g 0 r m).1)
 
     -- what a packet meets at the node, whose child at its value is c
     met_is :

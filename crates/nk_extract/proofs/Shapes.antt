@@ -1,39 +1,21 @@
 -- The tree of a diagram of a sound store: its leaves, that it is reduced, and the fields that it doesn't test.
-use Rattle.std.proofs.Common.{◌≡◌, ◌≢◌, ℕ, zero, suc, ◌+◌, ◌<◌, ◌≤◌, cond, inl, inr, List, [], ◌∷◌, length, refl, sym, ap, subst, ◌∙◌, arith}
+use Rattle.std.proofs.Common.{◌≡◌, ◌≢◌, ℕ, zero, suc, ◌+◌, ◌<◌, ◌≤◌, List, [], ◌∷◌, length, refl, sym, ap, subst, ◌∙◌, arith}
 use Rattle.std.specs.Prelude.{slice_index, slice_set}
-use Rattle.std.proofs.lemmas.Bool.Decides.{leb_tells}
 use Rattle.std.proofs.lemmas.List.{length-set}
 use Rattle.nk_store.specs.declared.node.Node.{Node}
 use Rattle.nk_store.specs.declared.node.Node.TheVariants.{Leaf, Case}
 use Rattle.nk_store.specs.Leaves.{Every, Suits}
-use Rattle.nk_store.specs.Nodes.{child_at, node_at, look_in, node_top, top_in, Rises, Each, IsLater, Differ, Joined, Sound, InRange}
-use Rattle.nk_store.specs.Diagram.{leaf_at, leaf_among, IsReduced, AreReduced, AreTwo, EndsRight, IsOther, IsFreeOf, AreFreeOf}
+use Rattle.nk_store.specs.Nodes.{child_at, node_at, look_in, node_top, top_in, Rises, Each, IsLater, Differ, Sound, InRange}
+use Rattle.nk_store.specs.Diagram.{leaf_at, IsReduced, AreReduced, EndsRight, IsOther, IsFreeOf, AreFreeOf}
 use Rattle.nk_store.proofs.Children.{each_value}
-use Rattle.nk_store.proofs.Looks.{look_leaf, look_case, look_tidy, fits_at, joined_some, each_child}
-use Rattle.nk_store.proofs.Same.{child-first, child-rest, set_in_range, no_choice, AgreeIn, look_child, same_number}
-use Rattle.nk_extract.specs.Ways.{bucket_list, branches_of, tree_in}
+use Rattle.nk_store.proofs.Looks.{look_tidy, fits_at, joined_some, each_child}
+use Rattle.nk_store.proofs.Same.{set_in_range, no_choice, AgreeIn, look_child, same_number}
+use Rattle.nk_store.specs.Trees.{branches_of, tree_in}
+use Rattle.nk_store.proofs.Trees.{tree_leaf, tree_case, tree_leaf_at, ends_right, two, differ, both_each}
+use Rattle.nk_extract.specs.Ways.{bucket_list}
 use Rattle.nk_extract.proofs.Acts.{Avoids}
 use Rattle.nk_extract.proofs.BucketLists.{IsPlainOut, list_one, every_out, out_each}
-use Rattle.nk_extract.proofs.Trees.{Tree}
-use Rattle.nk_extract.proofs.Bridge.{tree_leaf, tree_case}
 use Rattle.nk_store.proofs.Children.{each_of}
-
--- the leaf among the branches of parts is that of the child at the value
-among_is :
-    (tree : ℕ → Tree) (high from d v : ℕ) (ps : List (ℕ × ℕ)) (pk : List ℕ) → Rises high from ps
-    → v ≤ high → from ≤ v
-    → leaf_among (branches_of ps tree) [] v pk ≡ leaf_at (tree (child_at d ps v)) [] pk
-among_is tree high from d v [] pk r h k = absurd (omega (arith, r, h, k))
-among_is tree high from d v (p ∷ ps) pk r h k =
-    elim (leb_tells v p.0) [
-      | inl within ↦
-          ap (λ b. cond b (leaf_at (tree p.1) [] pk) (leaf_among (branches_of ps tree) [] v pk)) within.0
-          ∙ ap (λ c. leaf_at (tree c) [] pk) (sym (child-first d p ps v within.1))
-      | inr past ↦
-          ap (λ b. cond b (leaf_at (tree p.1) [] pk) (leaf_among (branches_of ps tree) [] v pk)) past.0
-          ∙ among_is tree high (p.0 + 1) p.1 v ps pk r.2 h (omega (arith, past.1))
-          ∙ ap (λ c. leaf_at (tree c) [] pk) (sym (child-rest d p ps v past.1))
-    ]
 
 -- two fields are set in either order
 pub set_swap :
@@ -46,31 +28,11 @@ set_swap (z ∷ xs) (suc i) zero x y n = refl
 set_swap (z ∷ xs) (suc i) (suc j) x y n = ap (λ l. z ∷ l) (set_swap xs i j x y (λ e. n (ap suc e)))
 
 module _ (maxes : List ℕ) (ns : List Node) (sound : Sound maxes ns) where
-  -- a tree's leaves are the bucket lists
-  leaf_below :
-      (tag m i : ℕ) (pk : List ℕ) → i < m → i < length ns → InRange maxes pk
-      → leaf_at (tree_in tag ns i) [] pk ≡ bucket_list tag (look_in ns i pk)
-  leaf_below tag zero i pk l h r = absurd (omega (arith, l))
-  leaf_below tag (suc m) i pk l h r = by (node_at ns i) refl (λ c less. leaf_below tag m c pk (omega (arith, less, l)) (omega (arith, less, h)) r)
-    where
-      by :
-          (n : Node) → node_at ns i ≡ n
-          → ((c : ℕ) → c < i → leaf_at (tree_in tag ns c) [] pk ≡ bucket_list tag (look_in ns c pk))
-          → leaf_at (tree_in tag ns i) [] pk ≡ bucket_list tag (look_in ns i pk)
-      by (Leaf outs) e ih = ap (λ t. leaf_at t [] pk) (tree_leaf tag ns i outs h e) ∙ ap (bucket_list tag) (sym (look_leaf ns i outs pk h e))
-      by (Case f ps) e ih =
-          let fits = fits_at maxes ns i f ps sound h e in
-          let less = each_child (λ c. c < i) 0 ps (slice_index pk f) (joined_some ps fits.0.3) fits.1 in
-          ap (λ t. leaf_at t [] pk) (tree_case tag ns i f ps h e fits.1)
-          ∙ among_is (λ c. tree_in tag ns c) (slice_index maxes f) 0 0 (slice_index pk f) ps pk fits.0.1 (r.1 f) (omega arith)
-          ∙ ih (child_at 0 ps (slice_index pk f)) less
-          ∙ ap (bucket_list tag) (sym (look_case maxes ns i f ps pk sound h e))
-
   -- a tree's leaf is the bucket list
   pub leaf_is :
       (tag i : ℕ) (pk : List ℕ) → i < length ns → InRange maxes pk
-      → leaf_at (tree_in tag ns i) [] pk ≡ bucket_list tag (look_in ns i pk)
-  leaf_is tag i pk h r = leaf_below tag (suc i) i pk (omega arith) h r
+      → leaf_at (tree_in (bucket_list tag) ns i) [] pk ≡ bucket_list tag (look_in ns i pk)
+  leaf_is tag i pk h r = tree_leaf_at (bucket_list tag) [] maxes ns sound i pk h r
 
   -- a number whose leaves' acts assign neither the switch nor the tag, whatever the tag's value
   pub record IsGood (tag i : ℕ) : Type 0 where
@@ -91,7 +53,7 @@ module _ (maxes : List ℕ) (ns : List Node) (sound : Sound maxes ns) where
   -- trees tell good numbers apart
   pub one :
       (tag c d : ℕ) → slice_index maxes 1 ≡ 65535 → IsGood tag c → IsGood tag d
-      → tree_in tag ns c ≡ tree_in tag ns d → c ≡ d
+      → tree_in (bucket_list tag) ns c ≡ tree_in (bucket_list tag) ns d → c ≡ d
   one tag c d ports g h e =
       same_number maxes ns c d sound g.id h.id (λ pk r.
       list_one maxes tag ports (look_in ns c pk) (look_in ns d pk) (plain tag c pk g r) (plain tag d pk h r)
@@ -137,18 +99,11 @@ module _ (maxes : List ℕ) (ns : List Node) (sound : Sound maxes ns) where
       let both = fits_at maxes ns i f ps sound g.id e in
       each_value (IsGood tag) (slice_index maxes f) 0 0 ps both.0.1 (λ v lo hi. good_child tag i f v ps g e hi)
 
-  -- the branches of parts whose children's trees are reduced
-  ends_right :
-      (tree : ℕ → Tree) (high end : ℕ) (ps : List (ℕ × ℕ)) → Rises high (end + 1) ps
-      → EndsRight high end (branches_of ps tree)
-  ends_right tree high end [] r = omega (arith, r)
-  ends_right tree high end (p ∷ ps) r = omega (arith, r.0)
-
   -- the neighbours of a child have other trees
   is_other :
       (tag c : ℕ) (ps : List (ℕ × ℕ)) → slice_index maxes 1 ≡ 65535 → IsGood tag c
       → Each (IsGood tag) ps → Differ c ps
-      → IsOther (tree_in tag ns c) (branches_of ps (λ k. tree_in tag ns k))
+      → IsOther (tree_in (bucket_list tag) ns c) (branches_of ps (λ k. tree_in (bucket_list tag) ns k))
   is_other tag c [] ports g e d = tt
   is_other tag c (p ∷ ps) ports g e d = λ same. d.0 (sym (one tag c p.1 ports g e.0 same))
 
@@ -156,75 +111,59 @@ module _ (maxes : List ℕ) (ns : List Node) (sound : Sound maxes ns) where
   parts_reduced :
       (tag f high from : ℕ) (ps : List (ℕ × ℕ)) → slice_index maxes 1 ≡ 65535
       → slice_index maxes f ≡ high → Rises high from ps → Each (IsGood tag) ps
-      → Each (λ c. IsReduced (tree_in tag ns c) maxes (f + 1)) ps → (c : ℕ) → Differ c ps
-      → AreReduced (branches_of ps (λ k. tree_in tag ns k)) maxes f
+      → Each (λ c. IsReduced (tree_in (bucket_list tag) ns c) maxes (f + 1)) ps → (c : ℕ) → Differ c ps
+      → AreReduced (branches_of ps (λ k. tree_in (bucket_list tag) ns k)) maxes f
   parts_reduced tag f high from [] ports is r g e c d = tt
   parts_reduced tag f high from (p ∷ ps) ports is r g e c d = (
-    subst (λ z. EndsRight z p.0 (branches_of ps (λ k. tree_in tag ns k))) (sym is) (ends_right (λ k. tree_in tag ns k) high p.0 ps r.2),
+    subst (λ z. EndsRight z p.0 (branches_of ps (λ k. tree_in (bucket_list tag) ns k))) (sym is) (ends_right (λ k. tree_in (bucket_list tag) ns k) high p.0 ps r.2),
     e.0,
     is_other tag p.1 ps ports g.0 g.1 d.1,
     parts_reduced tag f high (p.0 + 1) ps ports is r.2 g.1 e.1 p.1 d.1,
   )
 
-  -- a choice has two branches or more
-  two : (tree : ℕ → Tree) (ps : List (ℕ × ℕ)) → Joined ps → AreTwo (branches_of ps tree)
-  two tree [] j = j
-  two tree (p ∷ []) j = omega (arith, j.0)
-  two tree (p ∷ q ∷ ps) j = tt
-
-  -- neighbours differ, from the first on
-  differ : (ps : List (ℕ × ℕ)) → Joined ps → (c : ℕ) × Differ c ps
-  differ [] j = absurd j
-  differ (p ∷ ps) j = (suc p.1, ((λ e. omega (arith, e)), j.1))
-
   -- branches whose trees do not test the tag
   free_parts :
-      (tag : ℕ) (ps : List (ℕ × ℕ)) → Each (λ c. IsFreeOf tag (tree_in tag ns c)) ps
-      → AreFreeOf tag (branches_of ps (λ k. tree_in tag ns k))
+      (tag : ℕ) (ps : List (ℕ × ℕ)) → Each (λ c. IsFreeOf tag (tree_in (bucket_list tag) ns c)) ps
+      → AreFreeOf tag (branches_of ps (λ k. tree_in (bucket_list tag) ns k))
   free_parts tag [] e = tt
   free_parts tag (p ∷ ps) e = (e.0, free_parts tag ps e.1)
-
-  -- what holds of each child twice
-  both_each : (P Q : ℕ → Type 0) (ps : List (ℕ × ℕ)) → Each P ps → Each Q ps → Each (λ c. P c × Q c) ps
-  both_each P Q [] a b = tt
-  both_each P Q (p ∷ ps) a b = ((a.0, b.0), both_each P Q ps a.1 b.1)
 
   -- a good number's tree is reduced over later fields, and doesn't test the tag
   shape_below :
       (tag m i low : ℕ) → slice_index maxes 1 ≡ 65535 → i < m → IsGood tag i → low ≤ top_in ns i
-      → IsReduced (tree_in tag ns i) maxes low × IsFreeOf tag (tree_in tag ns i)
+      → IsReduced (tree_in (bucket_list tag) ns i) maxes low × IsFreeOf tag (tree_in (bucket_list tag) ns i)
   shape_below tag zero i low ports l g t = absurd (omega (arith, l))
   shape_below tag (suc m) i low ports l g t =
       by (node_at ns i) refl (λ c k less good later. shape_below tag m c k ports (omega (arith, less, l)) good later)
     where
       by :
           (n : Node) → node_at ns i ≡ n
-          → ((c k : ℕ) → c < i → IsGood tag c → k ≤ top_in ns c → IsReduced (tree_in tag ns c) maxes k × IsFreeOf tag (tree_in tag ns c))
-          → IsReduced (tree_in tag ns i) maxes low × IsFreeOf tag (tree_in tag ns i)
-      by (Leaf outs) e ih = subst (λ z. IsReduced z maxes low × IsFreeOf tag z) (sym (tree_leaf tag ns i outs g.id e)) (tt, tt)
+          → ((c k : ℕ) → c < i → IsGood tag c → k ≤ top_in ns c → IsReduced (tree_in (bucket_list tag) ns c) maxes k × IsFreeOf tag (tree_in (bucket_list tag) ns c))
+          → IsReduced (tree_in (bucket_list tag) ns i) maxes low × IsFreeOf tag (tree_in (bucket_list tag) ns i)
+      by (Leaf outs) e ih = subst (λ z. IsReduced z maxes low × IsFreeOf tag z) (sym (tree_leaf (bucket_list tag) ns i outs g.id e)) (tt, tt)
       by (Case f ps) e ih =
           let fits = fits_at maxes ns i f ps sound g.id e in
           let good = good_children tag i f ps g e in
-          let shapes : Each (λ c. IsReduced (tree_in tag ns c) maxes (f + 1) × IsFreeOf tag (tree_in tag ns c)) ps =
-          each_of (λ c. (c < i) × (IsGood tag c × IsLater ns f c)) (λ c. IsReduced (tree_in tag ns c) maxes (f + 1) × IsFreeOf tag (tree_in tag ns c)) ps
+          let shapes : Each (λ c. IsReduced (tree_in (bucket_list tag) ns c) maxes (f + 1) × IsFreeOf tag (tree_in (bucket_list tag) ns c)) ps =
+          each_of (λ c. (c < i) × (IsGood tag c × IsLater ns f c)) (λ c. IsReduced (tree_in (bucket_list tag) ns c) maxes (f + 1) × IsFreeOf tag (tree_in (bucket_list tag) ns c)) ps
           (λ c a. let later = a.1.1.1 in ih c (f + 1) a.0 a.1.0 (omega (arith, later)))
           (both_each (λ c. c < i) (λ c. IsGood tag c × IsLater ns f c) ps fits.1 (both_each (IsGood tag) (IsLater ns f) ps good fits.0.2)) in
           let low_f : low ≤ f = subst (λ n. low ≤ node_top n) e t in
           let d = differ ps fits.0.3 in
-          subst (λ z. IsReduced z maxes low × IsFreeOf tag z) (sym (tree_case tag ns i f ps g.id e fits.1)) (
+          subst (λ z. IsReduced z maxes low × IsFreeOf tag z) (sym (tree_case (bucket_list tag) ns i f ps g.id e fits.1)) (
             (
               low_f,
-              two (λ k. tree_in tag ns k) ps fits.0.3,
-              parts_reduced tag f (slice_index maxes f) 0 ps ports refl fits.0.1 good (each_of _ (λ c. IsReduced (tree_in tag ns c) maxes (f + 1)) ps (λ c a. a.0) shapes) d.0 d.1,
+              two (λ k. tree_in (bucket_list tag) ns k) ps fits.0.3,
+              parts_reduced tag f (slice_index maxes f) 0 ps ports refl fits.0.1 good (each_of _ (λ c. IsReduced (tree_in (bucket_list tag) ns c) maxes (f + 1)) ps (λ c a. a.0) shapes) d.0 d.1,
             ),
             (
               tag_untested tag i f ps g e,
-              free_parts tag ps (each_of _ (λ c. IsFreeOf tag (tree_in tag ns c)) ps (λ c a. a.1) shapes),
+              free_parts tag ps (each_of _ (λ c. IsFreeOf tag (tree_in (bucket_list tag) ns c)) ps (λ c a. a.1) shapes),
             ),
           )
 
   -- a good number's tree is reduced, and does not test the tag
   pub shape :
       (tag i low : ℕ) → slice_index maxes 1 ≡ 65535 → IsGood tag i → low ≤ top_in ns i
-      → IsReduced (tree_in tag ns i) maxes low × IsFreeOf tag (tree_in tag ns i)
+      → IsReduced (tree_in (bucket_list tag) ns i) maxes low × IsFreeOf tag (tree_in (bucket_list tag) ns i)
   shape tag i low ports g t = shape_below tag (suc i) i low ports (omega arith) g t

@@ -18,7 +18,8 @@ use Rattle.nk_store.proofs.Same.{set_in_range, look_child}
 use Rattle.nk_table.specs.declared.Bucket.{Bucket}
 use Rattle.nk_table.specs.declared.Plain.{Plain}
 use Rattle.nk_extract.specs.RuleTree.{rows_for, paths_of, bit_of}
-use Rattle.nk_extract.specs.Ways.{bucket_list, tree_in, ways, ways_in, rows_behind, at_switch}
+use Rattle.nk_store.specs.Trees.{tree_in}
+use Rattle.nk_extract.specs.Ways.{bucket_list, ways, ways_in, rows_behind, at_switch}
 use Rattle.nk_extract.specs.Buckets.{AreBuckets}
 use Rattle.nk_extract.specs.RowsOf.{IsFrame, IsPrintable, AreRowsOf}
 use Rattle.nk_extract.proofs.Acts.{value, ascends, applied_value, IsChange, Avoids, IsActAt}
@@ -211,10 +212,10 @@ module _ (st : Held) (width tag sw d : ℕ) (places : length st.maxes ≡ 18) (s
   -- the leaf of the part's tree is the bucket list of the diagram's leaf
   leaves_are :
       (r : ℕ) → IsRoot r → (pk : List ℕ) → InRange st.maxes pk → slice_index pk 0 ≡ sw
-      → AreBuckets width tag (λ x t. sends pk x t) pk (leaf_at (tree_in tag st.nodes r) [] pk)
+      → AreBuckets width tag (λ x t. sends pk x t) pk (leaf_at (tree_in (bucket_list tag) st.nodes r) [] pk)
   leaves_are r root pk h at =
       let same : slice_set pk 0 sw ≡ pk = ap (slice_set pk 0) (sym at) ∙ set-get_or pk 0 0 in
-      let is : leaf_at (tree_in tag st.nodes r) [] pk ≡ bucket_list tag (look_in st.nodes d pk) =
+      let is : leaf_at (tree_in (bucket_list tag) st.nodes r) [] pk ≡ bucket_list tag (look_in st.nodes d pk) =
       leaf_is st.maxes st.nodes sound tag r pk root.below h ∙ ap (bucket_list tag) (root.leaves pk h.0 ∙ ap (look_in st.nodes d) same) in
       subst (AreBuckets width tag (λ x t. sends pk x t) pk) (sym is)
       (are_buckets st.maxes tag frame.ports width pk (look_in st.nodes d pk) h.0 (look_tidy st.maxes st.nodes d pk sound).0 (acts_at pk h at))
@@ -230,20 +231,20 @@ module _ (st : Held) (width tag sw d : ℕ) (places : length st.maxes ≡ 18) (s
       let few = frame.few in
       let count : length (take width st.maxes) ≡ width = let l = length-take width st.maxes in omega (arith, l, places, few) in
       let shaped = shape st.maxes st.nodes sound tag r 1 frame.ports g root.later in
-      let reduced = same_reduced st.maxes (take width st.maxes) 1 (tree_in tag st.nodes r) (taken st.maxes width frame.behind) shaped.0 in
+      let reduced = same_reduced st.maxes (take width st.maxes) 1 (tree_in (bucket_list tag) st.nodes r) (taken st.maxes width frame.behind) shaped.0 in
       let fit : bit_of (length (take width st.maxes)) tag 0 ≤ 65536 = subst (λ w. bit_of w tag 0 ≤ 65536) (sym count) (bits_fit width tag frame.past_port frame.declared frame.few) in
-      let made = rows_are_made (take width st.maxes) tag to (tree_in tag st.nodes r) record { reduced = reduced; tag_free = shaped.1 } fit in
+      let made = rows_are_made (take width st.maxes) tag to (tree_in (bucket_list tag) st.nodes r) record { reduced = reduced; tag_free = shaped.1 } fit in
       let ways_is = ways_are tag st.nodes (IsGood st.maxes st.nodes sound tag) (λ c k. k.id)
       (λ c f ps k n. joined_some ps (fits_at st.maxes st.nodes c f ps sound k.id n).0.3)
       (λ c f ps k n. (fits_at st.maxes st.nodes c f ps sound k.id n).1)
       (λ c f ps k n. good_children st.maxes st.nodes sound tag c f ps k n)
       (λ c k a b t. one st.maxes st.nodes sound tag c k frame.ports a b t) r g in
       record {
-        tree = tree_in tag st.nodes r;
+        tree = tree_in (bucket_list tag) st.nodes r;
         rows_are =
             e
             ∙ ap (rows_behind width tag to [] false) ways_is
-            ∙ subst (λ w. rows_behind w tag to [] false (paths_of (tree_in tag st.nodes r)) ≡ rows_for w tag to (tree_in tag st.nodes r)) count made;
+            ∙ subst (λ w. rows_behind w tag to [] false (paths_of (tree_in (bucket_list tag) st.nodes r)) ≡ rows_for w tag to (tree_in (bucket_list tag) st.nodes r)) count made;
         reduced = reduced;
         tag_free = shaped.1;
         leaves = λ pk h at. leaves_are r root pk h at;

@@ -3,13 +3,13 @@ use Rattle.std.proofs.Common.{◌≡◌, ◌≢◌, ℕ, ◌+◌, ◌<◌, ◌�
 use Rattle.std.specs.Prelude.{◌==◌, ◌&&◌, nat_le, nat_lt, slice_index, slice_set}
 use Rattle.std.proofs.lemmas.Bool.Decides.{leb_tells}
 use Rattle.std.proofs.lemmas.List.{get_or_past}
+use Rattle.std.specs.List.{AllByRecursion}
 use Rattle.nk_store.specs.Diagram.{Diagram, Branches, leaf, case, no_branch, branch, leaf_at, leaf_among, IsReduced, AreReduced, AreTwo, IsFreeOf, AreFreeOf}
 use Rattle.nk_store.specs.Intervals.{same_tree, same_trees, values_with, with_most}
 use Rattle.nk_table.specs.declared.Bucket.{Bucket}
 use Rattle.nk_table.specs.Buckets.{same_buckets}
 use Rattle.nk_table.proofs.SameBuckets.{and_left, and_right, and_both, eq_of, eq_self, same_buckets_tells, same_buckets_self}
 use Rattle.nk_extract.specs.RuleTree.{PathInterval, paths_of, path_intervals}
-use Rattle.nk_extract.specs.Chosen.{Every}
 use Rattle.nk_extract.proofs.Lists.{every_weaker}
 
 abbrev pub Tree : Type 0
@@ -178,7 +178,7 @@ earlier_end P o d bs most from end i h k = record {
 -- the intervals of branches
 pub intervals_are :
     (P : Tree → Type 0) (o : Tree) (bs : Branches (List Bucket)) (most from : ℕ) → EachChild P bs
-    → Rising most from bs → Every (IsInterval P o bs most from) (path_intervals bs from)
+    → Rising most from bs → AllByRecursion (IsInterval P o bs most from) (path_intervals bs from)
 intervals_are P o no_branch most from e r = tt
 intervals_are P o (branch end d bs) most from e r = (
   record {
@@ -198,7 +198,7 @@ intervals_are P o (branch end d bs) most from e r = (
 -- what holds of each interval holds of the one with the most values
 pub with_most_has :
     (Q : PathInterval → Type 0) (all : List PathInterval) (best : PathInterval) (is : List PathInterval)
-    → Q best → Every Q is → Q (with_most same_buckets all best is)
+    → Q best → AllByRecursion Q is → Q (with_most same_buckets all best is)
 with_most_has Q all best [] q e = q
 with_most_has Q all best (i ∷ is) q e =
     by (nat_lt (values_with same_buckets best.child all) (values_with same_buckets i.child all)) (with_most_has Q all i is e.0 e.1) (with_most_has Q all best is q e.1)

@@ -1,18 +1,13 @@
 -- The bucket list that is printed for a diagram at a packet: a bucket for each result, in their order.
 use Rattle.std.specs.Prelude.{◌≡◌, ℕ, ◌⊎◌, ◌↔◌, ◌==◌, not, ◌&&◌, if◌then◌else◌, nat_lt, List, [], ◌∷◌, ◌++◌, map, filter, slice_index, Contains, AllPairs}
 use Rattle.std.specs.List.{flat_map}
-use Rattle.nk_field.specs.Act.{applied}
 use Rattle.nk_field.specs.Order.{IsListedBefore}
-use Rattle.nk_store.specs.Held.{Held, look}
+pub use Rattle.nk_store.specs.Sends.{Sends}
 use Rattle.nk_store.specs.Intervals.{counted}
 use Rattle.nk_table.specs.declared.Bucket.{Bucket}
 use Rattle.nk_table.specs.declared.Exit.{Exit}
 use Rattle.nk_table.specs.declared.Exit.TheVariants.{Back, Port}
 use Rattle.nk_extract.specs.RuleTree.{put}
-
--- from pk the diagram leads to y, and goes on with t
-abbrev pub Sends : Held → ℕ → List ℕ → List ℕ → ℕ → Type 0
-Sends st d pk y t = (g : List (ℕ × ℕ)) × Contains (look st d pk) (record { act = g; target = t }) × (y ≡ applied g pk)
 
 -- the declared fields but the tag in which two packets differ, with the later value
 abbrev pub changes : ℕ → ℕ → List ℕ → List ℕ → List (ℕ × ℕ)
@@ -32,16 +27,16 @@ abbrev pub exit_key : Exit → List ℕ
 exit_key Back = []
 exit_key (Port n) = 1 ∷ n ∷ []
 
-abbrev pub key_of : ℕ → Bucket → List ℕ
-key_of tag b = exit_key b.exit ++ flat_map (λ a. if a.0 == tag then [] else a.0 ∷ a.1 ∷ []) b.sets
+abbrev pub bucket_key : ℕ → Bucket → List ℕ
+bucket_key tag b = exit_key b.exit ++ flat_map (λ a. if a.0 == tag then [] else a.0 ∷ a.1 ∷ []) b.sets
 
 abbrev pub tag_of : ℕ → Bucket → List ℕ
 tag_of tag b = flat_map (λ a. if a.0 == tag then a.1 ∷ [] else []) b.sets
 
 abbrev pub IsBucketBefore : ℕ → Bucket → Bucket → Type 0
 IsBucketBefore tag a b =
-    IsListedBefore (key_of tag a) (key_of tag b)
-    ⊎ ((key_of tag a ≡ key_of tag b) × IsListedBefore (tag_of tag a) (tag_of tag b))
+    IsListedBefore (bucket_key tag a) (bucket_key tag b)
+    ⊎ ((bucket_key tag a ≡ bucket_key tag b) × IsListedBefore (tag_of tag a) (tag_of tag b))
 
 -- the bucket list of a packet's results, where S x t says that the packet goes on as x with the tag t
 pub record AreBuckets (width tag : ℕ) (S : List ℕ → ℕ → Type 0) (pk : List ℕ) (buckets : List Bucket) : Type 0 where

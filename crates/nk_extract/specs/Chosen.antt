@@ -1,30 +1,25 @@
 -- What it means that rows give a leaf: of those that match a packet one alone is highest and has the leaf's buckets, or
 -- none matches and the leaf is empty; and the laws on the rows of a reduced tree.
 use Rattle.std.specs.Prelude.{◌≡◌, ◌≢◌, ℕ, ◌<◌, ◌≤◌, ◌⊎◌, ◌==◌, Bool, List, [], ◌∷◌, ◌++◌, length, filter, slice_index, Contains}
-use Rattle.std.specs.List.{list_all}
+use Rattle.std.specs.List.{list_all, AllByRecursion}
 use Rattle.nk_store.specs.Diagram.{Diagram, IsReduced, IsFreeOf, leaf_at}
 use Rattle.nk_store.specs.Nodes.{InRange}
 use Rattle.nk_table.specs.declared.Bucket.{Bucket}
 use Rattle.nk_table.specs.declared.Plain.{Plain}
 use Rattle.nk_extract.specs.RuleTree.{rows_for}
 
--- each element has the property
-abbrev pub Every : {A : Type 0} → (A → Type 0) → List A → Type 0
-Every P [] = Unit {0}
-Every P (x ∷ xs) = P x × Every P xs
-
 -- no two elements have one value
 abbrev pub Apart : {A : Type 0} → (A → ℕ) → List A → Type 0
 Apart value [] = Unit {0}
-Apart value (x ∷ xs) = Every (λ y. value x ≢ value y) xs × Apart value xs
+Apart value (x ∷ xs) = AllByRecursion (λ y. value x ≢ value y) xs × Apart value xs
 
 -- x stands once, and the value of every other element is lower
 pub record IsTop (A : Type 0) (value : A → ℕ) (xs : List A) (x : A) : Type 0 where
   pub before : List A
   pub after : List A
   pub is : xs ≡ before ++ x ∷ after
-  pub lower_before : Every (λ y. value y < value x) before
-  pub lower_after : Every (λ y. value y < value x) after
+  pub lower_before : AllByRecursion (λ y. value y < value x) before
+  pub lower_after : AllByRecursion (λ y. value y < value x) after
 
 -- the packet has the values that are matched
 abbrev pub agrees_with : List ℕ → List (ℕ × ℕ) → Bool

@@ -1,7 +1,6 @@
 -- The ways through a diagram of the store, node by node, and what a way's row is. The else-child is found by number.
-use Rattle.std.specs.Prelude.{◌≡◌, ℕ, ◌+◌, ◌-◌, ◌≤◌, ◌==◌, ◌||◌, Bool, false, not, nat_lt, min, cond, eqb, if◌then◌else◌, List, [], ◌∷◌, ◌++◌, length, map, filter, Option, Some, None}
+use Rattle.std.specs.Prelude.{◌≡◌, ℕ, ◌+◌, ◌-◌, ◌≤◌, ◌==◌, ◌||◌, Bool, false, not, min, cond, eqb, if◌then◌else◌, List, [], ◌∷◌, ◌++◌, length, map, filter}
 use Rattle.std.specs.List.{flat_map}
-use Rattle.std.specs.Map.{lookup}
 use Rattle.nk_store.specs.ElseChild.{Span, spans, else_of}
 use Rattle.nk_field.specs.Act.{act_then, left_without}
 use Rattle.nk_store.specs.declared.node.Node.{Node}
@@ -10,7 +9,8 @@ use Rattle.nk_store.specs.declared.node.Out.{Out}
 use Rattle.nk_store.specs.Nodes.{node_at, child_at}
 pub use Rattle.nk_store.specs.Nodes.{is_empty_leaf}
 use Rattle.nk_store.specs.Held.{Held}
-use Rattle.nk_store.specs.Diagram.{Diagram, Branches, leaf, case, no_branch, branch}
+use Rattle.nk_store.specs.Diagram.{Diagram}
+use Rattle.nk_store.specs.Trees.{tree_in}
 use Rattle.nk_store.specs.Intervals.{counted}
 use Rattle.nk_table.specs.declared.Bucket.{Bucket}
 use Rattle.nk_table.specs.declared.Exit.{Exit}
@@ -76,24 +76,9 @@ abbrev pub at_switch : ℕ → ℕ → Node → ℕ
 at_switch sw d (Leaf outs) = d
 at_switch sw d (Case f parts) = if f == 0 then child_at 0 parts sw else d
 
--- the branches of a node, by the trees of its children
-abbrev pub branches_of : List (ℕ × ℕ) → (ℕ → Diagram (List Bucket)) → Branches (List Bucket)
-branches_of [] tree = no_branch
-branches_of (p ∷ ps) tree = branch p.0 (tree p.1) (branches_of ps tree)
-
--- a node as a tree, by the trees of its children
-abbrev pub node_tree : ℕ → Node → (ℕ → Diagram (List Bucket)) → Diagram (List Bucket)
-node_tree tag (Leaf outs) tree = leaf (bucket_list tag outs)
-node_tree tag (Case f parts) tree = case f (branches_of parts tree)
-
--- the tree of bucket lists of a number
-abbrev pub tree_in : ℕ → List Node → ℕ → Diagram (List Bucket)
-tree_in tag [] i = leaf []
-tree_in tag (n ∷ older) i = cond (eqb i (length older)) (node_tree tag n (λ c. tree_in tag older c)) (tree_in tag older i)
-
--- the tree of a diagram of the store
+-- the tree of bucket lists of a diagram of the store
 unfoldable pub tree_of : ℕ → Held → ℕ → Diagram (List Bucket)
-tree_of tag st d = tree_in tag st.nodes d
+tree_of tag st d = tree_in (bucket_list tag) st.nodes d
 
 -- the rows made of a tree's ways are its rows, where all bits fit
 abbrev pub RowsAreMade : Type 0

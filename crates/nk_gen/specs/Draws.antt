@@ -1,10 +1,6 @@
--- The generator of draws: the minimal standard of Park and Miller (Communications of the ACM 31, 1988) with the multiplier
--- of Park, Miller and Stockmeyer (Communications of the ACM 36, 1993).
-use Rattle.std.specs.Prelude.{ℕ, zero, suc, ◌+◌, ◌*◌, ◌%◌, List, [], ◌∷◌, take, drop, slice_index}
-
--- the draw after this one
-abbrev pub next_draw : ℕ → ℕ
-next_draw x = (48271 * x) % 2147483647
+-- The draws of a network: which of those behind a seed is for which of its parts.
+use Rattle.std.specs.Prelude.{ℕ, zero, suc, ◌+◌, ◌*◌, List, [], ◌∷◌, take, drop, slice_index}
+pub use Rattle.nk_draws.specs.Draws.{next_draw}
 
 -- so many draws behind a seed, in their order
 abbrev pub draws : ℕ → ℕ → List ℕ

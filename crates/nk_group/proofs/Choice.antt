@@ -2,13 +2,13 @@
 -- target names its buckets.
 use Rattle.std.proofs.Common.{◌≡◌, ℕ, ◌<◌, ◌≤◌, Bool, true, false, cond, ⊎_elim, Some, List, [], ◌∷◌, ◌++◌, refl, sym, ap, subst, ◌∙◌, arith}
 use Rattle.std.specs.Prelude.{◌&&◌, nat_lt, filter}
-use Rattle.std.specs.List.{list_all}
+use Rattle.std.specs.List.{list_all, AllByRecursion}
 use Rattle.std.proofs.lemmas.Bool.Decides.{nat_tests}
 use Rattle.nk_table.specs.declared.Group.{Group}
 use Rattle.nk_table.specs.declared.Plain.{Plain}
 use Rattle.nk_table.specs.declared.Row.{Row}
 use Rattle.nk_table.specs.Rules.{agrees, highest, buckets_of_row}
-use Rattle.nk_extract.specs.Chosen.{Every, agrees_with, matching}
+use Rattle.nk_extract.specs.Chosen.{agrees_with, matching}
 use Rattle.nk_extract.proofs.Lists.{every_append}
 use Rattle.nk_group.specs.Groups.{rows_after, groups_of, AreKept, GroupsKeepTheChoice}
 use Rattle.nk_group.proofs.Kept.{groups_keep_buckets}
@@ -43,14 +43,14 @@ not_lower : (m n : ℕ) → n ≤ m → nat_lt m n ≡ false
 not_lower m n h = grind (arith, nat_tests, h)
 
 -- rows that are below pass
-all_below : (n : ℕ) (rs : List Row) → Every (λ r. r.priority < n) rs → list_all (below n) rs ≡ true
+all_below : (n : ℕ) (rs : List Row) → AllByRecursion (λ r. r.priority < n) rs → list_all (below n) rs ≡ true
 all_below n [] e = refl
 all_below n (r ∷ rs) e = ap (λ b. b && list_all (below n) rs) (lower r.priority n e.0) ∙ all_below n rs e.1
 
 -- the rows kept for lower ones are lower
 kept_lower :
     (gs : List Group) (n : ℕ) (ps : List Plain) (rs : List Row) → AreKept gs ps rs
-    → Every (λ p. p.priority < n) ps → Every (λ r. r.priority < n) rs
+    → AllByRecursion (λ p. p.priority < n) ps → AllByRecursion (λ r. r.priority < n) rs
 kept_lower gs n [] [] k e = tt
 kept_lower gs n [] (r ∷ rs) k e = absurd k
 kept_lower gs n (p ∷ ps) [] k e = absurd k
@@ -79,8 +79,8 @@ fails_behind n (q ∷ pre) rs h = and_false (below n q) (list_all (below n) (pre
 -- the row kept for one above all others is the highest, and has its buckets
 highest_is :
     (gs : List Group) (pre : List Row) (a : List Plain) (p : Plain) (b : List Plain) (rs : List Row)
-    → Every (λ r. r.priority < p.priority) pre → Every (λ q. q.priority < p.priority) a
-    → Every (λ q. q.priority < p.priority) b → AreKept gs (a ++ p ∷ b) rs
+    → AllByRecursion (λ r. r.priority < p.priority) pre → AllByRecursion (λ q. q.priority < p.priority) a
+    → AllByRecursion (λ q. q.priority < p.priority) b → AreKept gs (a ++ p ∷ b) rs
     → buckets_of_row gs (highest pre rs) ≡ p.buckets
 highest_is gs pre [] p b [] e f g k = absurd k
 highest_is gs pre [] p b (r ∷ rs) e f g k =

@@ -1,4 +1,5 @@
 pub mod After
+pub mod Complements
 pub mod Crossings
 pub mod Distinct
 pub mod Histories

@@ -1,6 +1,7 @@
 -- The text of a policy without names: the form in which policies are printed.
-use Rattle.std.specs.Prelude.{ℕ, ◌||◌, Bool, true, false, if◌then◌else◌, List, [], ◌++◌, slice_index_or, codes, decimal}
+use Rattle.std.specs.Prelude.{ℕ, ◌||◌, Bool, true, false, if◌then◌else◌, List, [], ◌++◌, codes, decimal}
 use Rattle.nk_field.specs.Packet.{FieldTable}
+pub use Rattle.nk_field.specs.Texts.{name_of}
 use Rattle.nk_policy.specs.Policy.{Policy, Policies, test, assign, sum_of, seq_of, not_of, star_of, dup, link, no_part, part}
 
 -- there is a part
@@ -26,10 +27,6 @@ is_star _ = false
 -- the text in parentheses, where they are wanted
 abbrev pub enclosed : Bool → List ℕ → List ℕ
 enclosed wanted text = if wanted then codes "(" ++ text ++ codes ")" else text
-
--- the name of a field
-abbrev pub name_of : FieldTable → ℕ → List ℕ
-name_of fields f = slice_index_or fields.names f []
 
 -- `id` and `drop` for the empty sequence and sum, parts between ` + ` and between `;`. In parentheses stand a sum with
 -- parts everywhere but at the top, a sequence with parts but at the top and in a sum, and a star in a star.

@@ -25,9 +25,9 @@ sum2 p q = sum_of (part p (part q no_part))
 abbrev pub seq2 : Policy → Policy → Policy
 seq2 p q = seq_of (part p (part q no_part))
 
--- sw=1;pt=1;pt:=2;1:2=>2:1;pt:=2
-abbrev pub across : Policy
-across =
+-- sw=1;pt=1;pt:=2;1:2=>2:1;pt:=2, the link's dups numbered 1 and 2
+abbrev pub over_one_link : Policy
+over_one_link =
     seq_of (part (test 0 1) (part (test 1 1) (part (assign 1 2) (part (link 1 2 2 1 1) (part (assign 1 2) no_part)))))
 
 -- the policy has these histories from the start packet

@@ -18,7 +18,7 @@ ghost use Rattle.nk_policy.specs.Leaves.{has_leaf, is_dup, is_switch_assignment}
 ghost use Rattle.nk_policy.specs.Literals.{Literal, HoldsLiteral, IsAtSource};
 ghost use Rattle.nk_policy.specs.Crossings.{RecordsAtSources, IsBetween, IsOnLink};
 ghost use Rattle.nk_policy.specs.Ranges.{IsInRange, IsOver};
-ghost use Rattle.nk_policy.specs.Worked.{packet, start, ending, sum2, seq2, across, HasHistories, Keeps, Drops};
+ghost use Rattle.nk_policy.specs.Worked.{packet, start, ending, sum2, seq2, over_one_link, HasHistories, Keeps, Drops};
 
 /// A history is a run whose numbers are forgotten.
 pub fn a_history_is_a_run()
@@ -285,6 +285,6 @@ pub fn worked_histories()
     ensures link_from_here { HasHistories (link 1 1 2 5 1)
         (ending (packet 1 1 3 ∷ packet 2 5 3 ∷ []) (packet 2 5 3) ∷ []) }
     ensures link_from_elsewhere { Drops (link 1 2 2 1 1) }
-    ensures path { HasHistories across
+    ensures path { HasHistories over_one_link
         (ending (packet 1 2 3 ∷ packet 2 1 3 ∷ []) (packet 2 2 3) ∷ []) }
 {}

@@ -13,7 +13,7 @@ use Rattle.nk_field.specs.Order.{Found, Precedes, AllPrecede, IsLess}
 use Rattle.nk_field.proofs.Lists.{In, contains_from_in}
 use Rattle.nk_table.specs.declared.Tables.{Tables}
 use Rattle.nk_sim.specs.declared.tracing.Traced.{Traced}
-use Rattle.nk_sim.specs.Traces.{AreInOrder, IsTrace, found, histories_before}
+use Rattle.nk_sim.specs.Traces.{AreOrderedFrom, IsTrace, found, histories_before}
 use Rattle.nk_sim.proofs.Orders.{history_cmp, history_cmp_total}
 
 -- two things in order by their first parts, then by the others, are so one way alone
@@ -99,7 +99,7 @@ once_more x hs = sum_by-cons (once_at x) x hs ∙ ap (λ o. one_if (is_eq o) + t
 
 module _ (pk : List ℕ) where
   -- the first one is each member, or comes before it
-  first_of_all : (b a : History) (bs : List History) → AreInOrder pk (b ∷ bs) → In (b ∷ bs) a → (b ≡ a) ⊎ IsLess (found pk b) (found pk a)
+  first_of_all : (b a : History) (bs : List History) → AreOrderedFrom pk (b ∷ bs) → In (b ∷ bs) a → (b ≡ a) ⊎ IsLess (found pk b) (found pk a)
   first_of_all b a bs up i =
       ⊎_elim (λ e. inl (sym e)) (λ r.
       let c = contains_from_in bs a r in
@@ -108,14 +108,14 @@ module _ (pk : List ℕ) where
       subst (λ (h : History). (b ≡ h) ⊎ IsLess (found pk b) (found pk h)) c.2 (up 0 (suc c.0) a lt within)) i
 
   -- those behind it are in order
-  behind_in_order : (b : History) (bs : List History) → AreInOrder pk (b ∷ bs) → AreInOrder pk bs
+  behind_in_order : (b : History) (bs : List History) → AreOrderedFrom pk (b ∷ bs) → AreOrderedFrom pk bs
   behind_in_order b bs up = λ i j d lt less.
       let more : suc i < suc j = omega (arith, lt) in
       let within : suc j < length (b ∷ bs) = omega (arith, less) in
       up (suc i) (suc j) d more within
 
   -- lists in order with each history as often are the same
-  pub one_order : (xs ys : List History) → AreInOrder pk xs → AreInOrder pk ys → ((x : History) → times x xs ≡ times x ys) → xs ≡ ys
+  pub one_order : (xs ys : List History) → AreOrderedFrom pk xs → AreOrderedFrom pk ys → ((x : History) → times x xs ≡ times x ys) → xs ≡ ys
   one_order [] [] up vp e = refl
   one_order [] (b ∷ bs) up vp e = absurd (omega (arith, e b, once_more b bs))
   one_order (a ∷ as') [] up vp e = absurd (omega (arith, e a, once_more a as'))

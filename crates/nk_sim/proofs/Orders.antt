@@ -15,7 +15,7 @@ use Rattle.std.proofs.lemmas.List.Sorted.{sorted_far, ranks_by}
 use Rattle.nk_field.specs.declared.history.History.{History}
 use Rattle.nk_field.specs.Order.{Precedes, AllPrecede, IsLess}
 use Rattle.nk_sim.specs.Flights.{AreAlike}
-use Rattle.nk_sim.specs.Traces.{AreInOrder, found}
+use Rattle.nk_sim.specs.Traces.{AreOrderedFrom, found}
 use Rattle.nk_sim.proofs.Sizes.{Long, IsHistorySized}
 
 -- two lists of numbers of one length: the same, or the first precedes, where the order isn't Greater
@@ -78,7 +78,7 @@ histories_ranked pk n m g h a b =
     by_records Equal Greater p q = inr (b.0 ∙ sym a.0, inr (refl, inr (sym p, q)))
 
 -- sorted histories are in order
-pub sorted_in_order : (hs : List History) → IsSorted history_cmp hs → AreAlike hs → (pk : List ℕ) → AreInOrder pk hs
+pub sorted_in_order : (hs : List History) → IsSorted history_cmp hs → AreAlike hs → (pk : List ℕ) → AreOrderedFrom pk hs
 sorted_in_order hs up alike pk = λ i j d lt less.
     let g : History = slice_index_or hs i d in
     let h : History = slice_index_or hs j d in
@@ -107,8 +107,8 @@ pairs_joined R (x ∷ xs) ys a b h =
     b (All-tail (λ x. All (R x) ys) x xs h))
 
 -- histories in order, and then others in order that have more records
-pub in_order_joined : (pk : List ℕ) (gs hs : List History) → AreInOrder pk gs → AreInOrder pk hs
+pub in_order_joined : (pk : List ℕ) (gs hs : List History) → AreOrderedFrom pk gs → AreOrderedFrom pk hs
     → ((i : ℕ) (d : History) → i < length gs → (j : ℕ) (e : History) → j < length hs → length (slice_index_or gs i d).records < length (slice_index_or hs j e).records)
-    → AreInOrder pk (gs ++ hs)
+    → AreOrderedFrom pk (gs ++ hs)
 in_order_joined pk gs hs a b more =
     pairs_joined (λ (g h : History). (g ≡ h) ⊎ IsLess (found pk g) (found pk h)) gs hs a b (λ i d lt j e less. inr (inl (more i d lt j e less)))

@@ -18,7 +18,7 @@ use Rattle.nk_sim.specs.declared.flight.Flying.{Flying}
 use Rattle.nk_sim.specs.declared.tracing.State.{State}
 use Rattle.nk_sim.specs.declared.tracing.Traced.{Traced}
 use Rattle.nk_sim.specs.Flights.{HaveTrails, copy_of, copies_of, sent_flying, crossed, leaves, left_by, AreCrossed, AreWaiting, IsAt, AreAlike, IsSortedFrom}
-use Rattle.nk_sim.specs.Traces.{as_history, histories_after, histories_before, AreInOrder, IsTrace}
+use Rattle.nk_sim.specs.Traces.{as_history, histories_after, histories_before, AreOrderedFrom, IsTrace}
 use Rattle.nk_sim.proofs.Trails.{Has}
 use Rattle.nk_sim.proofs.Sizes.{all_joined, IsHistorySized, after_sized, before_shorter}
 use Rattle.nk_sim.proofs.Orders.{in_order_joined}
@@ -92,8 +92,8 @@ leave_after t pk k cs fs sent are e =
 
 -- the histories so far, and those that leave next
 pub all_next : (t : Tables) (pk : List ℕ) (k : ℕ) (so_far left later all : List History) → IsPermutation (histories_before t k pk) so_far
-    → AreInOrder pk so_far → left ≡ histories_after t k pk → all ≡ so_far ++ later → IsSortedFrom left later
-    → IsPermutation (histories_before t (k + 1) pk) all × AreInOrder pk all
+    → AreOrderedFrom pk so_far → left ≡ histories_after t k pk → all ≡ so_far ++ later → IsSortedFrom left later
+    → IsPermutation (histories_before t (k + 1) pk) all × AreOrderedFrom pk all
 all_next t pk k so_far left later all before ordered e joined sorted =
     let after : IsPermutation (histories_after t k pk) later = subst (λ l. IsPermutation l later) e sorted.all in
     let alike : AreAlike left = (length pk, k + k, subst (All (IsHistorySized (length pk) (k + k))) (sym e) (after_sized t k pk)) in
@@ -103,7 +103,7 @@ all_next t pk k so_far left later all before ordered e joined sorted =
     All-permutation (IsHistorySized (length pk) (k + k)) (histories_after t k pk) later after (after_sized t k pk) in (
       subst (λ n. IsPermutation (histories_before t n pk) all) (sym (add-one k)) (subst (IsPermutation (histories_before t (suc k) pk)) (sym joined)
           (IsPermutation-append (histories_before t k pk) so_far (histories_after t k pk) later before after)),
-      subst (AreInOrder pk) (sym joined)
+      subst (AreOrderedFrom pk) (sym joined)
           (in_order_joined pk so_far later ordered (sorted.ordered alike pk)
           (λ i d lt j e less. let low = short i d lt in let high = size j e less in omega (arith, low, high.0))),
     )
@@ -145,7 +145,7 @@ pub seen_at_end : (t : Tables) (pk : List ℕ) (hops : ℕ) (s : State) (traced 
     → traced.histories ≡ s.histories.items → traced.flying ≡ length s.waiting.items → IsTrace t hops pk traced
 seen_at_end t pk hops s traced is e flying = record {
   all = subst (IsPermutation (histories_before t (hops + 1) pk)) (sym e) is.all;
-  ordered = subst (AreInOrder pk) (sym e) is.ordered;
+  ordered = subst (AreOrderedFrom pk) (sym e) is.ordered;
   flying = flying ∙ sym (length-map s.waiting.items (copy_of s.crossings.items (hops + 1))) ∙ ap length is.waits.copies;
 }
 
@@ -159,6 +159,6 @@ seen_early t pk k hops s traced is none less e flying =
       all = subst (λ n. IsPermutation (histories_before t n pk) traced.histories) there
           (subst (λ l. IsPermutation l traced.histories) (sym (all_left t k ((hops + 1) - k) pk empty))
           (subst (IsPermutation (histories_before t k pk)) (sym e) is.all));
-      ordered = subst (AreInOrder pk) (sym e) is.ordered;
+      ordered = subst (AreOrderedFrom pk) (sym e) is.ordered;
       flying = flying ∙ none ∙ sym (ap length (ap (λ n. waiting t n pk) (sym there) ∙ none_waits t k ((hops + 1) - k) pk empty));
     }

@@ -11,7 +11,7 @@ use Rattle.nk_table.specs.Hops.{Copy, moved_to, across, leaving, waiting}
 use Rattle.nk_sim.specs.declared.flight.Crossing.{Crossing}
 use Rattle.nk_sim.specs.declared.flight.Flying.{Flying}
 use Rattle.nk_sim.specs.declared.tracing.State.{State}
-use Rattle.nk_sim.specs.Traces.{as_history, histories_before, AreInOrder}
+use Rattle.nk_sim.specs.Traces.{as_history, histories_before, AreOrderedFrom}
 
 -- the crossing at a place
 abbrev pub crossing_at : List Crossing → ℕ → Crossing
@@ -84,7 +84,7 @@ pub record AreWaiting (t : Tables) (pk : List ℕ) (k : ℕ) (cs : List Crossing
 pub record IsAt (t : Tables) (pk : List ℕ) (k : ℕ) (s : State) : Type 0 where
   pub waits : AreWaiting t pk k s.crossings.items s.waiting.items
   pub all : IsPermutation (histories_before t k pk) s.histories.items
-  pub ordered : AreInOrder pk s.histories.items
+  pub ordered : AreOrderedFrom pk s.histories.items
 
 -- records and last packets of histories are of the same lengths, and there are as many records
 abbrev pub AreAlike : List History → Type 0
@@ -93,4 +93,4 @@ AreAlike hs = (n m : ℕ) × All (λ (h : History). (length h.records ≡ m) × 
 -- the same histories, in order where they are alike
 pub record IsSortedFrom (hs sorted : List History) : Type 0 where
   pub all : IsPermutation hs sorted
-  pub ordered : AreAlike hs → (pk : List ℕ) → AreInOrder pk sorted
+  pub ordered : AreAlike hs → (pk : List ℕ) → AreOrderedFrom pk sorted

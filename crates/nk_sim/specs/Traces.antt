@@ -25,12 +25,12 @@ abbrev pub found : List ℕ → History → Found
 found pk h = record { start = pk; records = h.records; last = h.last }
 
 -- each history is the same as each later one, or comes before it
-abbrev pub AreInOrder : List ℕ → List History → Type 0
-AreInOrder pk hs = AllPairs (λ g h. (g ≡ h) ⊎ IsLess (found pk g) (found pk h)) hs
+abbrev pub AreOrderedFrom : List ℕ → List History → Type 0
+AreOrderedFrom pk hs = AllPairs (λ g h. (g ≡ h) ⊎ IsLess (found pk g) (found pk h)) hs
 
 -- all histories that leave after at most so many crossings, each as often as it leaves, in order; and how many copies
 -- would make one crossing more
 pub record IsTrace (t : Tables) (hops : ℕ) (pk : List ℕ) (traced : Traced) : Type 0 where
   pub all : IsPermutation (histories_before t (hops + 1) pk) traced.histories
-  pub ordered : AreInOrder pk traced.histories
+  pub ordered : AreOrderedFrom pk traced.histories
   pub flying : traced.flying ≡ length (waiting t (hops + 1) pk)

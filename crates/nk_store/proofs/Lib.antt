@@ -8,3 +8,4 @@ pub mod InRange
 pub mod Ordered
 pub mod Kept
 pub mod Children
+pub mod Trees

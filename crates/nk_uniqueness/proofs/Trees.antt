@@ -8,7 +8,7 @@ use Rattle.nk_store.specs.Nodes.{InRange}
 use Rattle.nk_store.specs.Diagram.{Diagram, Branches, leaf, case, no_branch, branch, leaf_at, leaf_among, IsReduced, AreReduced}
 use Rattle.nk_store.proofs.Same.{set_in_range}
 use Rattle.nk_table.specs.declared.Bucket.{Bucket}
-use Rattle.nk_extract.specs.Buckets.{key_of, tag_of, IsBucketBefore}
+use Rattle.nk_extract.specs.Buckets.{bucket_key, tag_of, IsBucketBefore}
 use Rattle.nk_compile.specs.PrintedTable.{IsBucketList, IsTreeOf}
 use Rattle.nk_cert.proofs.OneTree.{one_tree}
 use Rattle.nk_compile.proofs.Orders.{lex_once, listed_once, same_sorted}
@@ -50,7 +50,7 @@ over_all maxima (case f bs) r = (omega (arith, r.0), r.1, r.2)
 -- of two buckets at most one comes before the other
 bucket_once : (tag : ℕ) (a b : Bucket) → IsBucketBefore tag a b → IsBucketBefore tag b a → ⊥
 bucket_once tag a b =
-    lex_once IsListedBefore listed_once (key_of tag a) (key_of tag b) (listed_once (tag_of tag a) (tag_of tag b))
+    lex_once IsListedBefore listed_once (bucket_key tag a) (bucket_key tag b) (listed_once (tag_of tag a) (tag_of tag b))
 
 -- the bucket list of a state at a packet is one
 pub one_bucket_list : (width tag : ℕ) (p : Policy) (tags : List (List ℕ)) (t : ℕ) (pk : List ℕ) (xs ys : List Bucket)

@@ -4,7 +4,7 @@ use Rattle.std.specs.Prelude.{slice_index, slice_set}
 use Rattle.nk_policy.specs.Policy.{test, assign, link, no_part, part}
 use Rattle.nk_policy.specs.Meaning.{Way, keep, keep_where, set_field, record_as, followed_by, way_of_all, Gives}
 use Rattle.nk_policy.specs.Progress.{Marked, Front, numbered, no_dup, at_dup, within_either, RecordsAt, AllRecordAt}
-use Rattle.nk_worked.specs.TwoSwitches.{crossing, after_link}
+use Rattle.nk_worked.specs.TwoSwitches.{over_one_link, behind_link}
 
 -- a kept packet goes on
 past_keep : {A : Type 0} (rest : Way A) (pk : List ℕ) (w : List A) (y : List ℕ)
@@ -57,7 +57,7 @@ abbrev pub far : List ℕ → List ℕ
 far pk = slice_set (slice_set (near pk) 0 2) 1 1
 
 -- a run of the whole policy begins at 1:1 and has the two records
-pub crossed : (pk : List ℕ) (w : List (List ℕ)) (y : List ℕ) → Gives crossing pk w y
+pub crossed : (pk : List ℕ) (w : List (List ℕ)) (y : List ℕ) → Gives over_one_link pk w y
     → (slice_index pk 0 ≡ 1) × (slice_index pk 1 ≡ 1) × (w ≡ near pk ∷ far pk ∷ []) × (y ≡ slice_set (far pk) 1 2)
 crossed pk w y h =
     let last = part (assign 1 2) no_part in
@@ -117,7 +117,7 @@ at_link pk u x l h =
     b.1
 
 -- in the whole policy
-pub at_dups : (pk : List ℕ) (u : Marked) (x : List ℕ) (l : ℕ) → RecordsAt crossing pk u x l
+pub at_dups : (pk : List ℕ) (u : Marked) (x : List ℕ) (l : ℕ) → RecordsAt over_one_link pk u x l
     → (slice_index pk 0 ≡ 1) × (slice_index pk 1 ≡ 1) × At (near pk) u x l
 at_dups pk u x l h =
     let last = part (assign 1 2) no_part in
@@ -130,7 +130,7 @@ at_dups pk u x l h =
     )
 
 -- a packet at 1:1 is recorded on the near end
-pub recorded : (r : List ℕ) → RecordsAt crossing (1 ∷ 1 ∷ r) [] (1 ∷ 2 ∷ r) 1
+pub recorded : (r : List ℕ) → RecordsAt over_one_link (1 ∷ 1 ∷ r) [] (1 ∷ 2 ∷ r) 1
 recorded r =
     inr (
       [],
@@ -171,18 +171,18 @@ recorded r =
     )
 
 -- behind the link the packet goes to port 2
-pub rest_sets : (pk : List ℕ) (w : List (List ℕ)) (y : List ℕ) → Gives after_link pk w y → (w ≡ []) × (y ≡ slice_set pk 1 2)
+pub rest_sets : (pk : List ℕ) (w : List (List ℕ)) (y : List ℕ) → Gives behind_link pk w y → (w ≡ []) × (y ≡ slice_set pk 1 2)
 rest_sets pk w y h =
     let k = past_keep keep pk h.0 h.2 h.4 in
     let z : way_of_all (part (assign 1 2) no_part) (λ l x. x) pk w y = subst (λ z. way_of_all (part (assign 1 2) no_part) (λ l x. x) z w y) k.1 (subst (λ v. way_of_all (part (assign 1 2) no_part) (λ l x. x) h.2 v y) (sym (h.3 ∙ ap (λ u. u ++ h.1) k.0)) h.5) in
     past_set 1 2 keep pk w y z
 
-pub rest_given : (pk : List ℕ) → Gives after_link pk [] (slice_set pk 1 2)
+pub rest_given : (pk : List ℕ) → Gives behind_link pk [] (slice_set pk 1 2)
 rest_given pk =
     ([], [], pk, refl, ([], [], pk, refl, (refl, refl), (refl, refl)), ([], [], slice_set pk 1 2, refl, (refl, refl), (refl, refl)))
 
 -- and is recorded no more
-pub rest_records_nothing : (pk : List ℕ) (u : Marked) (x : List ℕ) (l : ℕ) → RecordsAt after_link pk u x l → ⊥
+pub rest_records_nothing : (pk : List ℕ) (u : Marked) (x : List ℕ) (l : ℕ) → RecordsAt behind_link pk u x l → ⊥
 rest_records_nothing pk u x l h =
     ⊎_elim
     (λ a. ⊎_elim (λ n. n) (λ r. r.5) a)

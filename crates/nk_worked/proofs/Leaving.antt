@@ -1,7 +1,7 @@
 -- What enters at 1:1 leaves after one crossing.
 use Rattle.std.proofs.Common.{ℕ, List, refl, ap, ◌∙◌}
 use Rattle.nk_policy.specs.Meaning.{Gives}
-use Rattle.nk_worked.specs.TwoSwitches.{crossing}
+use Rattle.nk_worked.specs.TwoSwitches.{over_one_link}
 use Rattle.nk_worked.specs.TheirTable.{entering, its_history, LeavesAfterOneCrossing}
 use Rattle.nk_worked.proofs.Crossing.{crossed}
 use Rattle.nk_worked.proofs.TagSet.{starts}
@@ -9,7 +9,7 @@ use Rattle.nk_worked.proofs.States.{there}
 use Rattle.nk_worked.proofs.Program.{carried}
 
 -- the history is the policy's, since the tables carry it
-pub given : Gives crossing entering its_history.records its_history.packet
+pub given : Gives over_one_link entering its_history.records its_history.packet
 given = ((carried.exactly 1 entering starts its_history.records its_history.packet).0 (there its_history)).0
 
 pub leaves : LeavesAfterOneCrossing

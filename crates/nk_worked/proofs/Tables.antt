@@ -14,7 +14,7 @@ use Rattle.nk_store.specs.Diagram.{leaf}
 use Rattle.nk_table.specs.Worked.{one_link}
 use Rattle.nk_compile.specs.PrintedTable.{IsTreeOf}
 use Rattle.nk_compile.specs.WholeTable.{HasRowsAt, TagTree, IsSwitchTable, IsTableOf, link_end}
-use Rattle.nk_worked.specs.TwoSwitches.{dst_and_tag, crossing, one_set, first_table, second_table, two_tables}
+use Rattle.nk_worked.specs.TwoSwitches.{dst_and_tag, over_one_link, one_set, first_table, second_table, two_tables}
 use Rattle.nk_worked.specs.TheirTable.{IsPrintedThere}
 use Rattle.nk_worked.proofs.States.{only_one, there, one_ascends, is_the_set}
 use Rattle.nk_worked.proofs.Trees.{first_tree, second_tree, first_tree_is, empty_tree_is, second_tree_is}
@@ -33,26 +33,26 @@ not_there : (n : ℕ) → n ≡ 1 → Some 2 ≡ Some n → ⊥
 not_there n one e = let two : 2 ≡ n = cc in omega (arith, one, two)
 
 -- a tag above 0 with rows at a switch is tag 1, and its link ends there
-rows_of_one : (sw t : ℕ) → HasRowsAt crossing one_set sw (suc t) → (t ≡ 0) × (Some 2 ≡ Some sw)
+rows_of_one : (sw t : ℕ) → HasRowsAt over_one_link one_set sw (suc t) → (t ≡ 0) × (Some 2 ≡ Some sw)
 rows_of_one sw t h =
     let s = is_the_set t h.0 h.2 in
     let l : h.1 ≡ 1 = only_one 1 h.1 (subst (λ ls. Contains ls h.1) s.1 h.3) in
-    (s.0, subst (λ k. link_end crossing k ≡ Some sw) l h.4)
+    (s.0, subst (λ k. link_end over_one_link k ≡ Some sw) l h.4)
 
 -- switch 1 has rows of tag 0 alone
-at_first : (t : ℕ) → Contains (0 ∷ []) t ↔ HasRowsAt crossing one_set 1 t
+at_first : (t : ℕ) → Contains (0 ∷ []) t ↔ HasRowsAt over_one_link one_set 1 t
 at_first zero = (λ c. tt, λ h. there 0)
 at_first (suc t) = (
   λ c. let e : suc t ≡ 0 = only_one 0 (suc t) c in absurd (omega (arith, e)),
   λ h. absurd (not_there 1 refl (rows_of_one 1 t h).1),
 )
 
-pub first_is : IsSwitchTable dst_and_tag 3 crossing one_set first_table
+pub first_is : IsSwitchTable dst_and_tag 3 over_one_link one_set first_table
 first_is = record {
   trees = record { tag = 0; tree = first_tree } ∷ [];
   ascending = one_ascends 0;
   exactly = at_first;
-  each = all_of_one (λ (e : TagTree). IsTreeOf dst_and_tag 3 crossing one_set e.tag 1 e.tree) (record { tag = 0; tree = first_tree }) first_tree_is;
+  each = all_of_one (λ (e : TagTree). IsTreeOf dst_and_tag 3 over_one_link one_set e.tag 1 e.tree) (record { tag = 0; tree = first_tree }) first_tree_is;
   groups = refl;
   rows = refl;
 }
@@ -63,32 +63,32 @@ two_ascend =
     increasing_from (0 ∷ 1 ∷ []) (λ y i. ⊎_elim (λ e. omega (arith, e)) (λ n. absurd n) i, (λ y i. absurd i, tt))
 
 -- tag 1 has rows at switch 2
-one_has_rows : HasRowsAt crossing one_set 2 1
+one_has_rows : HasRowsAt over_one_link one_set 2 1
 one_has_rows = (1 ∷ [], 1, refl, there 1, refl)
 
 -- switch 2 has rows of tag 0, of which none is printed, and of tag 1
-at_second : (t : ℕ) → Contains (0 ∷ 1 ∷ []) t ↔ HasRowsAt crossing one_set 2 t
+at_second : (t : ℕ) → Contains (0 ∷ 1 ∷ []) t ↔ HasRowsAt over_one_link one_set 2 t
 at_second zero = (λ c. tt, λ h. contains_from_in (0 ∷ 1 ∷ []) 0 (inl refl))
 at_second (suc t) = (
   λ c. ⊎_elim
       (λ e. absurd (omega (arith, e)))
-      (λ r. ⊎_elim (λ e. subst (λ k. HasRowsAt crossing one_set 2 k) (sym e) one_has_rows) (λ n. absurd n) r)
+      (λ r. ⊎_elim (λ e. subst (λ k. HasRowsAt over_one_link one_set 2 k) (sym e) one_has_rows) (λ n. absurd n) r)
       (in_from_contains (0 ∷ 1 ∷ []) (suc t) c),
   λ h. contains_from_in (0 ∷ 1 ∷ []) (suc t) (inr (inl (ap suc (rows_of_one 2 t h).0))),
 )
 
-pub second_is : IsSwitchTable dst_and_tag 3 crossing one_set second_table
+pub second_is : IsSwitchTable dst_and_tag 3 over_one_link one_set second_table
 second_is = record {
   trees = record { tag = 0; tree = leaf [] } ∷ record { tag = 1; tree = second_tree } ∷ [];
   ascending = two_ascend;
   exactly = at_second;
-  each = all_of_two (λ (e : TagTree). IsTreeOf dst_and_tag 3 crossing one_set e.tag 2 e.tree)
+  each = all_of_two (λ (e : TagTree). IsTreeOf dst_and_tag 3 over_one_link one_set e.tag 2 e.tree)
       (record { tag = 0; tree = leaf [] }) (record { tag = 1; tree = second_tree }) empty_tree_is second_tree_is;
   groups = refl;
   rows = refl;
 }
 
-pub table_is : IsTableOf dst_and_tag one_link (IsStart dst_and_tag one_link) crossing two_tables
+pub table_is : IsTableOf dst_and_tag one_link (IsStart dst_and_tag one_link) over_one_link two_tables
 table_is = record {
   tag = 3;
   tags = one_set;
@@ -97,7 +97,7 @@ table_is = record {
   same_fields = refl;
   same_topology = refl;
   switches = refl;
-  each = all_of_two (IsSwitchTable dst_and_tag 3 crossing one_set) first_table second_table first_is second_is;
+  each = all_of_two (IsSwitchTable dst_and_tag 3 over_one_link one_set) first_table second_table first_is second_is;
 }
 
 -- one name is distinct
@@ -142,11 +142,11 @@ false_not_true : false ≡ true → ⊥
 false_not_true e = cc
 
 -- no two of its dups have one number
-distinct : HasDistinct crossing
+distinct : HasDistinct over_one_link
 distinct = (tt, (tt, (tt, (tt, (tt, tt, λ l h. absurd (false_not_true h)), λ l h. absurd (false_not_true h)), λ l h. refl), λ l h. refl), λ l h. refl)
 
 -- its assignments are in range
-pub in_range : IsInRange crossing dst_and_tag
+pub in_range : IsInRange over_one_link dst_and_tag
 in_range = (tt, (tt, (omega arith, ((omega arith, omega arith), (omega arith, tt)))))
 
 pub printed : IsPrintedThere

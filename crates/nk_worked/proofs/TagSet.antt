@@ -11,7 +11,7 @@ use Rattle.nk_policy.specs.Labels.{IsAt, IsLabelSet, IsTagSet}
 use Rattle.nk_policy.specs.Tags.{AreTags}
 use Rattle.nk_names.specs.Accepted.{IsStart, IsCompilable}
 use Rattle.nk_table.specs.Worked.{one_link}
-use Rattle.nk_worked.specs.TwoSwitches.{dst_and_tag, crossing, one_set}
+use Rattle.nk_worked.specs.TwoSwitches.{dst_and_tag, over_one_link, one_set}
 use Rattle.nk_worked.specs.TheirTable.{entering}
 use Rattle.nk_worked.proofs.Packets.{is_packet, from_front}
 use Rattle.nk_worked.proofs.Crossing.{near, crossed, at_dups, recorded}
@@ -26,18 +26,18 @@ abbrev pub its_rest : List ℕ
 its_rest = 3 ∷ 0 ∷ 0 ∷ 0 ∷ 0 ∷ 0 ∷ 0 ∷ 0 ∷ 0 ∷ 0 ∷ 0 ∷ 0 ∷ 0 ∷ 0 ∷ 0 ∷ 0 ∷ []
 
 -- a run ends on an edge port, 2:2
-ends : (pk : List ℕ) → length pk ≡ 18 → (w : List (List ℕ)) (last : List ℕ) → Gives crossing pk w last
+ends : (pk : List ℕ) → length pk ≡ 18 → (w : List (List ℕ)) (last : List ℕ) → Gives over_one_link pk w last
     → IsTrue (is_edge one_link (slice_index last 0) (slice_index last 1))
 ends pk places =
     from_front
-    (λ p. (w : List (List ℕ)) (last : List ℕ) → Gives crossing p w last → IsTrue (is_edge one_link (slice_index last 0) (slice_index last 1)))
+    (λ p. (w : List (List ℕ)) (last : List ℕ) → Gives over_one_link p w last → IsTrue (is_edge one_link (slice_index last 0) (slice_index last 1)))
     (λ sw pt r w last g.
     let c = crossed (sw ∷ pt ∷ r) w last g in
     subst (λ x. IsTrue (is_edge one_link (slice_index x 0) (slice_index x 1))) (sym c.3) refl)
     pk
     places
 
-pub compilable : IsCompilable dst_and_tag one_link crossing
+pub compilable : IsCompilable dst_and_tag one_link over_one_link
 compilable = record {
   tag = 3;
   tag_declared = refl;
@@ -49,7 +49,7 @@ compilable = record {
 }
 
 -- after an odd number of records a run is at dup 1
-at_one : (pk : List ℕ) (u : List (List ℕ)) (n l : ℕ) → length u ≡ 2 * n + 1 → IsAt crossing pk u l → l ≡ 1
+at_one : (pk : List ℕ) (u : List (List ℕ)) (n l : ℕ) → length u ≡ 2 * n + 1 → IsAt over_one_link pk u l → l ≡ 1
 at_one pk u n l odd h =
     ⊎_elim
     (λ a. a.2)
@@ -69,31 +69,31 @@ one_alone (a ∷ b ∷ r) filled up only =
     absurd (omega (arith, (rising_from (a ∷ b ∷ r) up).0 b (inl refl), first, second))
 
 -- a tag set is the one
-pub is_the_one : (s : List ℕ) → IsTagSet crossing (λ pk. IsStart dst_and_tag one_link pk) s → s ≡ 1 ∷ []
+pub is_the_one : (s : List ℕ) → IsTagSet over_one_link (λ pk. IsStart dst_and_tag one_link pk) s → s ≡ 1 ∷ []
 is_the_one s h = one_alone s h.5.0 h.5.1.0 (λ l c. at_one h.0 h.1 h.2 l h.4 ((h.5.1.1 l).0 c))
 
 -- the numbers at which the packet can be that has crossed to the near end
-labels : IsLabelSet crossing entering (near entering ∷ []) (1 ∷ [])
+labels : IsLabelSet over_one_link entering (near entering ∷ []) (1 ∷ [])
 labels = (
   λ e. not_empty 1 [] (sym e),
   (
     one_ascends 1,
     λ l. (
-      λ c. ([], near entering, refl, subst (λ k. RecordsAt crossing entering [] (near entering) k) (sym (only_one 1 l c)) (recorded its_rest)),
+      λ c. ([], near entering, refl, subst (λ k. RecordsAt over_one_link entering [] (near entering) k) (sym (only_one 1 l c)) (recorded its_rest)),
       λ h. subst (λ k. Contains (1 ∷ []) k) (sym (at_one entering (near entering ∷ []) 0 l refl h)) (there 1),
     ),
   ),
 )
 
 -- it is one
-pub is_one : IsTagSet crossing (λ pk. IsStart dst_and_tag one_link pk) (1 ∷ [])
+pub is_one : IsTagSet over_one_link (λ pk. IsStart dst_and_tag one_link pk) (1 ∷ [])
 is_one = (entering, near entering ∷ [], 0, starts, refl, labels)
 
 -- the tag sets in their order
-pub are_tags : AreTags crossing (IsStart dst_and_tag one_link) one_set
+pub are_tags : AreTags over_one_link (IsStart dst_and_tag one_link) one_set
 are_tags = record {
   exactly = λ s. (
-    λ c. subst (λ q. IsTagSet crossing (λ pk. IsStart dst_and_tag one_link pk) q) (sym (only_one (1 ∷ []) s c)) is_one,
+    λ c. subst (λ q. IsTagSet over_one_link (λ pk. IsStart dst_and_tag one_link pk) q) (sym (only_one (1 ∷ []) s c)) is_one,
     λ h. subst (λ q. Contains one_set q) (sym (is_the_one s h)) (there (1 ∷ [])),
   );
   in_order = λ i j d lt less. absurd (omega (arith, lt, less));

@@ -9,7 +9,7 @@ use Rattle.nk_table.specs.declared.Exit.{Exit}
 use Rattle.nk_table.specs.declared.Exit.TheVariants.{Back, Port}
 use Rattle.nk_extract.specs.Buckets.{bucket_of, IsBucketBefore}
 use Rattle.nk_compile.specs.PrintedTable.{IsResult, IsBucketList, IsTreeOf}
-use Rattle.nk_worked.specs.TwoSwitches.{dst_and_tag, crossing, one_set, tagged}
+use Rattle.nk_worked.specs.TwoSwitches.{dst_and_tag, over_one_link, one_set, tagged}
 use Rattle.nk_worked.proofs.Packets.{from_front}
 use Rattle.nk_worked.proofs.States.{only_one, there, first_result, leads_over, second_result, leads_out}
 
@@ -25,17 +25,17 @@ one_before : {X : Type 0} (R : X → X → Type 0) (x : X) → AllPairs R (x ∷
 one_before R x i j d lt less = absurd (omega (arith, lt, less))
 
 -- the bucket list of a packet with no result is empty
-no_bucket : (t : ℕ) (pk : List ℕ) → ((x : List ℕ) (t' : ℕ) → IsResult crossing one_set t pk x t' → ⊥)
-    → IsBucketList 4 3 crossing one_set t pk []
+no_bucket : (t : ℕ) (pk : List ℕ) → ((x : List ℕ) (t' : ℕ) → IsResult over_one_link one_set t pk x t' → ⊥)
+    → IsBucketList 4 3 over_one_link one_set t pk []
 no_bucket t pk never = record {
   exactly = λ b. (λ c. absurd (in_from_contains [] b c), λ r. absurd (never r.0 r.1 r.2));
   in_order = none_before (IsBucketBefore 3);
 }
 
 -- that of a packet with one result is its bucket
-one_bucket : (t : ℕ) (pk x : List ℕ) (t' : ℕ) (b : Bucket) → IsResult crossing one_set t pk x t'
-    → ((y : List ℕ) (u : ℕ) → IsResult crossing one_set t pk y u → (y ≡ x) × (u ≡ t')) → bucket_of 4 3 pk x t' ≡ b
-    → IsBucketList 4 3 crossing one_set t pk (b ∷ [])
+one_bucket : (t : ℕ) (pk x : List ℕ) (t' : ℕ) (b : Bucket) → IsResult over_one_link one_set t pk x t'
+    → ((y : List ℕ) (u : ℕ) → IsResult over_one_link one_set t pk y u → (y ≡ x) × (u ≡ t')) → bucket_of 4 3 pk x t' ≡ b
+    → IsBucketList 4 3 over_one_link one_set t pk (b ∷ [])
 one_bucket t pk x t' b is only e = record {
   exactly = λ c. (
     λ h. (x, t', is, only_one b c h ∙ sym e),
@@ -104,22 +104,22 @@ out_leaf sw pt r most = elim (numbers_decided pt 2) [
 ]
 
 -- they are the trees
-pub first_tree_is : IsTreeOf dst_and_tag 3 crossing one_set 0 1 first_tree
+pub first_tree_is : IsTreeOf dst_and_tag 3 over_one_link one_set 0 1 first_tree
 first_tree_is = record {
   reduced = (omega arith, tt, (omega arith, tt, λ e. cc, (omega arith, tt, λ e. cc, (refl, tt, tt, tt))));
   tag_free = (λ e. omega (arith, e), (tt, (tt, (tt, tt))));
   leaves = λ pk ok.
       from_front
-      (λ p. slice_index p 0 ≡ 1 → IsBucketList 4 3 crossing one_set 0 p (leaf_at first_tree [] p))
+      (λ p. slice_index p 0 ≡ 1 → IsBucketList 4 3 over_one_link one_set 0 p (leaf_at first_tree [] p))
       (λ sw pt r at. elim (numbers_decided pt 1) [
         | inl one ↦
-            subst (λ s. IsBucketList 4 3 crossing one_set 0 (s ∷ pt ∷ r) (leaf_at first_tree [] (s ∷ pt ∷ r))) (sym at)
-            (subst (λ n. IsBucketList 4 3 crossing one_set 0 (1 ∷ n ∷ r) (leaf_at first_tree [] (1 ∷ n ∷ r))) (sym one)
+            subst (λ s. IsBucketList 4 3 over_one_link one_set 0 (s ∷ pt ∷ r) (leaf_at first_tree [] (s ∷ pt ∷ r))) (sym at)
+            (subst (λ n. IsBucketList 4 3 over_one_link one_set 0 (1 ∷ n ∷ r) (leaf_at first_tree [] (1 ∷ n ∷ r))) (sym one)
             (one_bucket 0 (1 ∷ 1 ∷ r) (1 ∷ 2 ∷ r) 1 (tagged 1 (Port 2)) (leads_over r)
             (λ y u res. let f = first_result (1 ∷ 1 ∷ r) y u res in (f.2, f.3)) (over_bucket r)))
         | inr other ↦
-            subst (λ s. IsBucketList 4 3 crossing one_set 0 (s ∷ pt ∷ r) (leaf_at first_tree [] (s ∷ pt ∷ r))) (sym at)
-            (subst (λ bs. IsBucketList 4 3 crossing one_set 0 (1 ∷ pt ∷ r) bs) (sym (elsewhere pt r other))
+            subst (λ s. IsBucketList 4 3 over_one_link one_set 0 (s ∷ pt ∷ r) (leaf_at first_tree [] (s ∷ pt ∷ r))) (sym at)
+            (subst (λ bs. IsBucketList 4 3 over_one_link one_set 0 (1 ∷ pt ∷ r) bs) (sym (elsewhere pt r other))
             (no_bucket 0 (1 ∷ pt ∷ r) (λ y u res. other (first_result (1 ∷ pt ∷ r) y u res).1)))
       ])
       pk
@@ -127,7 +127,7 @@ first_tree_is = record {
 }
 
 -- at switch 2 nothing that is untagged is sent
-pub empty_tree_is : IsTreeOf dst_and_tag 3 crossing one_set 0 2 (leaf [])
+pub empty_tree_is : IsTreeOf dst_and_tag 3 over_one_link one_set 0 2 (leaf [])
 empty_tree_is = record {
   reduced = tt;
   tag_free = tt;
@@ -140,15 +140,15 @@ ways_differ e =
     let b : tagged 0 (Port 2) ≡ tagged 0 Back = cc in
     let x : Port 2 ≡ Back = ap (λ (a : Bucket). a.exit) b in cc
 
-pub second_tree_is : IsTreeOf dst_and_tag 3 crossing one_set 1 2 second_tree
+pub second_tree_is : IsTreeOf dst_and_tag 3 over_one_link one_set 1 2 second_tree
 second_tree_is = record {
   reduced = (omega arith, tt, (omega arith, tt, λ e. ways_differ e, (omega arith, tt, λ e. ways_differ (sym e), (refl, tt, tt, tt))));
   tag_free = (λ e. omega (arith, e), (tt, (tt, (tt, tt))));
   leaves = λ pk ok at.
       from_front
-      (λ p. slice_index p 1 ≤ 65535 → IsBucketList 4 3 crossing one_set 1 p (leaf_at second_tree [] p))
+      (λ p. slice_index p 1 ≤ 65535 → IsBucketList 4 3 over_one_link one_set 1 p (leaf_at second_tree [] p))
       (λ sw pt r most.
-      subst (λ bs. IsBucketList 4 3 crossing one_set 1 (sw ∷ pt ∷ r) bs) (sym (out_leaf sw pt r most))
+      subst (λ bs. IsBucketList 4 3 over_one_link one_set 1 (sw ∷ pt ∷ r) bs) (sym (out_leaf sw pt r most))
       (one_bucket 1 (sw ∷ pt ∷ r) (sw ∷ 2 ∷ r) 0 (tagged 0 (out_exit pt)) (leads_out (sw ∷ pt ∷ r))
       (λ y u res. second_result (sw ∷ pt ∷ r) y u res) (out_bucket sw pt r)))
       pk

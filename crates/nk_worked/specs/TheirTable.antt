@@ -19,17 +19,17 @@ use Rattle.nk_tabtext.specs.InOrder.{AreInOrder}
 use Rattle.nk_tabtext.specs.Text.{table_bytes}
 use Rattle.nk_compile.specs.WholeTable.{IsTableOf}
 use Rattle.nk_compile.specs.Carries.{Carries}
-use Rattle.nk_worked.specs.TwoSwitches.{dst_and_tag, crossing, one_set, two_tables}
+use Rattle.nk_worked.specs.TwoSwitches.{dst_and_tag, over_one_link, one_set, two_tables}
 
 -- the tables are those that are printed for the policy, with all that the law asks of a compilable policy
 pub record IsPrintedThere : Type 0 where
   pub fields : IsFieldTable dst_and_tag
   pub links : AreLinks one_link
-  pub distinct : HasDistinct crossing
-  pub in_range : IsInRange crossing dst_and_tag
-  pub compilable : IsCompilable dst_and_tag one_link crossing
-  pub one_tag : AreTags crossing (IsStart dst_and_tag one_link) one_set
-  pub table : IsTableOf dst_and_tag one_link (IsStart dst_and_tag one_link) crossing two_tables
+  pub distinct : HasDistinct over_one_link
+  pub in_range : IsInRange over_one_link dst_and_tag
+  pub compilable : IsCompilable dst_and_tag one_link over_one_link
+  pub one_tag : AreTags over_one_link (IsStart dst_and_tag one_link) one_set
+  pub table : IsTableOf dst_and_tag one_link (IsStart dst_and_tag one_link) over_one_link two_tables
 
 -- the program whose one let has the name p
 abbrev pub program_of : Pol → Program
@@ -38,12 +38,12 @@ program_of q = record { fields = dst_and_tag; topo = one_link; lets = (codes "p"
 -- a program has the policy under the name p, with all that the law asks of an accepted policy; so the tables carry it
 pub record IsAcceptedThere : Type 0 where
   pub held : Pol
-  pub tree : tree_of held ≡ crossing
+  pub tree : tree_of held ≡ over_one_link
   pub program : IsProgram dst_and_tag one_link ((codes "p", held) ∷ [])
-  pub named : policy_named (program_of held) (codes "p") ≡ Some crossing
-  pub accepted : IsAccepted (program_of held) crossing
-  pub table : IsTableOf dst_and_tag one_link (IsStart dst_and_tag one_link) crossing two_tables
-  pub carries : Carries (program_of held) crossing two_tables
+  pub named : policy_named (program_of held) (codes "p") ≡ Some over_one_link
+  pub accepted : IsAccepted (program_of held) over_one_link
+  pub table : IsTableOf dst_and_tag one_link (IsStart dst_and_tag one_link) over_one_link two_tables
+  pub carries : Carries (program_of held) over_one_link two_tables
 
 -- the packet that enters at port 1 of switch 1 with dst 3, and the history with which it leaves
 abbrev pub entering : List ℕ
@@ -58,8 +58,8 @@ pub record LeavesAfterOneCrossing : Type 0 where
   pub not_at_once : left_after two_tables 0 entering ≡ []
   pub then : left_after two_tables 1 entering ≡ its_history ∷ []
   pub no_more : waiting two_tables 2 entering ≡ []
-  pub given : Gives crossing entering its_history.records its_history.packet
-  pub alone : (w : List (List ℕ)) (last : List ℕ) → Gives crossing entering w last → record { records = w; packet = last } ≡ its_history
+  pub given : Gives over_one_link entering its_history.records its_history.packet
+  pub alone : (w : List (List ℕ)) (last : List ℕ) → Gives over_one_link entering w last → record { records = w; packet = last } ≡ its_history
 
 -- the tables' text
 abbrev pub its_text : List ℕ

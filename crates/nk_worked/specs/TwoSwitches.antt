@@ -2,8 +2,9 @@
 -- the link, and out of port 2 of switch 2.
 use Rattle.std.specs.Prelude.{ℕ, Some, List, [], ◌∷◌, codes}
 use Rattle.nk_field.specs.Packet.{FieldTable}
-use Rattle.nk_policy.specs.Policy.{Policy, test, assign, seq_of, link, no_part, part}
+use Rattle.nk_policy.specs.Policy.{Policy, assign, seq_of, no_part, part}
 use Rattle.nk_policy.specs.After.{id_policy}
+pub use Rattle.nk_policy.specs.Worked.{over_one_link}
 use Rattle.nk_table.specs.declared.Tables.{Tables}
 use Rattle.nk_table.specs.declared.Table.{Table}
 use Rattle.nk_table.specs.declared.Bucket.{Bucket}
@@ -20,14 +21,9 @@ dst_and_tag = record {
   tag = Some 3;
 }
 
--- sw=1;pt=1;pt:=2;1:2=>2:1;pt:=2, the link's dups numbered 1 and 2
-abbrev pub crossing : Policy
-crossing =
-    seq_of (part (test 0 1) (part (test 1 1) (part (assign 1 2) (part (link 1 2 2 1 1) (part (assign 1 2) no_part)))))
-
--- what is left of it after dup 2: pt:=2
-abbrev pub after_link : Policy
-after_link = seq_of (part (seq_of (part id_policy no_part)) (part (assign 1 2) no_part))
+-- what is left of the policy after dup 2: pt:=2
+abbrev pub behind_link : Policy
+behind_link = seq_of (part (seq_of (part id_policy no_part)) (part (assign 1 2) no_part))
 
 -- the one tag set, for which tag 1 stands
 abbrev pub one_set : List (List ℕ)

@@ -8,6 +8,5 @@ pub loop-drawn-preserved : goal.loop-drawn-preserved
 loop-drawn-preserved c = record {
   left = draws_more c.loop-drawn.all.items c.push.new.self.items c.loop-drawn.draw c.next_draw-draw.result c.loop-drawn._drawn c.args.count
       (draws c.args.seed c.args.count) (omega arith) c.in_ok-push.ensures.items c.next_draw-draw.ensures.value c.loop-drawn.invariant.left;
-  bound = c.next_draw-draw.ensures.bound;
   number = grind (arith, common_steps);
 }

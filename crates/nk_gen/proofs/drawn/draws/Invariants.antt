@@ -1,4 +1,4 @@
-use Rattle.std.proofs.Common.{◌≡◌, ◌-◌, ◌<◌, ◌++◌, vec_len}
+use Rattle.std.proofs.Common.{◌≡◌, ◌-◌, ◌++◌, vec_len}
 use Rattle.nk_gen.specs.Draws.{draws}
 use Rattle.nk_gen.proofs.drawn.draws.Given as goal
 
@@ -6,6 +6,5 @@ use Rattle.nk_gen.proofs.drawn.draws.Given as goal
 abbrev pub invariant-loop-drawn : goal.invariant-loop-drawn
 invariant-loop-drawn l = record {
   left : l.all.items ++ draws l.draw (l.count - l._drawn) ≡ draws l.fn.seed l.count;
-  bound : l.draw < 2147483647;
   number : vec_len l.all ≡ l._drawn;
 }

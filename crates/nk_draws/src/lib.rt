@@ -1,0 +1,16 @@
+//! Draws, each made from the one before it.
+#![tactic(auto)]
+
+ghost use Rattle.std.specs.Prelude.{◌≡◌, ◌<◌};
+ghost use Rattle.nk_draws.specs.Draws as draws;
+
+/// The product of a draw and the multiplier is taken modulo this number.
+const MODULUS: u64 = 2_147_483_647;
+
+/// The draw after this one, which may be any number: it is below 2,147,483,647.
+pub fn next_draw(draw: u64) -> u64
+    ensures value { result ≡ draws.next_draw draw }
+    ensures bound { result < 2147483647 }
+{
+    48_271 * (draw % MODULUS) % MODULUS
+}

@@ -1,0 +1,20 @@
+-- Policies in which each complement is of a predicate.
+use Rattle.std.specs.Prelude.{◌≡◌, true}
+use Rattle.nk_policy.specs.Policy.{Policy, Policies, test, assign, sum_of, seq_of, not_of, star_of, dup, link, no_part, part, is_predicate}
+
+-- each complement is of a predicate
+abbrev mutual
+  pub NegatesPredicates : Policy → Type 0
+  NegatesPredicates (test f n) = Unit {0}
+  NegatesPredicates (assign f n) = Unit {0}
+  NegatesPredicates (sum_of ps) = AllNegatePredicates ps
+  NegatesPredicates (seq_of ps) = AllNegatePredicates ps
+  NegatesPredicates (not_of p) = (is_predicate p ≡ true) × NegatesPredicates p
+  NegatesPredicates (star_of p) = NegatesPredicates p
+  NegatesPredicates (dup l) = Unit {0}
+  NegatesPredicates (link a m b n l) = Unit {0}
+
+  -- the same of each part
+  pub AllNegatePredicates : Policies → Type 0
+  AllNegatePredicates no_part = Unit {0}
+  AllNegatePredicates (part p ps) = NegatesPredicates p × AllNegatePredicates ps
