@@ -1,9 +1,5 @@
-//! Eighteen fields, a packet over them, acts on it, and the lists.
-use nk_field::{
-    Act, Fid, Fields, FieldsError, History, List, Packet, PacketError, Short, history_text,
-    packet_text, read_packet,
-};
-use std::alloc::Global;
+//! Acts, a history of one, and how acts and lists compare.
+use nk_field::{Act, Fid, History, List, Packet, Short};
 use std::cmp::Ordering;
 use std::hash::{DefaultHasher, Hash, Hasher};
 use std::test::Fail;
@@ -25,37 +21,6 @@ fn order_of<T: Ord + Hash>(a: &T, b: &T) -> Option<Ordering> {
     } else {
         None
     }
-}
-
-#[test]
-fn a_packet_over_eighteen_fields(rt: HostRuntime) -> Result<(), Fail> {
-    let mut fields = Fields::new(rt.alloc())?;
-    let tag = fields.add("vlan", 4095)?;
-    fields.set_tag(tag);
-    assert_eq!(rt; fields.add("sw", 9), Err(FieldsError::FieldTwice));
-    for name in [
-        "a", "b", "c", "d", "e", "f", "g", "h", "i", "j", "k", "l", "m", "n", "o",
-    ] {
-        fields.add(name, 0)?;
-    }
-    assert_eq!(rt; fields.add("p", 9), Err(FieldsError::TooManyFields));
-    let copy = fields.copy()?;
-    let last = Fid::new(17);
-    assert_eq!(rt;
-        (copy.len(), copy.declared(), copy.tag()),
-        (18, 16, Some(tag))
-    );
-    assert_eq!(rt; (copy.find("o"), copy.find("p")), (Some(last), None));
-    assert_eq!(rt; copy.name(tag), "vlan");
-    assert!(rt; copy.len() == 18 && copy.max(last) == 0 && copy.max(tag) == 4095);
-
-    let mut packet = Packet::zero();
-    packet.set(&copy, tag, 4095);
-    packet.put(last, 5);
-    assert_eq!(rt; (packet.get(tag), packet.get(last)), (4095, 5));
-    packet.erase_tag(&copy);
-    assert_eq!(rt; (packet.get(tag), packet.get(last)), (0, 5));
-    Ok(())
 }
 
 #[test]
@@ -112,103 +77,5 @@ fn short_lists_compare_as_slices_do(rt: HostRuntime) -> Result<(), Fail> {
     assert_eq!(rt; order_of(&short, &longer), Some(Ordering::Less));
     assert!(rt; longer.len() == 5);
     assert_eq!(rt; *longer.at(4), 4);
-    Ok(())
-}
-
-/// The fields `dst`, 0 to 3, and `vlan`, 0 to 7, which is the tag.
-fn two_fields(alloc: Global) -> Result<Fields, FieldsError> {
-    let mut fields = match Fields::new(alloc) {
-        Ok(fields) => fields,
-        Err(_) => return Err(FieldsError::NoMemory),
-    };
-    fields.add("dst", 3)?;
-    let tag = fields.add("vlan", 7)?;
-    fields.set_tag(tag);
-    Ok(fields)
-}
-
-/// A packet at a port, with a value of the third field.
-fn packet_at(sw: u64, pt: u64, dst: u64) -> Packet {
-    let mut packet = Packet::zero();
-    packet.put(Fid::SWITCH, sw);
-    packet.put(Fid::PORT, pt);
-    packet.put(Fid::new(2), dst);
-    packet
-}
-
-/// Whether the text gives this answer.
-fn gives(alloc: Global, fields: &Fields, text: &str, answer: Result<Packet, PacketError>) -> bool {
-    read_packet(alloc, fields, text) == answer
-}
-
-/// Whether the first item at fault is this one.
-fn fails(alloc: Global, fields: &Fields, text: &str, item: u64) -> bool {
-    gives(alloc, fields, text, Err(PacketError::BadPacket { item }))
-}
-
-#[test]
-fn packets_are_read(rt: HostRuntime) -> Result<(), Fail> {
-    let alloc = rt.alloc();
-    let fields = two_fields(alloc)?;
-    assert!(rt; gives(alloc, &fields, "sw=1,pt=1,dst=3", Ok(packet_at(1, 1, 3))));
-    assert!(rt;
-        gives(
-            alloc,
-            &fields,
-            "sw=65535,pt=007,dst=0",
-            Ok(packet_at(65_535, 7, 0))
-        )
-    );
-    Ok(())
-}
-
-#[test]
-fn the_first_item_at_fault(rt: HostRuntime) -> Result<(), Fail> {
-    let alloc = rt.alloc();
-    let fields = two_fields(alloc)?;
-    for (text, item) in [
-        ("sw=1,pt=1", 3),
-        ("sw=1,pt=1,dst=4", 3),
-        ("sw=65536,pt=1,dst=4", 1),
-        ("sw=1,pt=1,dst=3,vlan=0", 4),
-        ("sw=1,pt=1,dst=3,", 4),
-        ("pt=1,sw=1,dst=3", 1),
-        ("sw=1,pt=,dst=3", 2),
-        ("sw=1,pt=+1,dst=3", 2),
-        ("sw=1,pt=1 ,dst=3", 2),
-        ("sw=1,pt=99999999999999999999,dst=3", 2),
-        ("", 1),
-    ] {
-        assert!(rt; fails(alloc, &fields, text, item));
-    }
-    Ok(())
-}
-
-#[test]
-fn a_packet_with_its_tag(rt: HostRuntime) -> Result<(), Fail> {
-    let alloc = rt.alloc();
-    let fields = two_fields(alloc)?;
-    let mut packet = packet_at(1, 2, 3);
-    packet.put(Fid::new(3), 5);
-    let text = packet_text(alloc, &fields, &packet, true)?;
-    assert_eq!(rt; text.as_slice(), b"sw=1,pt=2,dst=3,vlan=5".as_slice());
-    let text = packet_text(alloc, &fields, &packet, false)?;
-    assert_eq!(rt; text.as_slice(), b"sw=1,pt=2,dst=3".as_slice());
-    Ok(())
-}
-
-#[test]
-fn a_history_without_the_tag(rt: HostRuntime) -> Result<(), Fail> {
-    let alloc = rt.alloc();
-    let fields = two_fields(alloc)?;
-    let mut records = List::new(alloc);
-    records.push(packet_at(1, 2, 3))?;
-    records.push(packet_at(2, 1, 3))?;
-    let last = packet_at(2, 2, 3);
-    let text = history_text(alloc, &fields, &History { records, last }, false)?;
-    assert_eq!(rt;
-        text.as_slice(),
-        b"sw=1,pt=2,dst=3 sw=2,pt=1,dst=3 sw=2,pt=2,dst=3".as_slice()
-    );
     Ok(())
 }

@@ -1,0 +1,146 @@
+//! A row: what a run is given, and what has to come of it.
+use std::alloc::{AllocError, Global};
+
+/// Why a line is not taken.
+#[derive(Clone, Copy, Debug, PartialEq, Eq)]
+pub(crate) enum Fault {
+    /// There is not enough memory.
+    NoMemory,
+    /// The line, or the row that begins there, is none.
+    Malformed,
+}
+
+impl From<AllocError> for Fault {
+    fn from(_: AllocError) -> Fault {
+        Fault::NoMemory
+    }
+}
+
+/// How many bytes a call of the source, of `out` and of `err` takes at most.
+#[derive(Clone, Copy)]
+pub(crate) struct Pieces {
+    pub(crate) source: u64,
+    pub(crate) out: u64,
+    pub(crate) err: u64,
+}
+
+/// How many calls there are of the source, of `out` and of `err`.
+#[derive(Clone, Copy, PartialEq, Eq)]
+pub(crate) struct Calls {
+    pub(crate) source: u64,
+    pub(crate) out: u64,
+    pub(crate) err: u64,
+}
+
+/// The numbers, from 1, of the calls that fail.
+#[derive(Drop)]
+pub(crate) struct Fails {
+    pub(crate) source: Vec<u64>,
+    pub(crate) out: Vec<u64>,
+    pub(crate) err: Vec<u64>,
+}
+
+impl Fails {
+    /// No call fails.
+    pub(crate) fn new(alloc: Global) -> Fails {
+        Fails {
+            source: Vec::new(alloc),
+            out: Vec::new(alloc),
+            err: Vec::new(alloc),
+        }
+    }
+}
+
+/// What has to come.
+#[derive(Drop)]
+pub(crate) struct Wanted {
+    /// The lengths of the cuts of which this is said; of the whole input no length is given.
+    pub(crate) lengths: Vec<u64>,
+    pub(crate) status: Option<u64>,
+    pub(crate) out: Vec<u8>,
+    pub(crate) err: Vec<u8>,
+}
+
+impl Wanted {
+    /// Nothing is said yet of these cuts.
+    pub(crate) fn new(alloc: Global, lengths: Vec<u64>) -> Wanted {
+        Wanted {
+            lengths,
+            status: None,
+            out: Vec::new(alloc),
+            err: Vec::new(alloc),
+        }
+    }
+
+    /// Takes the status, which is said once.
+    pub(crate) fn end_with(&mut self, status: u64) -> Result<(), Fault> {
+        if self.status.is_some() {
+            return Err(Fault::Malformed);
+        }
+        self.status = Some(status);
+        Ok(())
+    }
+}
+
+/// A row of a file.
+#[derive(Drop)]
+pub(crate) struct Row {
+    pub(crate) name: String,
+    /// The line at which it begins, from 1.
+    pub(crate) line: u64,
+    pub(crate) words: Option<Vec<String>>,
+    pub(crate) input: Vec<u8>,
+    pub(crate) pieces: Pieces,
+    pub(crate) fails: Fails,
+    pub(crate) whole: Wanted,
+    pub(crate) calls: Option<Calls>,
+    /// Whether it is also run with each call failing.
+    pub(crate) fails_in_turn: bool,
+    /// Whether it is also run with each cut.
+    pub(crate) is_cut: bool,
+    /// How each cut ends that isn't among those below.
+    pub(crate) elsewhere: Option<u64>,
+    pub(crate) cuts: Vec<Wanted>,
+}
+
+impl Row {
+    /// A row of which nothing is said yet.
+    pub(crate) fn new(alloc: Global, name: &str, line: u64) -> Result<Row, AllocError> {
+        let most = Pieces {
+            source: 1 << 20,
+            out: 1 << 20,
+            err: 1 << 20,
+        };
+        Ok(Row {
+            name: String::from_str(alloc, name)?,
+            line,
+            words: None,
+            input: Vec::new(alloc),
+            pieces: most,
+            fails: Fails::new(alloc),
+            whole: Wanted::new(alloc, Vec::new(alloc)),
+            calls: None,
+            fails_in_turn: false,
+            is_cut: false,
+            elsewhere: None,
+            cuts: Vec::new(alloc),
+        })
+    }
+
+    /// Whether all is said that has to be, and each cut of which something is said is made.
+    pub(crate) fn is_formed(&self) -> bool {
+        self.words.is_some()
+            && self.whole.status.is_some()
+            && (self.calls.is_some() || !self.fails_in_turn)
+            && (self.is_cut || (self.cuts.is_empty() && self.elsewhere.is_none()))
+            && self.cuts.iter().all(|cut| self.makes(cut))
+    }
+
+    /// Whether it is said how these cuts end, and the input is long enough for them.
+    fn makes(&self, cut: &Wanted) -> bool {
+        let most = self.input.len() as u64;
+        cut.status.is_some()
+            && !cut.lengths.is_empty()
+            && cut.lengths.iter().all(|length| *length < most)
+    }
+}
