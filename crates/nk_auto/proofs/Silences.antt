@@ -16,10 +16,10 @@ use Rattle.nk_algebra.specs.Predicates.{Ends}
 use Rattle.nk_algebra.specs.Seqs.{seq_leaf, no_out}
 use Rattle.nk_algebra.proofs.Members.{Has, contains_has, has_contains, every_has}
 use Rattle.nk_star.specs.Leading.{Makes, Leads}
-use Rattle.nk_auto.specs.Leaves.{one_out}
+use Rattle.nk_auto.specs.Values.{one_out}
 use Rattle.nk_auto.specs.Plain.{Sends}
 use Rattle.nk_auto.specs.Continued.{IsFit, IsSilent}
-use Rattle.nk_auto.proofs.Means.{one_of, is_one, clipped}
+use Rattle.nk_auto.proofs.OneOut.{one_of, is_one, clipped}
 use Rattle.nk_auto.proofs.Predicates.{predicate_keeps, predicate_assigns}
 use Rattle.nk_auto.proofs.Sending.{out_of, sends_on, sends_back, seq_sends, sends_seq}
 use Rattle.nk_auto.proofs.Ways.{gives_in_range, gives_cons, cons_gives, gives_round}

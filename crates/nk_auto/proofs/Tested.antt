@@ -20,8 +20,8 @@ use Rattle.nk_algebra.proofs.Built.{Built, built_push, built_parts, built_leaf}
 use Rattle.nk_auto.specs.Plain.{Sends}
 use Rattle.nk_auto.specs.Continued.{IsSilent}
 use Rattle.nk_auto.specs.Values.{KeepsWhere, value_leaf, IsConstant, gap}
-use Rattle.nk_auto.proofs.Made.{leaves_grow}
-use Rattle.nk_auto.proofs.Means.{one_of, is_one, clipped}
+use Rattle.nk_auto.proofs.Grown.{leaves_grow}
+use Rattle.nk_auto.proofs.OneOut.{one_of, is_one, clipped}
 use Rattle.nk_auto.proofs.Sending.{out_of}
 use Rattle.nk_auto.proofs.Silences.{every_same, ends_or_none, read_out, out_sends, kept_out}
 
