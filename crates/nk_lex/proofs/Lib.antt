@@ -5,3 +5,4 @@ pub mod Digits
 pub mod Cutting
 pub mod Named
 pub mod Joining
+pub mod Keywords

@@ -48,47 +48,27 @@ pub enum Kind {
 pub fn kind_of_name(name: &[u8]) -> Kind
     ensures { result ≡ kind_of_name name.now }
 {
-    if name == b"field".as_slice() {
-        Kind::Field
-    } else if name == b"tag".as_slice() {
-        Kind::Tag
-    } else if name == b"switch".as_slice() {
-        Kind::Switch
-    } else if name == b"ports".as_slice() {
-        Kind::Ports
-    } else if name == b"link".as_slice() {
-        Kind::Link
-    } else if name == b"let".as_slice() {
-        Kind::Let
-    } else if name == b"certificate".as_slice() {
-        Kind::Certificate
-    } else if name == b"row".as_slice() {
-        Kind::Row
-    } else if name == b"start".as_slice() {
-        Kind::Start
-    } else if name == b"id".as_slice() {
-        Kind::Id
-    } else if name == b"drop".as_slice() {
-        Kind::Drop
-    } else if name == b"dup".as_slice() {
-        Kind::Dup
-    } else if name == b"tables".as_slice() {
-        Kind::Tables
-    } else if name == b"table".as_slice() {
-        Kind::Table
-    } else if name == b"group".as_slice() {
-        Kind::Group
-    } else if name == b"out".as_slice() {
-        Kind::Out
-    } else if name == b"in".as_slice() {
-        Kind::In
-    } else if name == b"virtual".as_slice() {
-        Kind::Virtual
-    } else if name == b"fabric".as_slice() {
-        Kind::Fabric
-    } else if name == b"by".as_slice() {
-        Kind::By
-    } else {
-        Kind::Name
+    match name {
+        b"field" => Kind::Field,
+        b"tag" => Kind::Tag,
+        b"switch" => Kind::Switch,
+        b"ports" => Kind::Ports,
+        b"link" => Kind::Link,
+        b"let" => Kind::Let,
+        b"certificate" => Kind::Certificate,
+        b"row" => Kind::Row,
+        b"start" => Kind::Start,
+        b"id" => Kind::Id,
+        b"drop" => Kind::Drop,
+        b"dup" => Kind::Dup,
+        b"tables" => Kind::Tables,
+        b"table" => Kind::Table,
+        b"group" => Kind::Group,
+        b"out" => Kind::Out,
+        b"in" => Kind::In,
+        b"virtual" => Kind::Virtual,
+        b"fabric" => Kind::Fabric,
+        b"by" => Kind::By,
+        _ => Kind::Name,
     }
 }

@@ -37,7 +37,7 @@ ghost use Rattle.nk_lex.specs.Lex.{
 use crate::front::{Front, front_at};
 use crate::kind::kind_of_name;
 use crate::{Bytes, Kind, LARGEST, LexError, Token};
-use std::alloc::{AllocError, Global};
+use std::alloc::{AllocError, AllocFailed, Global};
 
 /// The number that digits write, if it isn't too large.
 fn value(digits: &[u8]) -> Option<u64>
@@ -133,7 +133,7 @@ fn add(tokens: &mut Vec<Token>, token: Option<Token>) -> Result<(), LexError>
     match token {
         Some(token) => match tokens.push(token) {
             Ok(()) => Ok(()),
-            Err(_) => Err(LexError::NoMemory),
+            Err(AllocFailed { .. }) => Err(LexError::NoMemory),
         },
         None => Ok(()),
     }
