@@ -88,7 +88,7 @@ impl Fields {
         }
         match self.append(name, max) {
             Ok(()) => Ok(Fid::new(place as u8)),
-            Err(_) => Err(FieldsError::NoMemory),
+            Err(AllocError) => Err(FieldsError::NoMemory),
         }
     }
 

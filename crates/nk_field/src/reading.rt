@@ -33,7 +33,7 @@ pub fn read_packet(alloc: Global, fields: &Fields, text: &str) -> Result<Packet,
 {
     match items_of(alloc, text) {
         Ok(items) => packet_in(fields, items.as_slice()),
-        Err(_) => Err(PacketError::NoMemory),
+        Err(AllocError) => Err(PacketError::NoMemory),
     }
 }
 
