@@ -62,7 +62,7 @@ pub fn run<S: Source, O: Sink, E: Sink>(
         (use_of S.left S.faults source.old source.new)
         (use_of O.taken O.faults out.old out.new)
         (use_of E.taken E.faults err.old err.new) result }
-    // Words that are no command, and only those, are told as such.
+    // Only words that are no command are told as such.
     ensures usage { result ≡ Status.Usage → command_of (texts words.now) ≡ None }
     // No call was made on the source where the words are no command, or one that doesn't read.
     ensures unread { asks_for_input (command_of (texts words.now)) ≡ false → source.new ≡ source.old }
