@@ -110,13 +110,6 @@ parsed_ok max n ds h plain le =
     parse_plain own {E = ℕ} 64 ds (Ok n) h plain in
     sym (number_is max n ds k.0.0 k.0.1 (sym k.1) le)
 
-pub parsed_large : (max n : ℕ) (ds : List ℕ) → ParsesUnsigned {E = ℕ} 64 10 ds (Ok n) → get_or ds 0 0 ≢ 43 → max < n
-    → None ≡ number_upto max ds
-parsed_large max n ds h plain lt =
-    let k : OkIff {E = ℕ} (Ok n) ((all_ascii_digits ds ≡ true) × (0 < length ds) × (digits_value 10 ds < 2 ^ 64)) (digits_value 10 ds) =
-    parse_plain own {E = ℕ} 64 ds (Ok n) h plain in
-    sym (number_none max ds (λ a b c. let same : n ≡ digits_value 10 ds = k.1 in omega (arith, same, c, lt)))
-
 pub parsed_err : (max : ℕ) (ds : List ℕ) → ParsesUnsigned {E = ℕ} 64 10 ds (Err 0) → get_or ds 0 0 ≢ 43 → max < 2 ^ 64
     → None ≡ number_upto max ds
 parsed_err max ds h plain lt =

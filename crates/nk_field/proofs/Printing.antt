@@ -1,5 +1,5 @@
 -- Items one behind the other, with something between them.
-use Rattle.std.proofs.Common.{◌≡◌, ◌<◌, ◌≤◌, ◌+◌, ◌-◌, ℕ, suc, Bool, true, false, not, cond, Option, None, Some, List, [], ◌∷◌, ◌++◌, length, take, drop, refl, sym, ap, ◌∙◌, arith, append_assoc, append-nil, codes}
+use Rattle.std.proofs.Common.{◌≡◌, ◌<◌, ◌≤◌, ◌+◌, ◌-◌, ℕ, suc, Bool, true, false, not, cond, Option, None, Some, List, [], ◌∷◌, ◌++◌, length, take, refl, sym, ap, ◌∙◌, arith, append_assoc, codes}
 use Rattle.std.specs.Prelude.{◌||◌, filter, if◌then◌else◌}
 use Rattle.std.specs.List.{join_by, flat_map, range_with_len}
 use Rattle.std.proofs.lemmas.List.{length-take}
@@ -86,32 +86,8 @@ packet_step t with_tag pk out more whole f n lt e inv =
     ap (λ l. l ++ rest) e ∙ append_assoc out (further t with_tag pk f) rest
     ∙ ap (λ fs. out ++ flat_map (further t with_tag pk) fs) (sym (range_first f n lt)) ∙ inv
 
--- no field is left
-pub packet_ends : (t : FieldTable) (with_tag : Bool) (pk out whole : List ℕ) (f n : ℕ) → n ≤ f
-    → out ++ flat_map (further t with_tag pk) (range_with_len f (n - f)) ≡ whole → out ≡ whole
-packet_ends t with_tag pk out whole f n le inv =
-    sym (append-nil out) ∙ ap (λ fs. out ++ flat_map (further t with_tag pk) fs) (sym (range_done f n le)) ∙ inv
-
 -- a joined list that goes on
 pub joined_on : {X Y : Type 0} (g : X → List Y) (sep : List Y) (x y : X) (xs : List X)
     → join_by g sep (x ∷ xs ++ y ∷ []) ≡ g x ++ (sep ++ join_by g sep (xs ++ y ∷ []))
 joined_on g sep x y [] = ap (λ l. g x ++ l) (append_assoc sep (g y) [])
 joined_on g sep x y (z ∷ zs) = ap (λ l. g x ++ l) (append_assoc sep (g z) (flat_map (λ v. sep ++ g v) (zs ++ y ∷ [])))
-
--- one recorded packet more
-pub history_step : (t : FieldTable) (with_tag : Bool) (records : List (List ℕ)) (last r d out mid more whole : List ℕ) (i : ℕ)
-    → i < length records → drop i records ≡ r ∷ drop (i + 1) records
-    → mid ≡ out ++ packet_bytes t with_tag r → more ≡ mid ++ 32 ∷ []
-    → out ++ join_by (packet_bytes t with_tag) (codes " ") (drop i records ++ last ∷ []) ≡ whole
-    → more ++ join_by (packet_bytes t with_tag) (codes " ") (drop (i + 1) records ++ last ∷ []) ≡ whole
-history_step t with_tag records last r d out mid more whole i lt item first second inv =
-    let join = join_by (packet_bytes t with_tag) (codes " ") in
-    let rest = join (drop (i + 1) records ++ last ∷ []) in
-    ap (λ l. l ++ rest) (second ∙ ap (λ l. l ++ 32 ∷ []) first)
-    ∙ regroup out (packet_bytes t with_tag r) (32 ∷ []) rest
-    ∙ ap (λ l. out ++ l) (sym (joined_on (packet_bytes t with_tag) (codes " ") r last (drop (i + 1) records)))
-    ∙ ap (λ l. out ++ join (l ++ last ∷ [])) (sym item)
-    ∙ inv
-  where
-    regroup : (w x y z : List ℕ) → ((w ++ x) ++ y) ++ z ≡ w ++ (x ++ (y ++ z))
-    regroup w x y z = simp append_assoc
