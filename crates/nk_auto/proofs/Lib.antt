@@ -1,6 +1,5 @@
-pub mod Made
-pub mod Means
-pub mod Misses
+pub mod Grown
+pub mod OneOut
 pub mod Predicates
 pub mod Sending
 pub mod Ways

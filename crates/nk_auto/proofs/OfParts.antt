@@ -61,15 +61,6 @@ aim_aimed st new d r l p g a h = record {
       );
 }
 
--- what is aimed stays so in a store that grew
-pub aimed_grow : (old new : Held) (d : ℕ) (p : Policy) (l : ℕ) → Grows old new → IsAimed old d p l → IsAimed new d p l
-aimed_grow old new d p l g h = record {
-  id = g.ids d h.id;
-  sends = λ fit pk y t r.
-      let both = h.sends (fit_before old new p g fit) pk y t (packet_before old new pk g r) in
-      (λ s. both.0 (sends_back old new d pk y t g h.id s), λ s. sends_on old new d pk y t g h.id (both.1 s));
-}
-
 -- so do rows that fit
 rows_before : (old new : Held) (rows : List (Pol × ℕ)) → Grows old new → All (IsFitRow new.maxes) rows → All (IsFitRow old.maxes) rows
 rows_before old new rows g fits = subst (λ m. All (IsFitRow m) rows) g.maxes fits

@@ -1,7 +1,6 @@
 -- The parts of a policy from a place on, one before the next.
 use Rattle.std.proofs.Common.{◌≡◌, ℕ, ◌+◌, ◌-◌, ◌<◌, ◌≤◌, List, length, get_or, drop, ap, ◌∙◌, arith}
-use Rattle.std.proofs.lemmas.List.{drop_all}
-use Rattle.nk_policy.specs.Policy.{no_part, part}
+use Rattle.nk_policy.specs.Policy.{part}
 use Rattle.nk_policy.specs.Tree.{tree_of, trees_of}
 use Rattle.nk_policy.specs.declared.policy.Pol.{Pol}
 use Rattle.nk_policy.proofs.Steps.{left_is}
@@ -13,7 +12,3 @@ trees_before ps i q some within is =
     let back : (i - 1) + 1 ≡ i = omega (arith, some) in
     let lt : i - 1 < length ps = omega (arith, some, within) in
     ap trees_of (left_is ps (i - 1) q lt is) ∙ ap (λ n. part (tree_of q) (trees_of (drop n ps))) back
-
--- no parts from the end on
-pub trees_end : (ps : List Pol) → trees_of (drop (length ps) ps) ≡ no_part
-trees_end ps = ap trees_of (drop_all (length ps) ps (omega arith))

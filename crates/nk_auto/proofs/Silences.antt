@@ -16,10 +16,10 @@ use Rattle.nk_algebra.specs.Predicates.{Ends}
 use Rattle.nk_algebra.specs.Seqs.{seq_leaf, no_out}
 use Rattle.nk_algebra.proofs.Members.{Has, contains_has, has_contains, every_has}
 use Rattle.nk_star.specs.Leading.{Makes, Leads}
-use Rattle.nk_auto.specs.Leaves.{one_out}
+use Rattle.nk_auto.specs.Values.{one_out}
 use Rattle.nk_auto.specs.Plain.{Sends}
 use Rattle.nk_auto.specs.Continued.{IsFit, IsSilent}
-use Rattle.nk_auto.proofs.Means.{one_of, is_one, clipped}
+use Rattle.nk_auto.proofs.OneOut.{one_of, is_one, clipped}
 use Rattle.nk_auto.proofs.Predicates.{predicate_keeps, predicate_assigns}
 use Rattle.nk_auto.proofs.Sending.{out_of, sends_on, sends_back, seq_sends, sends_seq}
 use Rattle.nk_auto.proofs.Ways.{gives_in_range, gives_cons, cons_gives, gives_round}
@@ -142,22 +142,6 @@ dup_silent st d l h = none_silent st d (dup l) h (dup_gives_none l)
 -- and of a link literal
 pub link_silent : (st : Held) (d a m b n l : ℕ) → HasLeaves st d (λ pk. []) → IsSilent st d (link a m b n l)
 link_silent st d a m b n l h = none_silent st d (link a m b n l) h (link_gives_none a m b n l)
-
--- each packet, for the empty sequence
-pub unit_silent : (st : Held) (d : ℕ) → HasLeaves st d (λ pk. no_out ∷ []) → IsSilent st d (seq_of no_part)
-unit_silent st d h = record {
-  id = h.id;
-  ends = λ pk w. every_same _ _ _ (h.leaf pk w) (refl, tt);
-  sends = λ fit pk y t r. (
-    λ s.
-        let is : no_out ≡ out_of s.0 t = ⊎_elim (λ e. e) (λ n. absurd n) (read_out st d _ pk y t h r.0 s) in
-        let kept = kept_out s.0 t pk y is s.2 in
-        (kept.0, (refl, kept.1)),
-    λ s.
-        let sent : Sends st d pk pk 0 = out_sends st d _ pk [] 0 h r.0 (inl refl) in
-        subst (λ x. Sends st d pk x t) (sym s.1.1) (subst (λ u. Sends st d pk pk u) (sym s.0) sent),
-  );
-}
 
 -- one more part in front of a sequence
 pub cons_silent : (st new : Held) (d rest r : ℕ) (p : Policy) (ps : Policies) → AreTidy new → Grows st new →

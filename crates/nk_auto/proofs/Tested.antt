@@ -7,7 +7,7 @@ use Rattle.std.proofs.lemmas.Bool.Decides.{nat_tests, eqb_tells, leb_tells}
 use Rattle.std.proofs.lemmas.List.{take_more}
 use Rattle.std.proofs.lemmas.List.Folds.{list_any-append}
 use Rattle.std.proofs.lemmas.List.Sorted.{list_any-IsPermutation}
-use Rattle.nk_policy.specs.Policy.{Policy, Policies, test, sum_of, no_part, part}
+use Rattle.nk_policy.specs.Policy.{Policy, Policies, test, sum_of, part}
 use Rattle.nk_policy.proofs.Tests.{false_true, or_left, or_right, or_cases}
 use Rattle.nk_store.specs.declared.node.Out.{Out}
 use Rattle.nk_store.specs.Nodes.{child_at, InRange}
@@ -20,8 +20,8 @@ use Rattle.nk_algebra.proofs.Built.{Built, built_push, built_parts, built_leaf}
 use Rattle.nk_auto.specs.Plain.{Sends}
 use Rattle.nk_auto.specs.Continued.{IsSilent}
 use Rattle.nk_auto.specs.Values.{KeepsWhere, value_leaf, IsConstant, gap}
-use Rattle.nk_auto.proofs.Made.{leaves_grow}
-use Rattle.nk_auto.proofs.Means.{one_of, is_one, clipped}
+use Rattle.nk_auto.proofs.Grown.{leaves_grow}
+use Rattle.nk_auto.proofs.OneOut.{one_of, is_one, clipped}
 use Rattle.nk_auto.proofs.Sending.{out_of}
 use Rattle.nk_auto.proofs.Silences.{every_same, ends_or_none, read_out, out_sends, kept_out}
 
@@ -41,10 +41,6 @@ other_value vs x v other = elim (eqb_tells v x) [
   | inl same ↦ absurd (other same.1)
   | inr differ ↦ list_any-append (eqb v) vs (x ∷ []) ∙ ap (λ b. list_any (eqb v) vs || (b || false)) differ.0 ∙ or_none (list_any (eqb v) vs)
 ]
-
--- no test keeps a packet
-pub keeps_none : (f : ℕ) → KeepsWhere f [] (sum_of no_part)
-keeps_none f pk y = (λ g. absurd g, λ c. absurd (false_true c.0))
 
 -- one test more
 pub keeps_more : (f n : ℕ) (values more : List ℕ) (p : Policy) (ps : Policies) → more ≡ values ++ n ∷ [] → p ≡ test f n →

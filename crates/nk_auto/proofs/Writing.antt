@@ -63,12 +63,6 @@ pub dupless_written : (st : Held) (rows : List ℕ) (base : ℕ) (p : Policy) (k
 dupless_written st rows base p k none =
     none_written st rows base p k (λ fit l has. false_true (sym (no_dup p l none) ∙ has))
 
-pub empty_sum_written : (st : Held) (rows : List ℕ) (base k : ℕ) → AreWritten st rows rows base (sum_of no_part) k
-empty_sum_written st rows base k = none_written st rows base (sum_of no_part) k (λ fit l has. false_true has)
-
-pub unit_written : (st : Held) (rows : List ℕ) (base k : ℕ) → AreWritten st rows rows base (seq_of no_part) k
-unit_written st rows base k = none_written st rows base (seq_of no_part) k (λ fit l has. false_true has)
-
 -- nothing is written past the end
 pub set_past : (xs : List ℕ) (i d : ℕ) → length xs ≤ i → slice_set xs i d ≡ xs
 set_past [] i d le = refl

@@ -1,4 +1,3 @@
-pub mod Leaves
 pub mod Plain
 pub mod Complements
 pub mod Continued

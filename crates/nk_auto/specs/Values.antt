@@ -24,3 +24,7 @@ pub record IsConstant (st : Held) (d : ℕ) (outs : List Out) : Type 0 where
 -- the part for the values from low on that are below high, if there are any
 abbrev pub gap : ℕ → ℕ → ℕ → List (ℕ × ℕ)
 gap low high d = cond (leb high low) [] ((high - 1, d) ∷ [])
+
+-- the out of an assignment
+abbrev pub one_out : ℕ → ℕ → Out
+one_out f n = record { act = (f, n) ∷ []; target = 0 }

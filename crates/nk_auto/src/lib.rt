@@ -4,7 +4,7 @@
 
 mod by_parts;
 mod going_on;
-mod making;
+mod one_field;
 mod rows;
 mod silence;
 mod states;
@@ -12,7 +12,6 @@ mod values;
 
 pub use by_parts::automaton;
 pub use going_on::continued;
-pub use making::diagram;
 pub use rows::continued_with_rows;
 pub use silence::silent;
 pub use states::policy_automaton;

@@ -6,7 +6,7 @@ ghost use Rattle.nk_store.specs.Held.{Grows};
 ghost use Rattle.nk_algebra.specs.Predicates.{IsPredicate};
 ghost use Rattle.nk_auto.specs.Continued.{IsSilent};
 
-use crate::making::{set_where, test_where};
+use crate::one_field::{set_where, test_where};
 use crate::values::{tests_of_sum, tests_together};
 use nk_algebra::{empty, identity, negate, seq, union_all};
 use nk_field::{Fid, List};

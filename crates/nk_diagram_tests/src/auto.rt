@@ -1,6 +1,6 @@
 //! The diagrams of small policies.
 use nk_algebra::identity;
-use nk_auto::{continued, diagram, policy_automaton, silent};
+use nk_auto::{continued, policy_automaton, silent};
 use nk_field::{Fid, Fields, Packet};
 use nk_policy::{Pol, Pols};
 use nk_store::Store;
@@ -16,7 +16,7 @@ fn a_policy_at_two_packets(rt: HostRuntime) -> Result<(), Fail> {
     let moved = vec![in alloc; Pol::Test(dst, 0), Pol::Set(dst, 1)]?;
     let kept = Pol::Not(Box::new(alloc, Pol::Test(dst, 0))?);
     let parts = vec![in alloc; Pol::Seq(Pols::new(moved)), kept]?;
-    let d = diagram(&mut st, &Pol::Sum(Pols::new(parts)))?;
+    let d = silent(&mut st, &Pol::Sum(Pols::new(parts)))?;
     let zero = Packet::zero();
     let mut two = Packet::zero();
     two.put(dst, 2);

@@ -141,13 +141,6 @@ pub map_append_is :
 map_append_is g [] ys = refl
 map_append_is g (x ∷ xs) ys = ap (λ l. g x ∷ l) (map_append_is g xs ys)
 
--- what two lists joined make
-pub flat_map_append_is :
-    {A B : Type 0} (g : A → List B) (xs ys : List A)
-    → flat_map g (xs ++ ys) ≡ flat_map g xs ++ flat_map g ys
-flat_map_append_is g [] ys = refl
-flat_map_append_is g (x ∷ xs) ys = ap (λ l. g x ++ l) (flat_map_append_is g xs ys) ∙ sym (append_assoc (g x) (flat_map g xs) (flat_map g ys))
-
 -- values differ in two lists joined
 pub apart_append :
     {A : Type 0} (value : A → ℕ) (xs ys : List A) → Apart value xs → Apart value ys

@@ -1,13 +1,12 @@
 -- The steps of the walk over a diagram.
-use Rattle.std.proofs.Common.{◌≡◌, ◌≢◌, ℕ, zero, suc, ◌+◌, ◌-◌, ◌*◌, ◌^◌, ◌<◌, ◌≤◌, Bool, true, false, cond, min, inl, inr, List, [], ◌∷◌, ◌++◌, length, drop, Some, Result, Ok, Err, OnOk, refl, sym, ap, ◌∙◌, arith, append_assoc, append-nil, get_or, drop-cons, add-one, eqb}
-use Rattle.std.specs.Prelude.{◌==◌, ◌||◌, not, map, filter, nat_lt, count_by}
+use Rattle.std.proofs.Common.{◌≡◌, ℕ, suc, ◌+◌, ◌-◌, ◌*◌, ◌^◌, ◌<◌, ◌≤◌, Bool, true, false, cond, min, inl, inr, List, [], ◌∷◌, ◌++◌, length, Result, Ok, Err, OnOk, refl, sym, ap, ◌∙◌, arith, append_assoc, append-nil, add-one, eqb}
+use Rattle.std.specs.Prelude.{◌==◌, ◌||◌, not, map, filter, count_by}
 use Rattle.std.specs.List.{flat_map}
-use Rattle.std.specs.Map.{lookup}
 use Rattle.std.proofs.Math.Pow.{pow_mono}
 use Rattle.std.proofs.Math.Nat.{pow-suc}
 use Rattle.std.proofs.lemmas.Bool.Decides.{nat_tests, eqb_tells}
-use Rattle.nk_store.specs.ElseChild.{Span, spans, size_of, largest, else_of}
-use Rattle.nk_store.proofs.Children.{rest_is, else_has, each_drop, each_of}
+use Rattle.nk_store.specs.ElseChild.{Span, spans, else_of}
+use Rattle.nk_store.proofs.Children.{else_has, each_of}
 use Rattle.nk_store.specs.declared.node.Node.{Node}
 use Rattle.nk_store.specs.declared.node.Node.TheVariants.{Leaf, Case}
 use Rattle.nk_store.specs.declared.node.Out.{Out}
@@ -17,7 +16,7 @@ use Rattle.nk_store.specs.Intervals.{counted}
 use Rattle.nk_store.proofs.Looks.{node_at-old, node_at-new}
 use Rattle.nk_table.specs.declared.Plain.{Plain}
 use Rattle.nk_extract.specs.RuleTree.{Path, is_drop_list, with_match, priority_of, put}
-use Rattle.nk_store.specs.ElseChild.{Span, spans, size_of, largest, else_of, or_none, kept}
+use Rattle.nk_store.specs.ElseChild.{Span, spans, else_of}
 use Rattle.nk_extract.specs.Ways.{span_ways, node_ways, is_empty_leaf, ways_in, ways, row_behind, rows_behind, span_rows, bucket_list}
 use Rattle.nk_extract.proofs.Lists.{filter_same, filter_map_is, filter_append_is, map_append_is}
 use Rattle.nk_extract.proofs.Bits.{counts, one_if}
@@ -236,18 +235,6 @@ case_returns width tag t ms all f ps d w before mid after other shown rest from 
     ∙ ap (λ b. before ++ (flat_map (span_rows width tag t ms f b (else_of ps) w) (spans ps 0) ++ rows_behind width tag t ms all (w (else_of ps)))) flag
     ∙ ap (λ l. before ++ l) (sym (behind_node width tag t ms all f ps d w))
 
--- a step of the loop over parts
-pub case_step :
-    (g : Span → List Plain) (mid more all : List Plain) (p : ℕ × ℕ) (ps : List (ℕ × ℕ)) (whole : List (ℕ × ℕ)) (from : ℕ)
-    → whole ≡ p ∷ ps → mid ++ flat_map g (spans whole from) ≡ all
-    → more ≡ mid ++ g record { first = from; last = p.0; child = p.1 }
-    → more ++ flat_map g (spans ps (p.0 + 1)) ≡ all
-case_step g mid more all p ps whole from split made h =
-    ap (λ l. l ++ flat_map g (spans ps (p.0 + 1))) h
-    ∙ append_assoc mid (g record { first = from; last = p.0; child = p.1 }) (flat_map g (spans ps (p.0 + 1)))
-    ∙ ap (λ l. mid ++ flat_map g (spans l from)) (sym split)
-    ∙ made
-
 -- a step of the loop over values
 pub values_step :
     (g : ℕ → List Plain) (mid more all : List Plain) (v last : ℕ) → v ≤ last
@@ -267,12 +254,3 @@ pub values_end :
 values_end g mid more all v last h made e =
     let none : last + 1 - (v + 1) ≡ 0 = omega (arith, h) in
     sym (append-nil more) ∙ ap (λ n. more ++ flat_map g (counted (v + 1) n)) (sym none) ∙ values_step g mid more all v last (omega (arith, h)) made e
-
--- the rows of an interval that is not of the else-child
-pub span_is :
-    (width tag t : ℕ) (ms : List (ℕ × ℕ)) (f : ℕ) (shown : Bool) (other : ℕ) (w : ℕ → List Path) (s : Span)
-    → s.child ≢ other
-    → span_rows width tag t ms f shown other w s ≡ flat_map (λ v. rows_behind width tag t (ms ++ (f, v) ∷ []) shown (w s.child)) (counted s.first (s.last + 1 - s.first))
-span_is width tag t ms f shown other w s n =
-    let e : (s.child == other) ≡ false = grind (arith, nat_tests, n) in
-    ap (λ b. cond b [] (flat_map (λ v. rows_behind width tag t (ms ++ (f, v) ∷ []) shown (w s.child)) (counted s.first (s.last + 1 - s.first)))) e

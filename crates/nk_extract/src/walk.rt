@@ -10,6 +10,23 @@ use nk_store::{Id, Node, Store, else_child};
 use nk_table::Plain;
 use std::alloc::AllocError;
 
+/// A choice between the exact values of a field and the else-child.
+#[derive(Clone, Copy)]
+struct Choice {
+    field: Fid,
+    other: Id,
+    /// Whether a drop is printed behind an exact value.
+    shown: bool,
+}
+
+/// The values from the first to the last, and the child that they lead to.
+#[derive(Clone, Copy)]
+struct Span {
+    first: u64,
+    last: u64,
+    child: Id,
+}
+
 /// The rows of a diagram behind a way.
 #[cycle(walk)]
 pub(crate) fn walk(
@@ -54,44 +71,56 @@ fn walk_case(
     let shown = printed(st.drops(other), way.shown);
     let mut from: u128 = 0;
     for (end, c) in parts {
-        walk_values(st, frame, f, shown, other, *c, from as u64, *end, way, rows)?;
+        let choice = Choice {
+            field: f,
+            other,
+            shown,
+        };
+        let span = Span {
+            first: from as u64,
+            last: *end,
+            child: *c,
+        };
+        walk_span(st, frame, choice, span, way, rows)?;
         from = *end as u128 + 1;
     }
     walk(st, frame, other, way, rows)
 }
 
-/// The rows of a child that isn't the else-child, for each value from one to another, behind a way.
+/// The rows of a span's child, for each of its values behind a way; none where it is the else-child.
 #[cycle(walk)]
-fn walk_values(
+fn walk_span(
     st: &Store,
     frame: &Frame,
-    f: Fid,
-    shown: bool,
-    other: Id,
-    c: Id,
-    first: u64,
-    last: u64,
+    choice: Choice,
+    span: Span,
     way: &Way,
     rows: &mut Vec<Plain>,
 ) -> Result<(), AllocError>
-    requires id { IsId st.now c }
+    requires id { IsId st.now span.child }
     requires width { frame.now.width ≤ 18 }
-    requires order { first ≤ last }
+    requires order { span.first ≤ span.last }
     ensures { OnOk result (rows.new.items ≡ rows.old.items
-        ++ span_rows frame.now.width frame.now.tag frame.now.to way.now.matches f shown other
-        (ways frame.now.tag st.now) (record { first = first; last = last; child = c })) }
+        ++ span_rows frame.now.width frame.now.tag frame.now.to way.now.matches choice.field choice.shown choice.other
+        (ways frame.now.tag st.now) (record { first = span.first; last = span.last; child = span.child })) }
 {
-    if c == other {
+    let Choice {
+        field,
+        other,
+        shown,
+    } = choice;
+    let Span { first, last, child } = span;
+    if child == other {
         return Ok(());
     }
-    let mut v = first;
-    loop {
-        let next = way.with(st.alloc(), f, v, shown)?;
-        walk(st, frame, c, &next, rows)?;
-        if v == last {
+    let mut value = first;
+    'values: loop {
+        let next = way.with(st.alloc(), field, value, shown)?;
+        walk(st, frame, child, &next, rows)?;
+        if value == last {
             return Ok(());
         }
-        v += 1;
+        value += 1;
     }
 }
 

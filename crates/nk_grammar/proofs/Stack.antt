@@ -62,10 +62,6 @@ top_line xs x None e f = let t = top_is [] xs x e in no_negation (stack_of xs) t
 top_line xs x (Some line) e f =
     let t = top_is [] xs x e in (t.0, t.1 ∙ ap (λ y. y ∷ t.0) (negation_line (open_of x) line (sym f)))
 
--- nothing is open, and so no `~`
-pub no_top_line : (xs : List Frame) → slice_get xs (length xs - 1) ≡ None → IsTopNegation None (stack_of xs)
-no_top_line xs e = subst HasNoNegation (sym (none_top xs e)) (λ t ts us. refl)
-
 -- the innermost `~` is popped
 pub pops : (old new : List Frame) (popped : Option Frame) (line n : ℕ)
     → IsTopNegation (Some line) (stack_of old) → old ≡ new ++ option_to_list popped

@@ -52,7 +52,7 @@ use crate::reader::PolicyReader;
 use crate::text::Reader;
 use nk_field::List;
 use nk_lex::{Kind, Token};
-use std::alloc::Global;
+use std::alloc::{AllocError, AllocFailed, Global};
 use std::mem::replace;
 
 /// What stands before the next token.
@@ -124,7 +124,7 @@ impl CertifiedReader {
     {
         match self.rows.push(row) {
             Ok(()) => Ok(()),
-            Err(_) => Err(GrammarError::NoMemory),
+            Err(AllocFailed { .. }) => Err(GrammarError::NoMemory),
         }
     }
 
@@ -154,7 +154,7 @@ impl CertifiedReader {
                 None => Err(GrammarError::Unexpected { line: token.line }),
             },
             Ok(None) => Err(GrammarError::Unexpected { line: token.line }),
-            Err(_) => Err(GrammarError::NoMemory),
+            Err(AllocError) => Err(GrammarError::NoMemory),
         }
     }
 
@@ -178,7 +178,7 @@ impl CertifiedReader {
             Ok(Took::Taken) => self.go(CertifiedStage::InRow(line, positions)),
             Ok(Took::Refused) => self.end_row(alloc, line, positions, token),
             Ok(Took::TooDeep) => Err(GrammarError::TooDeep { line: token.line }),
-            Err(_) => Err(GrammarError::NoMemory),
+            Err(AllocError) => Err(GrammarError::NoMemory),
         }
     }
 
@@ -202,7 +202,7 @@ impl CertifiedReader {
             }
             Kind::Number => match positions.push(token.value) {
                 Ok(()) => self.go(CertifiedStage::NumbersRead(line, positions)),
-                Err(_) => Err(GrammarError::NoMemory),
+                Err(AllocFailed { .. }) => Err(GrammarError::NoMemory),
             },
             _ => Err(GrammarError::Unexpected { line: token.line }),
         }
@@ -224,7 +224,7 @@ impl CertifiedReader {
                 let mut positions = Vec::new(alloc);
                 match positions.push(number.value) {
                     Ok(()) => self.go(CertifiedStage::NumbersRead(line, positions)),
-                    Err(_) => Err(GrammarError::NoMemory),
+                    Err(AllocFailed { .. }) => Err(GrammarError::NoMemory),
                 }
             }
             None => Err(GrammarError::Unexpected { line: token.line }),
@@ -296,7 +296,7 @@ impl CertifiedReader {
                     line: of_row,
                 }),
                 Ok(None) => Err(GrammarError::Unexpected { line }),
-                Err(_) => Err(GrammarError::NoMemory),
+                Err(AllocError) => Err(GrammarError::NoMemory),
             },
             _ => Err(GrammarError::Unexpected { line }),
         }

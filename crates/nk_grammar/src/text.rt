@@ -66,7 +66,7 @@ use crate::place::{Quad, QuadNext};
 use crate::reader::PolicyReader;
 use nk_field::List;
 use nk_lex::{Kind, Token};
-use std::alloc::{AllocError, Global};
+use std::alloc::{AllocError, AllocFailed, Global};
 use std::mem::replace;
 
 /// A text that is read: what may come next, the policy that is read, and the declarations that are
@@ -100,7 +100,7 @@ impl Reader {
     {
         match self.decls.push(decl) {
             Ok(()) => Ok(()),
-            Err(_) => Err(GrammarError::NoMemory),
+            Err(AllocFailed { .. }) => Err(GrammarError::NoMemory),
         }
     }
 
@@ -149,7 +149,7 @@ impl Reader {
                 self.begin(token)
             }
             Ok(None) => Err(GrammarError::Unexpected { line: token.line }),
-            Err(_) => Err(GrammarError::NoMemory),
+            Err(AllocError) => Err(GrammarError::NoMemory),
         }
     }
 
@@ -172,7 +172,7 @@ impl Reader {
             Ok(Took::Taken) => self.go(Stage::Policy(name, line)),
             Ok(Took::Refused) => self.end_policy(alloc, name, line, token),
             Ok(Took::TooDeep) => Err(GrammarError::TooDeep { line: token.line }),
-            Err(_) => Err(GrammarError::NoMemory),
+            Err(AllocError) => Err(GrammarError::NoMemory),
         }
     }
 
@@ -211,7 +211,7 @@ impl Reader {
         match number_of(token) {
             Some(port) => match ports.push(port) {
                 Ok(()) => self.go(Stage::PortRead(number, ports)),
-                Err(_) => Err(GrammarError::NoMemory),
+                Err(AllocFailed { .. }) => Err(GrammarError::NoMemory),
             },
             None => Err(GrammarError::Unexpected { line: token.line }),
         }
@@ -338,7 +338,7 @@ impl Reader {
             Stage::Policy(name, of_let) => match self.policy.end(alloc) {
                 Ok(Some(policy)) => self.push(Decl::Let(name, policy, of_let)),
                 Ok(None) => Err(GrammarError::Unexpected { line }),
-                Err(_) => Err(GrammarError::NoMemory),
+                Err(AllocError) => Err(GrammarError::NoMemory),
             },
             _ => Err(GrammarError::Unexpected { line }),
         }

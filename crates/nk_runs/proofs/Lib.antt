@@ -5,6 +5,5 @@ pub mod Steps
 pub mod Labelled
 pub mod TagSets
 pub mod Ends
-pub mod Starts
 pub mod Walking
 pub mod Breaking

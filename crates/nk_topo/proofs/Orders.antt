@@ -250,14 +250,6 @@ double_more xs i up some lt other before =
     double_behind xs (i - 1) (order_from_pairs (λ p q. p ≤ q) xs up) within differs in
     ap (λ k. has_double (drop k xs)) (place ∙ sym next) ∙ sym step ∙ before
 
--- the loop stops at two equal numbers
-pub double_found : (xs : List ℕ) (i : ℕ) → 1 ≤ i → i < length xs → get_or xs (i - 1) 0 ≡ get_or xs i 0 →
-    has_double (drop (i - 1) xs) ≡ has_double xs → has_double xs ≡ true
-double_found xs i some lt same before =
-    let next : suc (i - 1) ≡ i = omega arith in
-    let within : suc (i - 1) < length xs = omega arith in
-    sym before ∙ double_at xs (i - 1) within (same ∙ ap (λ k. get_or xs k 0) (sym next))
-
 -- or at the end
 pub double_nowhere : (xs : List ℕ) (i : ℕ) → length xs ≤ i → has_double (drop (i - 1) xs) ≡ has_double xs → has_double xs ≡ false
 double_nowhere xs i le before = sym before ∙ double_end xs (i - 1) (omega arith)

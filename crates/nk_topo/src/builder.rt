@@ -91,14 +91,14 @@ impl TopoBuilder {
         }
         let sorted = match sorted(self.alloc, ports) {
             Ok(sorted) => sorted,
-            Err(_) => return Err(TopoError::NoMemory),
+            Err(AllocError) => return Err(TopoError::NoMemory),
         };
         if repeats(sorted.as_slice()) {
             return Err(TopoError::PortTwice);
         }
         match self.put_switch(n, sorted) {
             Ok(()) => Ok(()),
-            Err(_) => Err(TopoError::NoMemory),
+            Err(AllocError) => Err(TopoError::NoMemory),
         }
     }
 
@@ -136,7 +136,7 @@ impl TopoBuilder {
         }
         match self.put_link((a, m), (b, n)) {
             Ok(()) => Ok(()),
-            Err(_) => Err(TopoError::NoMemory),
+            Err(AllocError) => Err(TopoError::NoMemory),
         }
     }
 

@@ -164,14 +164,14 @@ impl Topo {
         }
         let sorted = match sorted(*self.numbers.allocator(), ports) {
             Ok(sorted) => sorted,
-            Err(_) => return Err(TopoError::NoMemory),
+            Err(AllocError) => return Err(TopoError::NoMemory),
         };
         if repeats(sorted.as_slice()) {
             return Err(TopoError::PortTwice);
         }
         match self.put_switch(n, sorted) {
             Ok(()) => Ok(()),
-            Err(_) => Err(TopoError::NoMemory),
+            Err(AllocError) => Err(TopoError::NoMemory),
         }
     }
 
@@ -209,7 +209,7 @@ impl Topo {
         }
         match self.put_link((a, m, b, n)) {
             Ok(()) => Ok(()),
-            Err(_) => Err(TopoError::NoMemory),
+            Err(AllocError) => Err(TopoError::NoMemory),
         }
     }
 

@@ -5,7 +5,7 @@ use Rattle.nk_policy.specs.Tree.{tree_of, trees_of}
 use Rattle.nk_store.specs.Held.{IsId}
 use Rattle.nk_store.proofs.Stores.{grows_on}
 use Rattle.nk_auto.specs.Continued.{IsContinued}
-use Rattle.nk_auto.proofs.Made.{leaves_grow}
+use Rattle.nk_auto.proofs.Grown.{leaves_grow}
 use Rattle.nk_auto.proofs.Parts.{trees_before}
 use Rattle.nk_auto.proofs.Going.{continued_grow, cons_continued, star_continued}
 use Rattle.nk_auto.proofs.Sums.{AreOf, IsOnward, one_more_of, ids_of, sum_continued}

@@ -7,7 +7,7 @@ use Rattle.nk_policy.specs.Tree.{tree_of, trees_of}
 use Rattle.nk_store.specs.Held.{HasLeaves}
 use Rattle.nk_store.proofs.Stores.{grows_on}
 use Rattle.nk_auto.specs.Continued.{IsSilent}
-use Rattle.nk_auto.proofs.Made.{leaves_grow}
+use Rattle.nk_auto.proofs.Grown.{leaves_grow}
 use Rattle.nk_auto.proofs.Parts.{trees_before}
 use Rattle.nk_auto.proofs.Silences.{silent_grow, cons_silent, none_at_end, not_silent, star_silent}
 use Rattle.nk_auto.proofs.Sums.{AreOf, one_more_of, ids_of, sum_silent}

@@ -3,7 +3,7 @@ use Rattle.nk_policy.specs.Policy.{dups_of}
 use Rattle.nk_policy.specs.Tree.{tree_of}
 use Rattle.nk_algebra.specs.Seqs.{no_out}
 use Rattle.nk_auto.specs.Continued.{IsFit}
-use Rattle.nk_auto.proofs.Made.{leaves_grow}
+use Rattle.nk_auto.proofs.Grown.{leaves_grow}
 use Rattle.nk_auto.proofs.Stating.{automaton_is}
 use Rattle.nk_auto.proofs.states.policy_automaton.Goals as goal
 

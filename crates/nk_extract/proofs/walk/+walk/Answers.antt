@@ -37,8 +37,8 @@ walk_case-drops-requires t c = subst (IsId c.args.st.now) (sym c.in_ok-other.ens
 item_has : (P : ℕ → Type 0) (ps : List (ℕ × ℕ)) (i : ℕ) (p : ℕ × ℕ) → i < length ps → p ≡ get_or ps i p → Each P ps → P p.1
 item_has P ps i p h e each = (subst (Each P) (rest_is ps i p h e) (each_drop P ps i each)).0
 
-pub walk_case-walk_values-requires : goal.walk_case-walk_values-requires
-walk_case-walk_values-requires t c =
+pub walk_case-walk_span-requires : goal.walk_case-walk_span-requires
+walk_case-walk_span-requires t c =
     let ps = c.args.parts.now in
     let i = c.loop-end.end-index in
     let p = c.loop-end-item.result in
@@ -64,15 +64,15 @@ walk_case-returns t c =
     c.loop-end.invariant.made)
     c.walk.ensures
 
-pub walk_values-loop-next-preserved : goal.walk_values-loop-next-preserved
-walk_values-loop-next-preserved t c =
-    let g : ℕ → List Plain = λ v. rows_behind c.args.frame.now.width c.args.frame.now.tag c.args.frame.now.to (c.args.way.now.matches ++ (c.args.f, v) ∷ []) c.args.shown (ways c.args.frame.now.tag c.args.st.now c.args.c) in
-    let e : c.walk.new.rows.items ≡ c.loop-next.rows.items ++ g c.loop-next.v =
+pub walk_span-values-preserved : goal.walk_span-values-preserved
+walk_span-values-preserved t c =
+    let g : ℕ → List Plain = λ v. rows_behind c.args.frame.now.width c.args.frame.now.tag c.args.frame.now.to (c.args.way.now.matches ++ (c.args.choice.field, v) ∷ []) c.args.choice.shown (ways c.args.frame.now.tag c.args.st.now c.args.span.child) in
+    let e : c.walk.new.rows.items ≡ c.values.rows.items ++ g c.values.value =
     c.in_ok-walk.ensures
-    ∙ ap (λ ms. c.loop-next.rows.items ++ rows_behind c.args.frame.now.width c.args.frame.now.tag c.args.frame.now.to ms c.in_ok-next.next.shown (ways c.args.frame.now.tag c.args.st.now c.args.c)) c.in_ok-next.ensures.matches
-    ∙ ap (λ b. c.loop-next.rows.items ++ rows_behind c.args.frame.now.width c.args.frame.now.tag c.args.frame.now.to (c.args.way.now.matches ++ (c.args.f, c.loop-next.v) ∷ []) b (ways c.args.frame.now.tag c.args.st.now c.args.c)) c.in_ok-next.ensures.shown in
+    ∙ ap (λ ms. c.values.rows.items ++ rows_behind c.args.frame.now.width c.args.frame.now.tag c.args.frame.now.to ms c.in_ok-next.next.shown (ways c.args.frame.now.tag c.args.st.now c.args.span.child)) c.in_ok-next.ensures.matches
+    ∙ ap (λ b. c.values.rows.items ++ rows_behind c.args.frame.now.width c.args.frame.now.tag c.args.frame.now.to (c.args.way.now.matches ++ (c.args.choice.field, c.values.value) ∷ []) b (ways c.args.frame.now.tag c.args.st.now c.args.span.child)) c.in_ok-next.ensures.shown in
     record {
-      low = omega (arith, c.loop-next.invariant.low);
-      high = omega (arith, c.loop-next.invariant.high, c.if-v-last.false);
-      made = values_step g c.loop-next.rows.items c.walk.new.rows.items (c.args.rows.now.items ++ flat_map g (counted c.args.first (c.args.last + 1 - c.args.first))) c.loop-next.v c.args.last c.loop-next.invariant.high c.loop-next.invariant.made e;
+      low = omega (arith, c.values.invariant.low);
+      high = omega (arith, c.values.invariant.high, c.if-value-last.false);
+      made = values_step g c.values.rows.items c.walk.new.rows.items (c.args.rows.now.items ++ flat_map g (counted c.args.span.first (c.args.span.last + 1 - c.args.span.first))) c.values.value c.args.span.last c.values.invariant.high c.values.invariant.made e;
     }

@@ -12,8 +12,8 @@ decreases-walk l = 3 * l.d + 2
 abbrev pub decreases-walk_case : goal.decreases-walk_case
 decreases-walk_case l = 3 * l.d + 1
 
-abbrev pub decreases-walk_values : goal.decreases-walk_values
-decreases-walk_values l = 3 * l.c + 3
+abbrev pub decreases-walk_span : goal.decreases-walk_span
+decreases-walk_span l = 3 * l.span.child + 3
 
 abbrev pub invariant-walk_case-loop-end : goal.invariant-walk_case-loop-end
 invariant-walk_case-loop-end l = record {
@@ -21,12 +21,12 @@ invariant-walk_case-loop-end l = record {
   made : l.rows.items ++ flat_map (span_rows l.frame.width l.frame.tag l.frame.to l.way.matches l.f l.shown l.other (ways l.frame.tag l.st)) (spans (drop l.end-index l.parts) l.from) ≡ l.fn.rows.items ++ flat_map (span_rows l.frame.width l.frame.tag l.frame.to l.way.matches l.f l.shown l.other (ways l.frame.tag l.st)) (spans l.parts 0);
 }
 
-abbrev pub invariant-walk_values-loop-next : goal.invariant-walk_values-loop-next
-invariant-walk_values-loop-next l = record {
-  low : l.first ≤ l.v;
-  high : l.v ≤ l.last;
-  made : l.rows.items ++ flat_map (λ v. rows_behind l.frame.width l.frame.tag l.frame.to (l.way.matches ++ (l.f, v) ∷ []) l.shown (ways l.frame.tag l.st l.c)) (counted l.v (l.last + 1 - l.v)) ≡ l.fn.rows.items ++ flat_map (λ v. rows_behind l.frame.width l.frame.tag l.frame.to (l.way.matches ++ (l.f, v) ∷ []) l.shown (ways l.frame.tag l.st l.c)) (counted l.first (l.last + 1 - l.first));
+abbrev pub invariant-walk_span-values : goal.invariant-walk_span-values
+invariant-walk_span-values l = record {
+  low : l.first ≤ l.value;
+  high : l.value ≤ l.last;
+  made : l.rows.items ++ flat_map (λ v. rows_behind l.frame.width l.frame.tag l.frame.to (l.way.matches ++ (l.field, v) ∷ []) l.shown (ways l.frame.tag l.st l.child)) (counted l.value (l.last + 1 - l.value)) ≡ l.fn.rows.items ++ flat_map (λ v. rows_behind l.frame.width l.frame.tag l.frame.to (l.way.matches ++ (l.field, v) ∷ []) l.shown (ways l.frame.tag l.st l.child)) (counted l.first (l.last + 1 - l.first));
 }
 
-abbrev pub decreases-walk_values-loop-next : goal.decreases-walk_values-loop-next
-decreases-walk_values-loop-next l = l.last - l.v
+abbrev pub decreases-walk_span-values : goal.decreases-walk_span-values
+decreases-walk_span-values l = l.last - l.value

@@ -1,0 +1,49 @@
+//! The diagrams of a test and of an assignment, of a value past the field's highest too.
+ghost use Rattle.std.specs.Prelude.{◌∷◌, [], cond, leb, eqb, min, slice_index, IfOk};
+ghost use Rattle.nk_store.specs.Held.{Grows, HasLeaves};
+ghost use Rattle.nk_algebra.specs.Predicates.{IsPredicate};
+ghost use Rattle.nk_auto.specs.Values.{one_out};
+
+use nk_algebra::{assign, empty, test};
+use nk_field::Fid;
+use nk_store::{Id, Store};
+use std::alloc::AllocError;
+
+/// The packet itself where the field has the value; nothing for a value past the field's highest.
+pub(crate) fn test_where(st: &mut Store, f: Fid, n: u64) -> Result<Id, AllocError>
+    ensures grows { Grows st.old st.new }
+    ensures ok { IfOk result (λ d. HasLeaves st.new d
+        (λ pk. cond (eqb (min (slice_index pk f) (slice_index st.old.maxes f)) n)
+        (record { act = []; target = 0 } ∷ []) [])) }
+    ensures predicate { IfOk result (λ d. IsPredicate st.new d) }
+{
+    let _place = f.place();
+    if n <= st.max(f) {
+        test(st, f, n)
+    } else {
+        nothing(st)
+    }
+}
+
+/// The packet with the field set; nothing for a value past the field's highest.
+pub(crate) fn set_where(st: &mut Store, f: Fid, n: u64) -> Result<Id, AllocError>
+    ensures grows { Grows st.old st.new }
+    ensures ok { IfOk result (λ d. HasLeaves st.new d
+        (λ pk. cond (leb n (slice_index st.old.maxes f)) (one_out f n ∷ []) [])) }
+{
+    let _place = f.place();
+    if n <= st.max(f) {
+        assign(st, f, n)
+    } else {
+        nothing(st)
+    }
+}
+
+/// No packet.
+fn nothing(st: &mut Store) -> Result<Id, AllocError>
+    ensures grows { Grows st.old st.new }
+    ensures ok { IfOk result (λ d. HasLeaves st.new d (λ pk. [])) }
+    ensures predicate { IfOk result (λ d. IsPredicate st.new d) }
+{
+    empty(st)
+}
