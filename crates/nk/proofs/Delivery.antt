@@ -7,7 +7,7 @@ use Rattle.nk.specs.declared.status.Status.{Status}
 use Rattle.nk.specs.Answer.{answer, goes_out}
 use Rattle.nk.specs.Use.{IsUntouched, Use, use_of}
 use Rattle.nk.specs.Ends.{Delivers}
-use Rattle.nk.specs.Reply.{Sends}
+use Rattle.nk.specs.Reply.{IsDelivered}
 
 -- what is not touched keeps its bytes
 pub Keeps-same : (o : Option (List ℕ)) → Keeps o o
@@ -20,7 +20,7 @@ untouched t f x = record { same = Keeps-same (t x); quiet = refl }
 
 -- an answer whose text went to `err`, or whose sink failed there, while `out` was not touched
 pub to_err : {X : Type 0} (t : X → Option (List ℕ)) (f : X → ℕ) (x : X) (s : Status) (text : List ℕ)
-    (err : Use) (result : Status) → goes_out s ≡ false → Sends err text s result
+    (err : Use) (result : Status) → goes_out s ≡ false → IsDelivered err text s result
     → Delivers (answer s text) (use_of t f x x) err result
 to_err t f x s text err result e (inl h) = inl (h.0, rw e (h.1, untouched t f x))
 to_err t f x s text err result e (inr h) = inr (h.0, rw e (h.1, untouched t f x))

@@ -3,7 +3,7 @@ use Rattle.std.proofs.Common.{◌≡◌, ℕ, List, inl, inr, sym, subst}
 use Rattle.std.specs.Prelude.{codes}
 use Rattle.nk.specs.Comparing.{IsEqualAnswer}
 use Rattle.nk.specs.Compiling.{IsCompileAnswer}
-use Rattle.nk.specs.Generating.{IsCounted, IsJobOver, IsOther, OrThen}
+use Rattle.nk.specs.Generating.{IsCounted, IsJobOver, IsNotDone, OrThen}
 use Rattle.nk.specs.Outcome.{Outcome, done, differs, text_refused, policy_refused}
 use Rattle.nk.specs.Succeeding.{AcceptsNamed, HasJob, GiveSame}
 use Rattle.nk.proofs.ByKind.{Kind, compile_kind, equal_kind, not_both}
@@ -20,7 +20,7 @@ module _ (bytes : List ℕ) where
 
   -- a name that isn't accepted ends the job
   unaccepted : (name : List ℕ) (o : Outcome) → (Whole → AcceptsNamed name bytes) → (Apart → AcceptsNamed name bytes)
-      → IsOther o → Kind o (AcceptsNamed name bytes) ⊥ → Kind o Whole Apart
+      → IsNotDone o → Kind o (AcceptsNamed name bytes) ⊥ → Kind o Whole Apart
   unaccepted name (done t) f g other k = absurd other
   unaccepted name (differs t) f g other k = absurd k.0
   unaccepted name (text_refused t) f g other k = (λ d. k.0 (f d), λ x. k.0 (g x))
@@ -28,7 +28,7 @@ module _ (bytes : List ℕ) where
 
   -- of two accepted names the comparison decides
   compared : (go : AcceptsNamed (codes "go") bytes) (cast : AcceptsNamed (codes "cast") bytes) (o : Outcome)
-      → IsOther o → IsEqualAnswer (codes "go") (codes "same") bytes o → Kind o Whole Apart
+      → IsNotDone o → IsEqualAnswer (codes "go") (codes "same") bytes o → Kind o Whole Apart
   compared go cast (done t) other h = absurd other
   compared go cast (differs t) other h =
       let k = equal_kind (codes "go") (codes "same") bytes (differs t) h in (

@@ -18,7 +18,7 @@ use Rattle.nk_readback.specs.TextTables.{CompilesPrintable}
 use Rattle.nk.specs.Comparing.{AreNamed, IsEqualAnswer, ToCompared}
 use Rattle.nk.specs.Compiling.{IsCompileAnswer, ToProgram}
 use Rattle.nk.specs.Declarable.{IsDeclared}
-use Rattle.nk.specs.Generating.{CountsRows, CountsTables, IsJobOver, IsOther, rows_line, tables_line}
+use Rattle.nk.specs.Generating.{CountsRows, CountsTables, IsJobOver, IsNotDone, rows_line, tables_line}
 use Rattle.nk.specs.Outcome.{Outcome, done, differs, text_refused, policy_refused}
 use Rattle.nk.specs.ProgramText.{Declares}
 use Rattle.nk.proofs.Certified.{is_same}
@@ -75,17 +75,17 @@ module _ (bytes : List ℕ) (program : Program) (d : Declares bytes (said_by pro
   equal_is left right (policy_refused text) h = (said_by program, d, h)
 
   -- the job ends with the first step
-  pub ends_first : (o : Outcome) → IsOther o × ToProgram (said_by program) (codes "go") o → IsJobOver bytes o
+  pub ends_first : (o : Outcome) → IsNotDone o × ToProgram (said_by program) (codes "go") o → IsJobOver bytes o
   ends_first o h = inl (h.0, compile_is (codes "go") o h.1)
 
   module _ (go_line : List ℕ) (go : Step (ToProgram (said_by program) (codes "go")) (CountsTables program (codes "go")) go_line) where
     -- with the second
-    pub ends_second : (o : Outcome) → IsOther o × ToProgram (said_by program) (codes "cast") o → IsJobOver bytes o
+    pub ends_second : (o : Outcome) → IsNotDone o × ToProgram (said_by program) (codes "cast") o → IsJobOver bytes o
     ends_second o h = inr (go.0, compile_is (codes "go") (done go.0) go.1, inl (h.0, compile_is (codes "cast") o h.1))
 
     module _ (cast_line : List ℕ) (cast : Step (ToProgram (said_by program) (codes "cast")) (CountsTables program (codes "cast")) cast_line) where
       -- with the third
-      pub ends_third : (o : Outcome) → IsOther o × ToCompared (said_by program) (codes "go") (codes "same") o → IsJobOver bytes o
+      pub ends_third : (o : Outcome) → IsNotDone o × ToCompared (said_by program) (codes "go") (codes "same") o → IsJobOver bytes o
       ends_third o h =
           inr (
             go.0,

@@ -12,7 +12,7 @@ use Rattle.nk.specs.declared.status.Status.TheVariants.{Done, Differs, NoMemory}
 use Rattle.nk.specs.Answer.{Answer, IsAnswerTo, IsOutcome, IsOutcomeOf, answer_of, limit, reads, too_long}
 use Rattle.nk.specs.Ends.{Ends, IsFixedBy}
 use Rattle.nk.specs.Outcome.{Outcome, done, differs, text_refused, policy_refused}
-use Rattle.nk.specs.Succeeding.{IsDone, IsOtherwise, IsExact, IsGiven, Succeeds}
+use Rattle.nk.specs.Succeeding.{IsDone, IsOtherwise, IsStatusOf, IsOffered, Succeeds}
 use Rattle.nk.specs.Use.{Use}
 use Rattle.nk.proofs.Endings.{complete}
 use Rattle.nk_gen.specs.Text.{generated}
@@ -50,7 +50,7 @@ IsDoneStatus Done = Unit {0}
 IsDoneStatus s = ⊥
 
 -- the status of an outcome is exact
-exact : (c : Command) (bytes : List ℕ) (o : Outcome) → Kind o (IsDone c bytes) (IsOtherwise c bytes) → IsExact c bytes (answer_of o).status
+exact : (c : Command) (bytes : List ℕ) (o : Outcome) → Kind o (IsDone c bytes) (IsOtherwise c bytes) → IsStatusOf c bytes (answer_of o).status
 exact c bytes (done t) k = record {
   done = λ d. inl refl;
   done_only = λ e. k.0;
@@ -77,7 +77,7 @@ exact c bytes (policy_refused t) k = record {
 }
 
 -- want of memory is neither
-exact_no_memory : (c : Command) (bytes : List ℕ) (s : Status) → s ≡ NoMemory → IsExact c bytes s
+exact_no_memory : (c : Command) (bytes : List ℕ) (s : Status) → s ≡ NoMemory → IsStatusOf c bytes s
 exact_no_memory c bytes s e = record {
   done = λ d. inr e;
   done_only = λ f. absurd (subst IsNeither (sym e ∙ f) tt);
@@ -94,7 +94,7 @@ read_answer c source bytes left a given all h =
     subst (λ b. MatchBool b (a ≡ too_long) (IsOutcomeOf c bytes a)) (le-ltb limit (length bytes) given.1) at
 
 -- what is answered to these bytes, by a command that reads or not
-given_answer : (c : Command) (source : Use) (bytes left : List ℕ) (a : Answer) → IsGiven (reads c) source bytes
+given_answer : (c : Command) (source : Use) (bytes left : List ℕ) (a : Answer) → IsOffered (reads c) source bytes
     → IsAllOf source.old left → IsAnswerTo (Some c) left a → IsOutcomeOf c bytes a
 given_answer (Compile name) source bytes left a given all h = read_answer (Compile name) source bytes left a given all h
 given_answer (Trace hops packet) source bytes left a given all h = read_answer (Trace hops packet) source bytes left a given all h
@@ -112,16 +112,16 @@ given_answer (Gen size seed) source bytes left a given all h = h
 given_answer (Job size seed) source bytes left a given all h = h
 
 -- the answer that is fixed has an exact status
-exact_fixed : (c : Command) (bytes : List ℕ) (source : Use) (a : Answer) → IsGiven (reads c) source bytes
-    → IsFixedBy (Some c) source a → IsExact c bytes a.status
+exact_fixed : (c : Command) (bytes : List ℕ) (source : Use) (a : Answer) → IsOffered (reads c) source bytes
+    → IsFixedBy (Some c) source a → IsStatusOf c bytes a.status
 exact_fixed c bytes source a given f =
     let outcome : IsOutcomeOf c bytes a = given_answer c source bytes f.bytes a given f.left f.answer in
-    subst (λ s. IsExact c bytes s) (sym (ap (λ (x : Answer). x.status) outcome.2)) (exact c bytes outcome.0 (outcome_kind c bytes outcome.0 outcome.1))
+    subst (λ s. IsStatusOf c bytes s) (sym (ap (λ (x : Answer). x.status) outcome.2)) (exact c bytes outcome.0 (outcome_kind c bytes outcome.0 outcome.1))
 
 pub succeeds : (words : List (List ℕ)) (source out err : Use) (s : Status) → Ends words source out err s → Succeeds words source out err s
 succeeds words source out err s ends c bytes given input read out_quiet err_quiet = elim (complete words source out err s ends read out_quiet err_quiet) [
   | inl none ↦ exact_no_memory c bytes s none
   | inr fixed ↦
-      subst (λ z. IsExact c bytes z) (sym fixed.status)
+      subst (λ z. IsStatusOf c bytes z) (sym fixed.status)
       (exact_fixed c bytes source fixed.answer input (subst (λ o. IsFixedBy o source fixed.answer) given fixed.fixed))
 ]

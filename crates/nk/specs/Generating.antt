@@ -72,13 +72,13 @@ pub record IsCounted (bytes go_text cast_text equal_text : List ℕ) (outcome : 
   pub told : outcome ≡ done (go_line ++ cast_line ++ equal_line)
 
 -- the answer is any but that it is done
-abbrev pub IsOther : Outcome → Type 0
-IsOther (done text) = ⊥
-IsOther outcome = ⊤
+abbrev pub IsNotDone : Outcome → Type 0
+IsNotDone (done text) = ⊥
+IsNotDone outcome = ⊤
 
 -- the answer of a first command where that is not done, and else what comes of the text with which it is done
 abbrev pub OrThen : (Outcome → Type 0) → (List ℕ → Outcome → Type 0) → Outcome → Type 0
-OrThen First Rest outcome = (IsOther outcome × First outcome) ⊎ ((text : List ℕ) × First (done text) × Rest text outcome)
+OrThen First Rest outcome = (IsNotDone outcome × First outcome) ⊎ ((text : List ℕ) × First (done text) × Rest text outcome)
 
 -- What `compile go` answers to a text where that is not done; else what `compile cast` answers where that is not; else what
 -- `equal go same` answers where that is not; else what is counted.

@@ -2,11 +2,11 @@
 use Rattle.std.specs.Prelude.{ℕ, List}
 use Rattle.nk.specs.declared.generating.Step.{Step}
 use Rattle.nk.specs.declared.generating.Step.TheVariants.{Line, Ends}
-use Rattle.nk.specs.Generating.{IsOther}
+use Rattle.nk.specs.Generating.{IsNotDone}
 use Rattle.nk.specs.Outcome.{Outcome, done}
 use Rattle.nk.specs.Reply.{said}
 
 -- the step's command is done with a text of which the line counts, or the step ends with the command's answer, which is another
-abbrev pub IsStep : (Outcome → Type 0) → (List ℕ → List ℕ → Type 0) → Step → Type 0
-IsStep First Counts (Line line) = (text : List ℕ) × First (done text) × Counts text line.items
-IsStep First Counts (Ends s) = IsOther (said s) × First (said s)
+abbrev pub IsJobStep : (Outcome → Type 0) → (List ℕ → List ℕ → Type 0) → Step → Type 0
+IsJobStep First Counts (Line line) = (text : List ℕ) × First (done text) × Counts text line.items
+IsJobStep First Counts (Ends s) = IsNotDone (said s) × First (said s)

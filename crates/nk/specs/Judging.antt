@@ -15,7 +15,7 @@ use Rattle.nk.specs.Checking.{invalid_line}
 use Rattle.nk.specs.Outcome.{Outcome, done, differs, text_refused, policy_refused}
 
 -- what is found of a certificate for the question of these names and `drop`
-pub record IsFoundFor (said : Said) (asked : Asked) (c : CertificateValue) (finding : Finding) : Type 0 where
+pub record IsFoundForAsked (said : Said) (asked : Asked) (c : CertificateValue) (finding : Finding) : Type 0 where
   pub program : Program
   pub says : said_by program ≡ said
   pub question : Question
@@ -24,7 +24,7 @@ pub record IsFoundFor (said : Said) (asked : Asked) (c : CertificateValue) (find
 
 -- it is a certificate, so no history breaks the query, and the text says that it is one
 pub record IsValidFor (said : Said) (asked : Asked) (c : CertificateValue) (text : List ℕ) : Type 0 where
-  pub found : IsFoundFor said asked c valid
+  pub found : IsFoundForAsked said asked c valid
   pub none : NoneBreaks found.program.fields found.question
   pub told : text ≡ codes "valid\n"
 
@@ -32,7 +32,7 @@ pub record IsValidFor (said : Said) (asked : Asked) (c : CertificateValue) (text
 pub record IsInvalidFor (said : Said) (asked : Asked) (c : CertificateValue) (text : List ℕ) : Type 0 where
   pub row : ℕ
   pub in_part : RowPart
-  pub found : IsFoundFor said asked c (invalid row in_part)
+  pub found : IsFoundForAsked said asked c (invalid row in_part)
   pub told : text ≡ invalid_line row in_part
 
 -- what is answered to a program with a certificate

@@ -27,8 +27,8 @@ answer_in reply.NoMemory = no_memory
 answer_in reply.TooLong = too_long
 
 -- all of the bytes went out, or the sink failed at them
-abbrev pub Sends : Use → List ℕ → Status → Status → Type 0
-Sends sink bytes s result =
+abbrev pub IsDelivered : Use → List ℕ → Status → Status → Type 0
+IsDelivered sink bytes s result =
     ((result ≡ s) × Took sink bytes) ⊎ ((result ≡ WriteFault) × FailedAt sink bytes)
 
 -- the reply is what the command answers to the input, or memory ran out

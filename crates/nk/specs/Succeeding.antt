@@ -133,19 +133,19 @@ IsOtherwise (Job size seed) bytes = HasJob (generated size seed) (λ program p q
 
 -- the status is `Done` exactly where the command is done over these bytes, and `Differs` exactly where it differs, but for want of
 -- memory
-pub record IsExact (command : Command) (bytes : List ℕ) (s : Status) : Type 0 where
+pub record IsStatusOf (command : Command) (bytes : List ℕ) (s : Status) : Type 0 where
   pub done : IsDone command bytes → (s ≡ Done) ⊎ (s ≡ NoMemory)
   pub done_only : s ≡ Done → IsDone command bytes
   pub differs : IsOtherwise command bytes → (s ≡ Differs) ⊎ (s ≡ NoMemory)
   pub differs_only : s ≡ Differs → IsOtherwise command bytes
 
 -- the bytes are all that the source tells to have left, at most as many as an input has, where the command reads; else any
-abbrev pub IsGiven : Bool → Use → List ℕ → Type 0
-IsGiven true source bytes = (source.old ≡ Some bytes) × (length bytes ≤ limit)
-IsGiven false source bytes = ⊤
+abbrev pub IsOffered : Bool → Use → List ℕ → Type 0
+IsOffered true source bytes = (source.old ≡ Some bytes) × (length bytes ≤ limit)
+IsOffered false source bytes = ⊤
 
 -- where the words are a command, these bytes are given to it, and no count rose
 abbrev pub Succeeds : List (List ℕ) → Use → Use → Use → Status → Type 0
 Succeeds words source out err s = (command : Command) (bytes : List ℕ)
-    → command_of words ≡ Some command → IsGiven (reads command) source bytes
-    → ¬ HasRisen source → ¬ HasRisen out → ¬ HasRisen err → IsExact command bytes s
+    → command_of words ≡ Some command → IsOffered (reads command) source bytes
+    → ¬ HasRisen source → ¬ HasRisen out → ¬ HasRisen err → IsStatusOf command bytes s

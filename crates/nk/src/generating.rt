@@ -7,7 +7,7 @@ ghost use Rattle.nk.specs.Comparing.{ToCompared};
 ghost use Rattle.nk.specs.Compiling.{ToProgram};
 ghost use Rattle.nk.specs.Declarable.{IsDeclared};
 ghost use Rattle.nk.specs.Generating.{CountsRows, CountsTables, IsGenAnswer, IsJobAnswer, IsJobOver, rows_line, tables_line};
-ghost use Rattle.nk.specs.JobSteps.{IsStep};
+ghost use Rattle.nk.specs.JobSteps.{IsJobStep};
 ghost use Rattle.nk.specs.ProgramText.{Declares};
 ghost use Rattle.nk.specs.Reply.{said};
 
@@ -90,7 +90,7 @@ fn job_of_program(alloc: Global, program: &Program) -> Result<Said, AllocError>
 fn count_tables(alloc: Global, program: &Program, name: &str) -> Result<Step, AllocError>
     requires is { IsProgram program.now.fields program.now.topo program.now.lets }
     requires declared { IsDeclared (said_by program.now) }
-    ensures { IfOk result (IsStep (ToProgram (said_by program.now) name.now) (CountsTables program.now name.now)) }
+    ensures { IfOk result (IsJobStep (ToProgram (said_by program.now) name.now) (CountsTables program.now name.now)) }
 {
     // These two are laws: what is compiled is such as is read back, and that is read back.
     compiled_tables_are_printable();
@@ -108,7 +108,7 @@ fn count_tables(alloc: Global, program: &Program, name: &str) -> Result<Step, Al
 /// The line of the rows of two policies' certificate, or the answer of `equal` where it isn't done.
 fn count_rows(alloc: Global, program: &Program, left: &str, right: &str) -> Result<Step, AllocError>
     requires is { IsProgram program.now.fields program.now.topo program.now.lets }
-    ensures { IfOk result (IsStep (ToCompared (said_by program.now) left.now right.now)
+    ensures { IfOk result (IsJobStep (ToCompared (said_by program.now) left.now right.now)
         (CountsRows program.now left.now right.now)) }
 {
     // This is a law: what is printed for two policies is read back.

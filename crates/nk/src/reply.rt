@@ -2,7 +2,7 @@
 ghost use Rattle.std.specs.Prelude.{◌≡◌};
 ghost use Rattle.nk.specs.Use.{use_of};
 ghost use Rattle.nk.specs.Ends.{Delivers, LeavesAlone};
-ghost use Rattle.nk.specs.Reply.{answer_in, Sends};
+ghost use Rattle.nk.specs.Reply.{answer_in, IsDelivered};
 
 use crate::Status;
 use nk_io::{Sink, write_all};
@@ -57,7 +57,7 @@ pub fn deliver<O: Sink, E: Sink>(reply: &Reply, out: &mut O, err: &mut E) -> Sta
 
 /// Sends the bytes, and answers the status where all of them went out.
 fn send<K: Sink>(sink: &mut K, bytes: &[u8], status: Status) -> Status
-    ensures { Sends (use_of K.taken K.faults sink.old sink.new) bytes.now status result }
+    ensures { IsDelivered (use_of K.taken K.faults sink.old sink.new) bytes.now status result }
 {
     match write_all(sink, bytes) {
         Ok(()) => status,

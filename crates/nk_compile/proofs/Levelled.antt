@@ -33,9 +33,9 @@ use Rattle.nk_runs.proofs.Stands.{stands}
 use Rattle.nk_runs.proofs.Ends.{none_ends}
 use Rattle.nk_runs.proofs.Breaking.{is_alert, breaks_given}
 use Rattle.nk_runs.proofs.TagSets.{are_tags, many_tags}
-use Rattle.nk_compile.specs.Edges.{is_start, is_no_edge}
+use Rattle.nk_places.specs.Edges.{is_start, is_no_edge}
 use Rattle.nk_compile.specs.Levelled.{IsLevelled, IsLeastOff}
-use Rattle.nk_compile.specs.PacketSets.{IsSetOf}
+use Rattle.nk_places.specs.PacketSets.{IsSetInRange}
 use Rattle.nk_compile.specs.OffEdge.{EndsOffEdge}
 use Rattle.nk_compile.specs.Ready.{sets_of, IsClear, IsReady}
 use Rattle.nk_compile.specs.Answers.{AreMade}
@@ -77,7 +77,7 @@ fails_unless true h = absurd (h refl)
 fails_unless false h = refl
 
 module _ (fields : FieldTable) (topo : Topology) (tag : ℕ) (p : Policy) (old first : Held) (start : ℕ) (clear : IsClear fields topo tag p) (over : IsOver fields old) (grew : Grows old first)
-    (start_is : IsSetOf first start (is_start topo tag)) where
+    (start_is : IsSetInRange first start (is_start topo tag)) where
   setup : IsSetUp fields first.maxes tag
   setup = set_up fields first tag clear.table (over_grown fields old first over grew) clear.tag_is
 

@@ -11,13 +11,11 @@ pub mod Levelled
 pub mod LinkEnds
 pub mod Making
 pub mod Naming
-pub mod PlaceLemmas
 pub mod Printed
 pub mod Reached
 pub mod Results
 pub mod RowsFor
 pub mod Sent
-pub mod SetLemmas
 pub mod SmallestTable
 pub mod Standing
 pub mod TagFree

@@ -26,9 +26,9 @@ use Rattle.nk_reach.proofs.Settling.{settled}
 use Rattle.nk_store.proofs.Stores.{grows_same}
 use Rattle.nk_reach.proofs.Growing.{sets_refl}
 use Rattle.nk_switches.proofs.Growing.{set_kept}
-use Rattle.nk_compile.specs.Edges.{is_start, is_no_edge}
+use Rattle.nk_places.specs.Edges.{is_start, is_no_edge}
 use Rattle.nk_compile.specs.Levelled.{IsLevelled, IsLeastOff}
-use Rattle.nk_compile.specs.PacketSets.{IsSetOf}
+use Rattle.nk_places.specs.PacketSets.{IsSetInRange}
 use Rattle.nk_compile.specs.WrongEnds.{end_leaf, wrong_leaf, HaveEndsOf, wrong_on}
 use Rattle.nk_compile.proofs.Uniting.{of_wrong, in_wrong}
 
@@ -59,7 +59,7 @@ kept zero g o (inl e) = (refl, sym (ap (λ (x : Out). x.act) e))
 kept zero g o (inr h) = absurd h
 kept (suc u) g o h = absurd h
 
-module _ (st : Held) (topo : Topology) (tidy : AreTidy st) (set : ℕ) (rows : List ℕ) (off : IsSetOf st set (is_no_edge topo)) (predicate : IsPredicate st set) where
+module _ (st : Held) (topo : Topology) (tidy : AreTidy st) (set : ℕ) (rows : List ℕ) (off : IsSetInRange st set (is_no_edge topo)) (predicate : IsPredicate st set) where
   -- what is made of a row's ends in the set is an end of the row that isn't at an edge port
   of_end : (row : ℕ) (x : List ℕ) (o : Out) → IsPacket st x → Has (end_leaf st set row x) o → (o.target ≡ 0) × Sends st row x (applied o.act x) 0 × (is_no_edge topo (applied o.act x) ≡ true)
   of_end row x o r h =
@@ -107,7 +107,7 @@ module _ (st : Held) (topo : Topology) (tidy : AreTidy st) (set : ℕ) (rows : L
 
 -- the levels of rows with these bad finals
 pub levels_are : (topo : Topology) (tag : ℕ) (old first new : Held) (rows goal_rows : List ℕ) (off goal_set from s : ℕ) (mid ss : List (List ℕ)) (ls : List (List (ℕ × ℕ))) (broken : Bool) →
-    Grows old first → Grows first new → AreTidy first → goal_set ≡ off → goal_rows ≡ rows → IsLabels mid s (0 ∷ []) → SetsGrow mid ss → IsSetOf first off (is_no_edge topo) → IsPredicate first off → IsSetOf first from (is_start topo tag) →
+    Grows old first → Grows first new → AreTidy first → goal_set ≡ off → goal_rows ≡ rows → IsLabels mid s (0 ∷ []) → SetsGrow mid ss → IsSetInRange first off (is_no_edge topo) → IsPredicate first off → IsSetInRange first from (is_start topo tag) →
     AreLevels first new ss rows s from (λ places x. wrong_leaf first goal_set goal_rows places x) ls broken → IsLevelled topo tag old rows new ss ls broken
 levels_are topo tag old first new rows goal_rows off goal_set from s mid ss ls broken grew grows tidy same_set same_rows labels more is_off passing is_from are = record {
   first = first;
@@ -139,7 +139,7 @@ levels_later old mid ss rows goal_rows ends set start goal_set now ls broken are
 
 -- the least history that breaks the goal there
 pub least_is : (topo : Topology) (tag : ℕ) (old first mid : Held) (rows goal_rows : List ℕ) (off goal_set from s : ℕ) (before ss : List (List ℕ)) (bad now : List ℕ → List ℕ → List Out) (ls : List (List (ℕ × ℕ))) (broken : Bool) (f : Found) →
-    Grows old mid → AreTidy mid → goal_set ≡ off → goal_rows ≡ rows → IsLabels before s (0 ∷ []) → SetsGrow before ss → IsSetOf mid off (is_no_edge topo) → IsPredicate mid off → IsSetOf mid from (is_start topo tag) →
+    Grows old mid → AreTidy mid → goal_set ≡ off → goal_rows ≡ rows → IsLabels before s (0 ∷ []) → SetsGrow before ss → IsSetInRange mid off (is_no_edge topo) → IsPredicate mid off → IsSetInRange mid from (is_start topo tag) →
     ((places x : List ℕ) → now places x ≡ wrong_leaf mid goal_set goal_rows places x) → AreLevels first mid ss rows s from bad ls broken →
     IsLeast (Breaks mid rows (get_or ss (first_set ls) []) (first_packets ls) now) f → IsLeastOff topo tag old rows f
 least_is topo tag old first mid rows goal_rows off goal_set from s before ss bad now ls broken f grew tidy same_set same_rows labels more is_off passing is_from same are least = record {
@@ -148,7 +148,7 @@ least_is topo tag old first mid rows goal_rows off goal_set from s before ss bad
   tidy = tidy;
   start = first_packets ls;
   bad = now;
-  start_is = subst (λ d. IsSetOf mid d (is_start topo tag)) (sym (ap (λ (v : List (ℕ × ℕ)). (get_or v 0 (0, 0)).1) are.start_is)) is_from;
+  start_is = subst (λ d. IsSetInRange mid d (is_start topo tag)) (sym (ap (λ (v : List (ℕ × ℕ)). (get_or v 0 (0, 0)).1) are.start_is)) is_from;
   wrong = λ places x y t inside r.
       subst (λ outs. Makes outs x y t ↔ ((t ≡ 0) × RowLeads mid rows places x y 0 × (is_no_edge topo y ≡ true)))
       (sym (same places x ∙ ap (λ (r : List ℕ). wrong_leaf mid goal_set r places x) same_rows ∙ ap (λ q. wrong_leaf mid q rows places x) same_set))

@@ -14,8 +14,8 @@ use Rattle.nk_compile.specs.declared.refusal.Refusal.TheVariants as refusal
 use Rattle.nk_field.specs.Order.{Found, IsLeast}
 use Rattle.nk_reach.specs.Breaks.{Breaks}
 use Rattle.nk_runs.specs.Wrong.{AreWrongEnds}
-use Rattle.nk_compile.specs.Edges.{is_start, is_no_edge}
-use Rattle.nk_compile.specs.PacketSets.{IsSetOf}
+use Rattle.nk_places.specs.Edges.{is_start, is_no_edge}
+use Rattle.nk_places.specs.PacketSets.{IsSetInRange}
 use Rattle.nk_compile.specs.Refusals.{found_from}
 
 -- the levels of these rows from the start packets; they are broken where a member ends at no edge port
@@ -28,7 +28,7 @@ pub record IsLevelled (topo : Topology) (tag : ℕ) (old : Held) (rows : List �
   pub start : ℕ
   pub bad : List ℕ → List ℕ → List Out
   pub set_is : slice_index_or ss set [] ≡ 0 ∷ []
-  pub start_is : IsSetOf first start (is_start topo tag)
+  pub start_is : IsSetInRange first start (is_start topo tag)
   pub wrong : AreWrongEnds first rows (is_no_edge topo) bad
   pub are : AreLevels first new ss rows set start bad levels broken
 
@@ -39,7 +39,7 @@ pub record IsLeastOff (topo : Topology) (tag : ℕ) (old : Held) (rows : List �
   pub tidy : AreTidy first
   pub start : ℕ
   pub bad : List ℕ → List ℕ → List Out
-  pub start_is : IsSetOf first start (is_start topo tag)
+  pub start_is : IsSetInRange first start (is_start topo tag)
   pub wrong : AreWrongEnds first rows (is_no_edge topo) bad
   pub least : IsLeast (Breaks first rows (0 ∷ []) start bad) f
 

@@ -3,11 +3,9 @@ pub mod Carries
 pub mod Comings
 pub mod Counted
 pub mod DeclaredLinks
-pub mod Edges
 pub mod Headline
 pub mod Levelled
 pub mod OffEdge
-pub mod PacketSets
 pub mod PrintedTable
 pub mod Ready
 pub mod Refusals

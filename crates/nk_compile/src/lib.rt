@@ -3,12 +3,9 @@
 
 mod compilation;
 mod counted;
-mod edges;
 mod ends;
 pub mod laws;
-mod places;
 mod refusal;
-mod sets;
 mod sight;
 mod stops;
 mod tables;

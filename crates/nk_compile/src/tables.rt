@@ -18,7 +18,6 @@ ghost use Rattle.nk_compile.specs.Answers.{AreMade, IsMade, IsError};
 ghost use Rattle.nk_compile.specs.Counted.{HasTagSets};
 
 use crate::counted::Counted;
-use crate::edges::{off_edges, starts};
 use crate::refusal::{CompileError, Refusal};
 use crate::sight::seen;
 use crate::tagging::tag_tables;
@@ -26,6 +25,7 @@ use crate::wrong_ends::wrong_ends;
 use nk_auto::policy_automaton;
 use nk_determ::{SetId, Sets};
 use nk_field::{Fid, Fields, List};
+use nk_places::{off_edges, starts};
 use nk_policy::Pol;
 use nk_reach::{Levels, levels};
 use nk_store::{Id, Store};

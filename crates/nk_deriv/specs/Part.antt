@@ -5,29 +5,13 @@ use Rattle.nk_field.specs.declared.packet.Packet.{Packet}
 use Rattle.nk_field.specs.Packet.{FieldTable}
 use Rattle.nk_policy.specs.declared.policy.Pol.{Pol}
 use Rattle.nk_policy.specs.Policy.{Policy, Policies, test, assign, sum_of, seq_of, not_of, star_of, dup, link, no_part, part, is_predicate}
+pub use Rattle.nk_policy.specs.Complements.{NegatesPredicates, AllNegatePredicates}
 use Rattle.nk_policy.specs.Tree.{tree_of}
 use Rattle.nk_policy.specs.Meaning.{Gives}
 use Rattle.nk_policy.specs.Progress.{RecordsAt}
 use Rattle.nk_policy.specs.After.{has_dup}
 use Rattle.nk_policy.specs.Ranges.{IsOver}
 use Rattle.nk_deriv.specs.declared.values.Part.{Part}
-
--- each complement is of a predicate
-abbrev mutual
-  pub NegatesPredicates : Policy → Type 0
-  NegatesPredicates (test f n) = Unit {0}
-  NegatesPredicates (assign f n) = Unit {0}
-  NegatesPredicates (sum_of ps) = AllNegatePredicates ps
-  NegatesPredicates (seq_of ps) = AllNegatePredicates ps
-  NegatesPredicates (not_of p) = (is_predicate p ≡ true) × NegatesPredicates p
-  NegatesPredicates (star_of p) = NegatesPredicates p
-  NegatesPredicates (dup l) = Unit {0}
-  NegatesPredicates (link a m b n l) = Unit {0}
-
-  -- the same of each part
-  pub AllNegatePredicates : Policies → Type 0
-  AllNegatePredicates no_part = Unit {0}
-  AllNegatePredicates (part p ps) = NegatesPredicates p × AllNegatePredicates ps
 
 -- no dup and no link literal, and each complement is of a predicate
 abbrev mutual

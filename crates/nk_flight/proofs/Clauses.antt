@@ -8,7 +8,7 @@ use Rattle.nk_field.proofs.Lists.{In, in_mapped, from_mapped, map_joined, map_ov
 use Rattle.nk_table.specs.declared.Tables.{Tables}
 use Rattle.nk_table.specs.Hops.{Copy, left_after}
 use Rattle.nk_flight.specs.Flights.{FlightState, Event, nothing_in_flight, after_events}
-use Rattle.nk_flight.specs.Owed.{copies_of, histories_of, crossings, with_crossings, owed_by, left_or_owed, erased_copy}
+use Rattle.nk_flight.specs.Owed.{flying_from, left_from, crossings, with_crossings, owed_by, left_or_owed, erased_copy}
 use Rattle.nk_flight.specs.Once.{IsWithoutDoubles, all_erased, IsEachOnce, LeaveOnce}
 use Rattle.nk_flight.proofs.Owing.{eq_true}
 use Rattle.nk_flight.proofs.Schedules.{every_order, events_tables}
@@ -22,10 +22,10 @@ every_order_erased t es i k pk e =
 
 -- what has left and what is owed, with tags set to 0
 parts : (t : Tables) (s : FlightState) (n k : ℕ) → s.tables ≡ t
-    → all_erased t (left_or_owed s n k) ≡ all_erased t (with_crossings k (histories_of n s.left)) ++ flat_map (λ c. all_erased t (owed_by t k c)) (copies_of n s.flying)
+    → all_erased t (left_or_owed s n k) ≡ all_erased t (with_crossings k (left_from n s.left)) ++ flat_map (λ c. all_erased t (owed_by t k c)) (flying_from n s.flying)
 parts t s n k e =
-    let gone = with_crossings k (histories_of n s.left) in
-    let copies = copies_of n s.flying in
+    let gone = with_crossings k (left_from n s.left) in
+    let copies = flying_from n s.flying in
     ap (λ u. all_erased t (gone ++ flat_map (owed_by u k) copies)) e
     ∙ map_joined (erased_copy t) gone (flat_map (owed_by t k) copies)
     ∙ ap (λ l. all_erased t gone ++ l) (map_over_joined (erased_copy t) (owed_by t k) copies)
@@ -33,10 +33,10 @@ parts t s n k e =
 -- where no history of k crossings leaves twice
 pub once_in_flight : (t : Tables) (es : List Event) (i k : ℕ) (pk : List ℕ) (these : List Copy) → slice_get (after_events es (nothing_in_flight t)).packets i ≡ Some pk
     → LeaveOnce t k pk these
-    → IsEachOnce t k these (all_erased t (with_crossings k (histories_of (i + 1) (after_events es (nothing_in_flight t)).left))) (copies_of (i + 1) (after_events es (nothing_in_flight t)).flying)
+    → IsEachOnce t k these (all_erased t (with_crossings k (left_from (i + 1) (after_events es (nothing_in_flight t)).left))) (flying_from (i + 1) (after_events es (nothing_in_flight t)).flying)
 once_in_flight t es i k pk these e l =
     let s = after_events es (nothing_in_flight t) in
-    each_once t k pk these (all_erased t (with_crossings k (histories_of (i + 1) s.left))) (copies_of (i + 1) s.flying)
+    each_once t k pk these (all_erased t (with_crossings k (left_from (i + 1) s.left))) (flying_from (i + 1) s.flying)
     (subst (IsPermutation (all_erased t (left_after t k pk))) (parts t s (i + 1) k (events_tables es (nothing_in_flight t))) (every_order_erased t es i k pk e))
     l
 
@@ -77,10 +77,10 @@ module _ (t : Tables) where
 -- then no history has left twice, whatever it has crossed
 pub none_left_twice : (t : Tables) (es : List Event) (i : ℕ) (pk : List ℕ) → slice_get (after_events es (nothing_in_flight t)).packets i ≡ Some pk
     → ((k : ℕ) → IsWithoutDoubles (all_erased t (left_after t k pk)))
-    → IsWithoutDoubles (all_erased t (histories_of (i + 1) (after_events es (nothing_in_flight t)).left))
+    → IsWithoutDoubles (all_erased t (left_from (i + 1) (after_events es (nothing_in_flight t)).left))
 none_left_twice t es i pk e once =
     let s = after_events es (nothing_in_flight t) in
-    doubles_from_apart (all_erased t (histories_of (i + 1) s.left))
-    (all_apart t (histories_of (i + 1) s.left) (λ k.
+    doubles_from_apart (all_erased t (left_from (i + 1) s.left))
+    (all_apart t (left_from (i + 1) s.left) (λ k.
     let each = once_in_flight t es i k pk (all_erased t (left_after t k pk)) e record { once = once k; exactly = λ h. (λ c. c, λ c. c) } in
-    apart_from_doubles (all_erased t (with_crossings k (histories_of (i + 1) s.left))) each.once))
+    apart_from_doubles (all_erased t (with_crossings k (left_from (i + 1) s.left))) each.once))

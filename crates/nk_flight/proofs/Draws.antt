@@ -1,13 +1,9 @@
--- Schedules that are drawn: draws may be taken modulo their modulus first, and where nothing flies all stays.
-use Rattle.std.proofs.Common.{◌≡◌, ℕ, zero, suc, ◌+◌, ◌*◌, ◌%◌, ◌-◌, ◌≤◌, [], ◌∷◌, List, refl, sym, ap, ◌∙◌, length, arith}
+-- Schedules that are drawn: where nothing flies all stays.
+use Rattle.std.proofs.Common.{◌≡◌, ℕ, zero, suc, ◌+◌, ◌%◌, ◌-◌, ◌≤◌, [], ◌∷◌, List, refl, sym, ap, ◌∙◌, length, arith}
 use Rattle.std.specs.Prelude.{remove, slice_get}
 use Rattle.nk_flight.specs.declared.copies.Flying.{Flying}
 use Rattle.nk_flight.specs.Flights.{FlightState, handled}
-use Rattle.nk_flight.specs.Draws.{next_draw, draw, handled_by_draw, after_draws}
-
--- the next draw, of what is left of this one
-pub draw_of_rest : (x : ℕ) → (48271 * (x % 2147483647)) % 2147483647 ≡ next_draw x
-draw_of_rest x = omega arith
+use Rattle.nk_flight.specs.Draws.{draw, handled_by_draw, after_draws}
 
 -- nothing flies
 nothing : (s : FlightState) (fs : List Flying) (i : ℕ) → fs ≡ [] → handled s (slice_get fs i) (remove fs i) ≡ s

@@ -11,7 +11,7 @@ use Rattle.nk_table.specs.declared.Tables.{Tables}
 use Rattle.nk_table.specs.Hops.{moved_to, crossing}
 use Rattle.nk_flight.specs.declared.hops.Hop.{Hop}
 use Rattle.nk_flight.specs.Flights.{flying_as, flying_across}
-use Rattle.nk_flight.specs.Trails.{hop_at, trail, copy_at, copies_at, hop_over, hop_of, Follows, AreHops}
+use Rattle.nk_flight.specs.Trails.{hop_at, records_at, copy_at, copies_at, hop_over, hop_of, Follows, AreHops}
 
 -- what goes on from one of the first n hops goes on from one of the first m, also where more hops stand behind
 pub follows_on : (hs more : List Hop) (n m : ℕ) (h : Hop) → n ≤ length hs → n ≤ m → Follows hs n h → Follows (hs ++ more) m h
@@ -32,9 +32,9 @@ follows_wider hs n m h less f =
     (λ r. let lower : h.earlier < m = omega (arith, r.0, less) in inr (lower, r.1))
     f
 
--- a trail stays where more hops are held behind
+-- what was recorded stays where more hops are held behind
 pub trail_more : (fields : FieldTable) (hs more : List Hop) → AreHops hs → (k : ℕ) (h : Hop) → k ≡ h.crossings → Follows hs (length hs) h
-    → trail fields (hs ++ more) k h ≡ trail fields hs k h
+    → records_at fields (hs ++ more) k h ≡ records_at fields hs k h
 trail_more fields hs more are zero h e f = refl
 trail_more fields hs more are (suc k) h e f =
     ⊎_elim
@@ -46,7 +46,7 @@ trail_more fields hs more are (suc k) h e f =
     let rest = trail_more fields hs more are k (hop_at hs h.earlier) count
     (follows_wider hs h.earlier (length hs) (hop_at hs h.earlier) less (are h.earlier r.0)) in
     ap (λ l. l ++ erased fields h.before ∷ erased fields h.packet ∷ [])
-    (ap (λ (d : Hop). trail fields (hs ++ more) k d) same ∙ rest))
+    (ap (λ (d : Hop). records_at fields (hs ++ more) k d) same ∙ rest))
     f
   where
     clash : (n : ℕ) → suc n ≡ 0 → ⊥
@@ -134,7 +134,7 @@ across_is t hs p (y ∷ ys) =
     map_joined (copy_at t.fields hs) (hop_of t p (hop_at hs p) y) (flat_map (hop_of t p (hop_at hs p)) ys)
     ∙ (λ j. one (link_from t.topo (slice_index y 0) (slice_index y 1)) j ++ across_is t hs p ys j)
   where
-    one : (o : Option (ℕ × ℕ)) → map (copy_at t.fields hs) (hop_over p (hop_at hs p) y o) ≡ map (flying_as (hop_at hs p).number) (crossing t (trail t.fields hs (hop_at hs p).crossings (hop_at hs p)) y o)
+    one : (o : Option (ℕ × ℕ)) → map (copy_at t.fields hs) (hop_over p (hop_at hs p) y o) ≡ map (flying_as (hop_at hs p).number) (crossing t (records_at t.fields hs (hop_at hs p).crossings (hop_at hs p)) y o)
     one None = refl
     one (Some to) = refl
 
@@ -201,14 +201,14 @@ mapped_at f xs i x e = got_mapped f xs i ∙ ap (image f) e
 -- one crossing back
 pub trail_back : (fields : FieldTable) (hs : List Hop) → AreHops hs → (m n i : ℕ) → m ≡ suc n → i < length hs → (hop_at hs i).crossings ≡ m
     → ((hop_at hs i).earlier < length hs) × ((hop_at hs (hop_at hs i).earlier).crossings ≡ n)
-    × (trail fields hs m (hop_at hs i) ≡ trail fields hs n (hop_at hs (hop_at hs i).earlier) ++ erased fields (hop_at hs i).before ∷ erased fields (hop_at hs i).packet ∷ [])
+    × (records_at fields hs m (hop_at hs i) ≡ records_at fields hs n (hop_at hs (hop_at hs i).earlier) ++ erased fields (hop_at hs i).before ∷ erased fields (hop_at hs i).packet ∷ [])
 trail_back fields hs are m n i e lt count =
     ⊎_elim
     (λ none. absurd (omega (arith, none, count, e)))
     (λ r.
     let within : (hop_at hs i).earlier < length hs = omega (arith, r.0, lt) in
     let fewer : (hop_at hs (hop_at hs i).earlier).crossings ≡ n = omega (arith, r.1, count, e) in
-    (within, fewer, ap (λ k. trail fields hs k (hop_at hs i)) e))
+    (within, fewer, ap (λ k. records_at fields hs k (hop_at hs i)) e))
     (are i lt)
 
 -- its records are put in front

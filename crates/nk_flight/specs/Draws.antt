@@ -1,10 +1,7 @@
 -- Schedules that are drawn: at each step the next draw says which copy is handled.
-use Rattle.std.specs.Prelude.{ℕ, zero, suc, ◌*◌, ◌%◌, length}
+use Rattle.std.specs.Prelude.{ℕ, zero, suc, ◌%◌, length}
+pub use Rattle.nk_draws.specs.Draws.{next_draw}
 use Rattle.nk_flight.specs.Flights.{FlightState, stepped}
-
--- the draw after this one
-abbrev pub next_draw : ℕ → ℕ
-next_draw x = (48271 * x) % 2147483647
 
 -- the draw of this number from a seed
 abbrev pub draw : ℕ → ℕ → ℕ

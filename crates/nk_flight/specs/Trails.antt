@@ -14,14 +14,14 @@ abbrev pub hop_at : List Hop → ℕ → Hop
 hop_at hs i = slice_index_or hs i record { number = 0; crossings = 0; earlier = 0; before = []; packet = [] }
 
 -- what a copy has recorded that came to this hop by so many crossings
-abbrev pub trail : FieldTable → List Hop → ℕ → Hop → List (List ℕ)
-trail fields hs zero h = []
-trail fields hs (suc k) h =
-    trail fields hs k (hop_at hs h.earlier) ++ erased fields h.before ∷ erased fields h.packet ∷ []
+abbrev pub records_at : FieldTable → List Hop → ℕ → Hop → List (List ℕ)
+records_at fields hs zero h = []
+records_at fields hs (suc k) h =
+    records_at fields hs k (hop_at hs h.earlier) ++ erased fields h.before ∷ erased fields h.packet ∷ []
 
 -- the copy at a hop
 abbrev pub copy_at : FieldTable → List Hop → Hop → Flying
-copy_at fields hs h = record { number = h.number; records = trail fields hs h.crossings h; packet = h.packet }
+copy_at fields hs h = record { number = h.number; records = records_at fields hs h.crossings h; packet = h.packet }
 
 -- the copies whose hops are at these places
 abbrev pub copies_at : FieldTable → List Hop → List ℕ → List Flying

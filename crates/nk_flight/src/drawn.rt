@@ -4,12 +4,10 @@ ghost use Rattle.nk_flight.specs.Draws as draws;
 ghost use Rattle.nk_flight.specs.Flights.{injected, nothing_in_flight};
 
 use crate::flight::Flight;
+use nk_draws::next_draw;
 use nk_field::Packet;
 use nk_table::Tables;
 use std::alloc::{AllocError, Global};
-
-/// The product of two draws is taken modulo this number.
-const MODULUS: u64 = 2_147_483_647;
 
 /// The flight of one packet after so many steps: at each the next draw from the seed, modulo the number of copies in
 /// flight, says which copy is handled. Once nothing flies nothing happens. The only error is that memory ran out.
@@ -33,11 +31,4 @@ pub fn fly(
         flight.step((draw % flight.len() as u64) as usize)?;
     }
     Ok(flight)
-}
-
-/// The draw after this one.
-fn next_draw(draw: u64) -> u64
-    ensures { result ≡ draws.next_draw draw }
-{
-    48_271 * (draw % MODULUS) % MODULUS
 }

@@ -7,7 +7,7 @@ ghost use Rattle.nk_table.specs.Hops as tables;
 ghost use Rattle.nk_table.specs.Rules.{sent_for};
 ghost use Rattle.nk_sim.specs.Emitted.{Finds};
 ghost use Rattle.nk_flight.specs.Flights.{left_leaving, left_next};
-ghost use Rattle.nk_flight.specs.Trails.{AreHops, hop_at, hop_of, trail, copy_at, copies_at};
+ghost use Rattle.nk_flight.specs.Trails.{AreHops, hop_at, hop_of, records_at, copy_at, copies_at};
 ghost use Rattle.nk_flight.specs.Trails as trails;
 
 use crate::copies::{Flying, Left};
@@ -237,7 +237,7 @@ fn records(
 ) -> Result<List<Packet>, AllocError>
     requires hops { AreHops hops.now }
     requires there { place < length hops.now }
-    ensures { IfOk result (λ records. records ≡ trail fields.now hops.now (hop_at hops.now place).crossings (hop_at hops.now place)) }
+    ensures { IfOk result (λ records. records ≡ records_at fields.now hops.now (hop_at hops.now place).crossings (hop_at hops.now place)) }
 {
     let crossings = hop_in(hops, place).crossings;
     let mut backwards = Vec::new(alloc);

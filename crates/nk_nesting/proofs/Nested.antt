@@ -14,7 +14,7 @@ use Rattle.nk_grammar.specs.FileMachine.{file_of}
 use Rattle.nk_grammar.specs.Answer.{terminals}
 use Rattle.nk_nesting.specs.Counts.{open_in_pol, open_in_file}
 use Rattle.nk_nesting.specs.Limit.{IsFirstAbove}
-use Rattle.nk_nesting.specs.Instances.{token_on, before_policy, openings, closings, IsMet}
+use Rattle.nk_nesting.specs.Instances.{token_on, before_policy, openings, closings, ShowsLimit}
 use Rattle.nk_nesting.proofs.Limits.{reads_within, refuses_257th}
 
 -- `id` in so many parentheses
@@ -155,5 +155,5 @@ refuse_more n rest e =
     }
 
 -- both
-pub is_met : IsMet
+pub is_met : ShowsLimit
 is_met = record { read = read_few 256 (omega arith); refused = λ rest. refuse_more 256 rest refl }

@@ -7,7 +7,7 @@ ghost use Rattle.nk_nesting.specs.Certificates.{
   RefusesTheCertified257th,
 };
 ghost use Rattle.nk_nesting.specs.Counts.{CountsGoWithTokens};
-ghost use Rattle.nk_nesting.specs.Instances.{IsMet};
+ghost use Rattle.nk_nesting.specs.Instances.{ShowsLimit};
 ghost use Rattle.nk_nesting.specs.Limit.{
   IsWithinOrAbove,
   ReadsWithinTheLimit,
@@ -48,5 +48,5 @@ pub fn only_the_257th_is_too_deep()
 
 /// 256 parentheses around `id` are read, and 257 are refused at the last.
 pub fn the_limit_is_met()
-    ensures { IsMet }
+    ensures { ShowsLimit }
 {}

@@ -27,7 +27,7 @@ use Rattle.nk.specs.Checking.{IsValid, IsInvalid, IsFound, IsCheckAnswer, invali
 use Rattle.nk.specs.Comparing.{IsSame, IsDifference, LacksPolicy, IsEqualAnswer, difference_lines}
 use Rattle.nk.specs.Compiling.{IsPrinted, IsRefusal, IsCompileAnswer}
 use Rattle.nk.specs.Judging.{IsValidFor, IsInvalidFor, IsJudgeAnswer}
-use Rattle.nk.specs.Judging.{IsFoundFor as IsFoundForAsked}
+use Rattle.nk.specs.Judging.{IsFoundForAsked}
 use Rattle.nk.specs.Messages.{TellsQuery, refusal_line}
 use Rattle.nk.specs.Outcome.{Outcome, done, differs, text_refused, policy_refused}
 use Rattle.nk.specs.ProgramText.{Declares, HasFault}

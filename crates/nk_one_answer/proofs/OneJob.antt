@@ -17,7 +17,7 @@ use Rattle.nk_uniqueness.proofs.Comparing.{OnePrinted, one_told_for}
 use Rattle.nk_uniqueness.proofs.OneTable.{one_tag_list}
 use Rattle.nk.specs.Comparing.{IsEqualAnswer}
 use Rattle.nk.specs.Compiling.{IsCompileAnswer}
-use Rattle.nk.specs.Generating.{CountsTables, CountsRows, IsCounted, IsJobOver, IsOther, OrThen, tables_line, rows_line}
+use Rattle.nk.specs.Generating.{CountsTables, CountsRows, IsCounted, IsJobOver, IsNotDone, OrThen, tables_line, rows_line}
 use Rattle.nk.specs.Outcome.{Outcome, done}
 use Rattle.nk.proofs.OneText.{declares_once}
 use Rattle.nk_one_answer.proofs.Named.{packets_of, table_of, one_compile, one_equal}
@@ -29,8 +29,8 @@ done_is x y e = cc
 one_or_then : (First : Outcome → Type 0) (Rest : List ℕ → Outcome → Type 0) → ((o p : Outcome) → First o → First p → o ≡ p)
     → ((t : List ℕ) (o p : Outcome) → Rest t o → Rest t p → o ≡ p) → (o p : Outcome) → OrThen First Rest o → OrThen First Rest p → o ≡ p
 one_or_then First Rest one rest o p (inl h) (inl k) = one o p h.1 k.1
-one_or_then First Rest one rest o p (inl h) (inr k) = absurd (subst IsOther (one o (done k.0) h.1 k.1) h.0)
-one_or_then First Rest one rest o p (inr h) (inl k) = absurd (subst IsOther (one p (done h.0) k.1 h.1) k.0)
+one_or_then First Rest one rest o p (inl h) (inr k) = absurd (subst IsNotDone (one o (done k.0) h.1 k.1) h.0)
+one_or_then First Rest one rest o p (inr h) (inl k) = absurd (subst IsNotDone (one p (done h.0) k.1 h.1) k.0)
 one_or_then First Rest one rest o p (inr h) (inr k) =
     let e = done_is h.0 k.0 (one (done h.0) (done k.0) h.1 k.1) in
     rest k.0 o p (subst (λ t. Rest t o) e h.2) k.2

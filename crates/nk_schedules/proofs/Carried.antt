@@ -10,7 +10,7 @@ use Rattle.nk_table.specs.declared.Tables.{Tables}
 use Rattle.nk_table.specs.Hops.{Copy, left_after}
 use Rattle.nk_compile.specs.Carries.{Carries}
 use Rattle.nk_flight.specs.Flights.{Event, nothing_in_flight, after_events}
-use Rattle.nk_flight.specs.Owed.{copies_of, crossings, histories_of, with_crossings, erased_copy}
+use Rattle.nk_flight.specs.Owed.{flying_from, crossings, left_from, with_crossings, erased_copy}
 use Rattle.nk_flight.specs.Once.{all_erased, IsEachOnce, LeaveOnce}
 use Rattle.nk_flight.proofs.Clauses.{once_in_flight, none_left_twice, in_kept}
 use Rattle.nk_flight.proofs.Owing.{eq_true}
@@ -24,7 +24,7 @@ leave_once program p t k pk carries start = record { once = carries.once k pk st
 -- each of the policy's histories has left once, or is owed by one copy alone
 pub each_once_of : (program : Program) (p : Policy) (t : Tables) (es : List Event) (i k : ℕ) (pk : List ℕ) → Carries program p t
     → slice_get (after_events es (nothing_in_flight t)).packets i ≡ Some pk → IsStart program.fields program.topo pk
-    → IsEachOnceOf p pk t k (all_erased t (with_crossings k (histories_of (i + 1) (after_events es (nothing_in_flight t)).left))) (copies_of (i + 1) (after_events es (nothing_in_flight t)).flying)
+    → IsEachOnceOf p pk t k (all_erased t (with_crossings k (left_from (i + 1) (after_events es (nothing_in_flight t)).left))) (flying_from (i + 1) (after_events es (nothing_in_flight t)).flying)
 each_once_of program p t es i k pk carries e start =
     let all = all_erased t (left_after t k pk) in
     let each = once_in_flight t es i k pk all e (leave_once program p t k pk carries start) in
@@ -41,9 +41,9 @@ each_once_of program p t es i k pk carries e start =
 -- nothing else has left
 pub no_other : (program : Program) (p : Policy) (t : Tables) (es : List Event) (i : ℕ) (pk : List ℕ) → Carries program p t
     → slice_get (after_events es (nothing_in_flight t)).packets i ≡ Some pk → IsStart program.fields program.topo pk
-    → IsNoOther p pk (all_erased t (histories_of (i + 1) (after_events es (nothing_in_flight t)).left))
+    → IsNoOther p pk (all_erased t (left_from (i + 1) (after_events es (nothing_in_flight t)).left))
 no_other program p t es i pk carries e start =
-    let hs = histories_of (i + 1) (after_events es (nothing_in_flight t)).left in
+    let hs = left_from (i + 1) (after_events es (nothing_in_flight t)).left in
     record {
       known = λ h c.
           let m = from_mapped (erased_copy t) hs h (in_from_contains (all_erased t hs) h c) in

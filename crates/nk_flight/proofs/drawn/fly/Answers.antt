@@ -18,7 +18,7 @@ loop-step-preserved c =
     let seed = c.args.seed in
     let n = c.loop-step._step in
     let more : suc n ≡ n + 1 = omega arith in
-    let drawn : c.next_draw-draw.result ≡ draw seed (suc n) = c.next_draw-draw.ensures ∙ ap next_draw c.loop-step.invariant.draws in
+    let drawn : c.next_draw-draw.result ≡ draw seed (suc n) = c.next_draw-draw.ensures.value ∙ ap next_draw c.loop-step.invariant.draws in
     record {
       draws = drawn ∙ ap (draw seed) more;
       steps =

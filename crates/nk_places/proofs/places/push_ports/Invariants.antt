@@ -1,8 +1,8 @@
 use Rattle.std.proofs.Common.{◌≡◌, ℕ, List, ◌&&◌, ◌||◌, take}
 use Rattle.std.specs.Prelude.{◌==◌, slice_index}
 use Rattle.std.specs.List.{list_any}
-use Rattle.nk_compile.specs.PacketSets.{is_at_place}
-use Rattle.nk_compile.proofs.places.push_ports.Given as goal
+use Rattle.nk_places.specs.PacketSets.{is_at_place}
+use Rattle.nk_places.proofs.places.push_ports.Given as goal
 
 -- the places that were there, and the ports so far
 abbrev pub invariant-loop-pt : goal.invariant-loop-pt

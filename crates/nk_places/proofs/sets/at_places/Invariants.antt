@@ -1,8 +1,8 @@
 use Rattle.std.proofs.Common.{◌≡◌, length}
 use Rattle.nk_store.specs.Held.{Grows}
-use Rattle.nk_compile.specs.PacketSets.{is_at}
-use Rattle.nk_compile.proofs.SetLemmas.{AreSets}
-use Rattle.nk_compile.proofs.sets.at_places.Given as goal
+use Rattle.nk_places.specs.PacketSets.{is_at}
+use Rattle.nk_places.proofs.SetLemmas.{AreSets}
+use Rattle.nk_places.proofs.sets.at_places.Given as goal
 
 -- the places so far have their sets
 abbrev pub invariant-loop-i : goal.invariant-loop-i

@@ -1,13 +1,13 @@
 //! Ports with their switches, as lists.
 ghost use Rattle.std.specs.Prelude.{◌≡◌, ℕ, List as Items, ◌==◌, ◌&&◌, ◌||◌, is_some, slice_index, IfOk, OnOk};
 ghost use Rattle.nk_topo.specs.Topology.{is_port, link_from};
-ghost use Rattle.nk_compile.specs.PacketSets.{is_at_place};
+ghost use Rattle.nk_places.specs.PacketSets.{is_at_place};
 
 use nk_topo::Topo;
 use std::alloc::{AllocError, Global};
 
 /// The declared ports, each with its switch.
-pub fn ports(alloc: Global, topo: &Topo) -> Result<Vec<(u16, u16)>, AllocError>
+pub(crate) fn ports(alloc: Global, topo: &Topo) -> Result<Vec<(u16, u16)>, AllocError>
     ensures { IfOk result (λ ps. (pk : Items ℕ) →
         is_at_place ps.items pk ≡ is_port topo.now (slice_index pk 0) (slice_index pk 1)) }
 {
@@ -31,7 +31,7 @@ fn push_ports(places: &mut Vec<(u16, u16)>, topo: &Topo, sw: u16) -> Result<(), 
 }
 
 /// The ports where links begin, each with its switch.
-pub fn sources(alloc: Global, topo: &Topo) -> Result<Vec<(u16, u16)>, AllocError>
+pub(crate) fn sources(alloc: Global, topo: &Topo) -> Result<Vec<(u16, u16)>, AllocError>
     ensures { IfOk result (λ ps. (pk : Items ℕ) →
         is_at_place ps.items pk ≡ is_some (link_from topo.now (slice_index pk 0) (slice_index pk 1))) }
 {

@@ -4,8 +4,8 @@ use Rattle.std.specs.List.{list_any}
 use Rattle.std.proofs.lemmas.List.{take_all}
 use Rattle.nk_topo.specs.Topology.{Link}
 use Rattle.nk_topo.specs.Inside.{link_of}
-use Rattle.nk_compile.proofs.PlaceLemmas.{source_there}
-use Rattle.nk_compile.proofs.places.sources.Goals as goal
+use Rattle.nk_places.proofs.PlaceLemmas.{source_there}
+use Rattle.nk_places.proofs.places.sources.Goals as goal
 
 pub returns : goal.returns
 returns c = λ pk.

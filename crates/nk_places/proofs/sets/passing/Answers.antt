@@ -1,6 +1,6 @@
 use Rattle.std.proofs.lemmas.Result.{IfOk-weaker}
-use Rattle.nk_compile.proofs.SetLemmas.{set_twice}
-use Rattle.nk_compile.proofs.sets.passing.Goals as goal
+use Rattle.nk_places.proofs.SetLemmas.{set_twice}
+use Rattle.nk_places.proofs.sets.passing.Goals as goal
 
 pub returns-clause-set : goal.returns-clause-set
 returns-clause-set c =

@@ -12,7 +12,7 @@ use Rattle.nk_store.specs.declared.node.Out.{Out}
 use Rattle.nk_store.specs.Held.{Held, IsPacket, look, Grows, HasLeaves}
 use Rattle.nk_algebra.specs.Leaves.{weave, merged, guarded, absent, by_order}
 use Rattle.nk_algebra.specs.Unions.{unions}
-use Rattle.nk_compile.specs.PacketSets.{has_out, IsSetOf}
+use Rattle.nk_places.specs.PacketSets.{has_out, IsSetInRange}
 
 -- a list without an out is empty
 pub no_outs : (outs : List Out) → has_out outs ≡ false → outs ≡ []
@@ -49,7 +49,7 @@ merged_out (x ∷ xs) (y ∷ ys) = by (out_cmp x y)
 
 -- what is in the old store's set is in the grown one's
 pub set_grows :
-    (old new : Held) (d : ℕ) (test : List ℕ → Bool) → Grows old new → IsSetOf old d test → IsSetOf new d test
+    (old new : Held) (d : ℕ) (test : List ℕ → Bool) → Grows old new → IsSetInRange old d test → IsSetInRange new d test
 set_grows old new d test g s = record {
   id = g.ids d s.id;
   at = λ pk r. ap has_out (g.leaves d pk s.id) ∙ s.at pk (subst (λ m. InRange m pk) g.maxes r);
@@ -57,25 +57,25 @@ set_grows old new d test g s = record {
 
 -- each element has its set, up to a place
 abbrev pub AreSets : {X : Type 0} → Held → (X → List ℕ → Bool) → List ℕ → List X → ℕ → Type 0
-AreSets {X} st test ids xs n = (k : ℕ) (x : X) → k < n → IsSetOf st (slice_index ids k) (test (get_or xs k x))
+AreSets {X} st test ids xs n = (k : ℕ) (x : X) → k < n → IsSetInRange st (slice_index ids k) (test (get_or xs k x))
 
 -- one more set
 pub sets_push :
     {X : Type 0} (st new : Held) (test : X → List ℕ → Bool) (ids more : List ℕ) (xs : List X) (i : ℕ) (x : X) (d : ℕ) →
     Grows st new → length ids ≡ i → more ≡ ids ++ d ∷ [] → i < length xs → x ≡ get_or xs i x → AreSets st test ids xs i →
-    IsSetOf new d (test x) → AreSets new test more xs (i + 1)
+    IsSetInRange new d (test x) → AreSets new test more xs (i + 1)
 sets_push st new test ids more xs i x d grows many pushed lt is sets one k e within =
     elim (leb_tells (suc k) i) [
       | inl before ↦
           let place : k < length ids = omega (arith, before.1, many) in
           let read : slice_index more k ≡ slice_index ids k = ap (λ l. get_or l k 0) pushed ∙ get_or_append_left ids (d ∷ []) 0 k place in
-          subst (λ n. IsSetOf new n (test (get_or xs k e))) (sym read)
+          subst (λ n. IsSetInRange new n (test (get_or xs k e))) (sym read)
           (set_grows st new (slice_index ids k) (test (get_or xs k e)) grows (sets k e (omega (arith, before.1))))
       | inr here ↦
           let place : k ≡ i = omega (arith, here.1, within) in
           let read : slice_index more k ≡ d = ap (λ l. get_or l k 0) pushed ∙ get_or_at ids d [] 0 k (many ∙ sym place) in
           let element : get_or xs k e ≡ x = ap (λ n. get_or xs n e) place ∙ get_or_default xs i e x lt ∙ sym is in
-          subst (λ n. IsSetOf new n (test (get_or xs k e))) (sym read) (subst (λ y. IsSetOf new d (test y)) (sym element) one)
+          subst (λ n. IsSetInRange new n (test (get_or xs k e))) (sym read) (subst (λ y. IsSetInRange new d (test y)) (sym element) one)
     ]
 
 -- the sets of the elements from a place on, together
@@ -109,7 +109,7 @@ pub sets_united :
     {X : Type 0} (st new : Held) (test : X → List ℕ → Bool) (ids given : List ℕ) (xs : List X) (i r : ℕ)
     → Grows st new →
     given ≡ ids → length ids ≡ i → length xs ≤ i → i ≤ length xs → AreSets st test ids xs i →
-    HasLeaves new r (λ pk. unions st given 0 (length given) pk) → IsSetOf new r (λ pk. list_any (λ x. test x pk) xs)
+    HasLeaves new r (λ pk. unions st given 0 (length given) pk) → IsSetInRange new r (λ pk. list_any (λ x. test x pk) xs)
 sets_united st new test ids given xs i r grows same many done within sets united =
     let count : length given ≡ length xs = omega (arith, ap length same, many, done, within) in
     record {
@@ -129,8 +129,8 @@ twice_not true = refl
 twice_not false = refl
 
 -- the set itself, by two complements
-pub set_twice : (old mid new : Held) (a others d : ℕ) → Grows old mid → Grows mid new → IsSetOf mid others (λ pk. not (has_out (look old a pk))) →
-    IsSetOf new d (λ pk. not (has_out (look mid others pk))) → IsSetOf new d (λ pk. has_out (look old a pk))
+pub set_twice : (old mid new : Held) (a others d : ℕ) → Grows old mid → Grows mid new → IsSetInRange mid others (λ pk. not (has_out (look old a pk))) →
+    IsSetInRange new d (λ pk. not (has_out (look mid others pk))) → IsSetInRange new d (λ pk. has_out (look old a pk))
 set_twice old mid new a others d g h one two = record {
   id = two.id;
   at = λ pk r. two.at pk r ∙ ap not (one.at pk (subst (λ m. InRange m pk) h.maxes r)) ∙ twice_not (has_out (look old a pk));

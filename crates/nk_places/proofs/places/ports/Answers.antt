@@ -3,8 +3,8 @@ use Rattle.std.specs.Prelude.{◌==◌, slice_index}
 use Rattle.std.specs.List.{list_any}
 use Rattle.std.proofs.lemmas.List.{take_all}
 use Rattle.nk_topo.specs.Topology.{is_port}
-use Rattle.nk_compile.proofs.PlaceLemmas.{all_ports}
-use Rattle.nk_compile.proofs.places.ports.Goals as goal
+use Rattle.nk_places.proofs.PlaceLemmas.{all_ports}
+use Rattle.nk_places.proofs.places.ports.Goals as goal
 
 pub returns : goal.returns
 returns c = λ pk.

@@ -3,9 +3,9 @@ use Rattle.std.specs.Prelude.{slice_index}
 use Rattle.std.proofs.lemmas.Result.{IfOk-weaker}
 use Rattle.nk_store.specs.Held.{IsId}
 use Rattle.nk_store.proofs.Stores.{grows_on}
-use Rattle.nk_compile.specs.PacketSets.{is_at}
-use Rattle.nk_compile.proofs.SetLemmas.{sets_push, sets_united}
-use Rattle.nk_compile.proofs.sets.at_places.Goals as goal
+use Rattle.nk_places.specs.PacketSets.{is_at}
+use Rattle.nk_places.proofs.SetLemmas.{sets_push, sets_united}
+use Rattle.nk_places.proofs.sets.at_places.Goals as goal
 
 pub at_place-requires-clause-switch : goal.at_place-requires-clause-switch
 at_place-requires-clause-switch c = subst (λ m. 65535 ≤ slice_index m 0) (sym c.loop-i.invariant.grows.maxes) c.requires.switch

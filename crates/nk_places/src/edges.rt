@@ -3,8 +3,8 @@ ghost use Rattle.std.specs.Prelude.{◌≡◌, ◌≤◌, is_some, slice_index, 
 ghost use Rattle.nk_topo.specs.Topology.{is_port, link_from};
 ghost use Rattle.nk_store.specs.Held.{Grows};
 ghost use Rattle.nk_algebra.specs.Predicates.{IsPredicate};
-ghost use Rattle.nk_compile.specs.PacketSets.{IsSetOf};
-ghost use Rattle.nk_compile.specs.Edges.{is_start, is_no_edge};
+ghost use Rattle.nk_places.specs.PacketSets.{IsSetInRange};
+ghost use Rattle.nk_places.specs.Edges.{is_start, is_no_edge};
 
 use crate::places::{ports, sources};
 use crate::sets::{at_places, in_both, outside, passing, with_value};
@@ -18,7 +18,7 @@ fn located(st: &mut Store, topo: &Topo) -> Result<Id, AllocError>
     requires switch { 65535 ≤ slice_index st.old.maxes 0 }
     requires port { 65535 ≤ slice_index st.old.maxes 1 }
     ensures grows { Grows st.old st.new }
-    ensures set { IfOk result (λ d. IsSetOf st.new d (λ pk. is_port topo.now (slice_index pk 0) (slice_index pk 1))) }
+    ensures set { IfOk result (λ d. IsSetInRange st.new d (λ pk. is_port topo.now (slice_index pk 0) (slice_index pk 1))) }
 {
     let places = ports(st.alloc(), topo)?;
     at_places(st, places.as_slice())
@@ -29,7 +29,7 @@ fn at_links(st: &mut Store, topo: &Topo) -> Result<Id, AllocError>
     requires switch { 65535 ≤ slice_index st.old.maxes 0 }
     requires port { 65535 ≤ slice_index st.old.maxes 1 }
     ensures grows { Grows st.old st.new }
-    ensures set { IfOk result (λ d. IsSetOf st.new d (λ pk. is_some (link_from topo.now (slice_index pk 0) (slice_index pk 1)))) }
+    ensures set { IfOk result (λ d. IsSetInRange st.new d (λ pk. is_some (link_from topo.now (slice_index pk 0) (slice_index pk 1)))) }
 {
     let places = sources(st.alloc(), topo)?;
     at_places(st, places.as_slice())
@@ -40,7 +40,7 @@ pub fn off_edges(st: &mut Store, topo: &Topo) -> Result<Id, AllocError>
     requires switch { 65535 ≤ slice_index st.old.maxes 0 }
     requires port { 65535 ≤ slice_index st.old.maxes 1 }
     ensures grows { Grows st.old st.new }
-    ensures set { IfOk result (λ d. IsSetOf st.new d (is_no_edge topo.now)) }
+    ensures set { IfOk result (λ d. IsSetInRange st.new d (is_no_edge topo.now)) }
     ensures predicate { IfOk result (λ d. IsPredicate st.new d) }
 {
     let links = at_links(st, topo)?;
@@ -55,7 +55,7 @@ pub fn starts(st: &mut Store, topo: &Topo, tag: Fid) -> Result<Id, AllocError>
     requires switch { 65535 ≤ slice_index st.old.maxes 0 }
     requires port { 65535 ≤ slice_index st.old.maxes 1 }
     ensures grows { Grows st.old st.new }
-    ensures set { IfOk result (λ d. IsSetOf st.new d (is_start topo.now tag)) }
+    ensures set { IfOk result (λ d. IsSetInRange st.new d (is_start topo.now tag)) }
     ensures predicate { IfOk result (λ d. IsPredicate st.new d) }
 {
     let begun = untagged_ports(st, topo, tag)?;
@@ -67,7 +67,7 @@ fn untagged_ports(st: &mut Store, topo: &Topo, tag: Fid) -> Result<Id, AllocErro
     requires switch { 65535 ≤ slice_index st.old.maxes 0 }
     requires port { 65535 ≤ slice_index st.old.maxes 1 }
     ensures grows { Grows st.old st.new }
-    ensures set { IfOk result (λ d. IsSetOf st.new d (is_start topo.now tag)) }
+    ensures set { IfOk result (λ d. IsSetInRange st.new d (is_start topo.now tag)) }
 {
     let untagged = with_value(st, tag, 0)?;
     let ports = located(st, topo)?;

@@ -5,7 +5,7 @@ use Rattle.std.specs.List.{list_any}
 use Rattle.nk_store.specs.Held.{Held, IsId, IsPacket, look}
 
 -- the diagram's set is that of the packets in range that pass the test
-pub record IsSetOf (st : Held) (d : ℕ) (test : List ℕ → Bool) : Type 0 where
+pub record IsSetInRange (st : Held) (d : ℕ) (test : List ℕ → Bool) : Type 0 where
   pub id : IsId st d
   pub at : (pk : List ℕ) → IsPacket st pk → has_out (look st d pk) ≡ test pk
 

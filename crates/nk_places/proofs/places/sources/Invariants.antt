@@ -3,8 +3,8 @@ use Rattle.std.specs.Prelude.{◌==◌, slice_index}
 use Rattle.std.specs.List.{list_any}
 use Rattle.nk_topo.specs.Topology.{Link}
 use Rattle.nk_topo.specs.Inside.{link_of}
-use Rattle.nk_compile.specs.PacketSets.{is_at_place}
-use Rattle.nk_compile.proofs.places.sources.Given as goal
+use Rattle.nk_places.specs.PacketSets.{is_at_place}
+use Rattle.nk_places.proofs.places.sources.Given as goal
 
 -- the sources of the links so far
 abbrev pub invariant-loop-link : goal.invariant-loop-link

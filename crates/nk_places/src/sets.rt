@@ -2,7 +2,7 @@
 ghost use Rattle.std.specs.Prelude.{◌≡◌, ◌≤◌, ◌<◌, ℕ, ◌==◌, ◌&&◌, not, slice_index, slice_index_or, length, IfOk};
 ghost use Rattle.nk_store.specs.Held.{IsId, Grows, look};
 ghost use Rattle.nk_algebra.specs.Predicates.{IsPredicate};
-ghost use Rattle.nk_compile.specs.PacketSets.{has_out, IsSetOf, is_at, is_at_place};
+ghost use Rattle.nk_places.specs.PacketSets.{has_out, IsSetInRange, is_at, is_at_place};
 
 use nk_algebra::{both, negate, test, union_all};
 use nk_field::{Fid, List};
@@ -10,40 +10,40 @@ use nk_store::{Id, Store};
 use std::alloc::AllocError;
 
 /// The packets with a value at a field.
-pub fn with_value(st: &mut Store, f: Fid, n: u64) -> Result<Id, AllocError>
+pub(crate) fn with_value(st: &mut Store, f: Fid, n: u64) -> Result<Id, AllocError>
     requires { n ≤ slice_index st.old.maxes f }
     ensures grows { Grows st.old st.new }
-    ensures set { IfOk result (λ d. IsSetOf st.new d (λ pk. slice_index pk f == n)) }
+    ensures set { IfOk result (λ d. IsSetInRange st.new d (λ pk. slice_index pk f == n)) }
 {
     let _place = f.place();
     test(st, f, n)
 }
 
 /// The packets in both sets.
-pub fn in_both(st: &mut Store, a: Id, b: Id) -> Result<Id, AllocError>
+pub(crate) fn in_both(st: &mut Store, a: Id, b: Id) -> Result<Id, AllocError>
     requires left { IsId st.old a }
     requires right { IsId st.old b }
     ensures grows { Grows st.old st.new }
-    ensures set { IfOk result (λ d. IsSetOf st.new d (λ pk. has_out (look st.old a pk) && has_out (look st.old b pk))) }
+    ensures set { IfOk result (λ d. IsSetInRange st.new d (λ pk. has_out (look st.old a pk) && has_out (look st.old b pk))) }
 {
     both(st, a, b)
 }
 
 /// The packets that are not in the set.
-pub fn outside(st: &mut Store, a: Id) -> Result<Id, AllocError>
+pub(crate) fn outside(st: &mut Store, a: Id) -> Result<Id, AllocError>
     requires { IsId st.old a }
     ensures grows { Grows st.old st.new }
-    ensures set { IfOk result (λ d. IsSetOf st.new d (λ pk. not (has_out (look st.old a pk)))) }
+    ensures set { IfOk result (λ d. IsSetInRange st.new d (λ pk. not (has_out (look st.old a pk)))) }
     ensures predicate { IfOk result (λ d. IsPredicate st.new d) }
 {
     negate(st, a)
 }
 
 /// The packets of the set, which passes them as they are.
-pub fn passing(st: &mut Store, a: Id) -> Result<Id, AllocError>
+pub(crate) fn passing(st: &mut Store, a: Id) -> Result<Id, AllocError>
     requires { IsId st.old a }
     ensures grows { Grows st.old st.new }
-    ensures set { IfOk result (λ d. IsSetOf st.new d (λ pk. has_out (look st.old a pk))) }
+    ensures set { IfOk result (λ d. IsSetInRange st.new d (λ pk. has_out (look st.old a pk))) }
     ensures predicate { IfOk result (λ d. IsPredicate st.new d) }
 {
     let others = outside(st, a)?;
@@ -51,11 +51,11 @@ pub fn passing(st: &mut Store, a: Id) -> Result<Id, AllocError>
 }
 
 /// The packets at a switch and a port.
-pub fn at_place(st: &mut Store, place: (u16, u16)) -> Result<Id, AllocError>
+pub(crate) fn at_place(st: &mut Store, place: (u16, u16)) -> Result<Id, AllocError>
     requires switch { 65535 ≤ slice_index st.old.maxes 0 }
     requires port { 65535 ≤ slice_index st.old.maxes 1 }
     ensures grows { Grows st.old st.new }
-    ensures set { IfOk result (λ d. IsSetOf st.new d (is_at place)) }
+    ensures set { IfOk result (λ d. IsSetInRange st.new d (is_at place)) }
 {
     let here = with_value(st, Fid::SWITCH, place.0 as u64)?;
     let there = with_value(st, Fid::PORT, place.1 as u64)?;
@@ -71,11 +71,11 @@ fn place_at(places: &[(u16, u16)], i: usize) -> (u16, u16)
 }
 
 /// The packets at one of the places, each a switch and a port.
-pub fn at_places(st: &mut Store, places: &[(u16, u16)]) -> Result<Id, AllocError>
+pub(crate) fn at_places(st: &mut Store, places: &[(u16, u16)]) -> Result<Id, AllocError>
     requires switch { 65535 ≤ slice_index st.old.maxes 0 }
     requires port { 65535 ≤ slice_index st.old.maxes 1 }
     ensures grows { Grows st.old st.new }
-    ensures set { IfOk result (λ d. IsSetOf st.new d (is_at_place places.now)) }
+    ensures set { IfOk result (λ d. IsSetInRange st.new d (is_at_place places.now)) }
 {
     let mut ids = List::new(st.alloc());
     for i in 0..places.len() {

@@ -2,8 +2,8 @@ use Rattle.std.proofs.Common.{◌≡◌, ℕ, List, ◌&&◌, take}
 use Rattle.std.specs.Prelude.{◌==◌, slice_index}
 use Rattle.std.specs.List.{list_any}
 use Rattle.nk_topo.specs.Topology.{is_port}
-use Rattle.nk_compile.specs.PacketSets.{is_at_place}
-use Rattle.nk_compile.proofs.places.ports.Given as goal
+use Rattle.nk_places.specs.PacketSets.{is_at_place}
+use Rattle.nk_places.proofs.places.ports.Given as goal
 
 -- the ports of the switches so far
 abbrev pub invariant-loop-sw : goal.invariant-loop-sw

@@ -1,0 +1,2 @@
+pub mod PacketSets
+pub mod Edges
