@@ -1,5 +1,4 @@
 -- Histories of one policy alone.
-use Rattle.std.specs.Prelude.{◌≡◌, ℕ, List}
 use Rattle.nk_field.specs.Order.{Found}
 use Rattle.nk_field.specs.Packet.{FieldTable}
 use Rattle.nk_policy.specs.Policy.{Policy}

@@ -27,12 +27,11 @@ use nk_determ::{SetId, Sets};
 use nk_field::{Fid, Fields, List};
 use nk_places::{off_edges, starts};
 use nk_policy::Pol;
-use nk_reach::{Levels, levels};
+use nk_reach::{Found, Levels, least_history, levels};
 use nk_store::{Id, Store};
 use nk_table::{Table, Tables};
 use nk_tag::{NumberError, number};
 use nk_topo::Topo;
-use nk_reach::{Found, least_history};
 use std::alloc::{AllocError, Global};
 
 /// The levels of an automaton's rows from the located untagged packets. Where an end at no edge port is met, the least history

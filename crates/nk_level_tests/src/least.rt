@@ -11,9 +11,8 @@ use crate::stores::FIRST;
 use nk_determ::{SetId, Sets};
 use nk_field::{Fid, Packet};
 use nk_policy::Pol;
-use nk_reach::{OneSide, levels};
+use nk_reach::{Found, OneSide, Side, least_history, levels};
 use nk_store::{Id, Store};
-use nk_reach::{Found, Side, least_history};
 use std::alloc::{AllocError, Global};
 use std::test::Fail;
 

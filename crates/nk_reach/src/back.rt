@@ -4,12 +4,12 @@ ghost use Rattle.nk_store.specs.Held.{Held, Grows};
 ghost use Rattle.nk_reach.specs.Pairs.{ArePairs};
 ghost use Rattle.nk_reach.specs.Backs.{IsBadSoFar};
 
+use crate::entries::add;
+use crate::goal::Goal;
 use crate::standing::Entries;
 use indexmap::IndexMap;
 use nk_determ::{SetId, Sets};
 use nk_field::List;
-use crate::entries::add;
-use crate::goal::Goal;
 use nk_sets::at_packets;
 use nk_store::{Id, Store};
 use std::alloc::AllocError;

@@ -10,11 +10,11 @@ ghost use Rattle.nk_reach.specs.Choices.{IsAny, IsBest};
 ghost use Rattle.nk_reach.specs.Finds.{IsNextLeast};
 
 use crate::choice::{Choice, least_ahead, least_end};
+use crate::goal::Goal;
+use crate::local::state_at;
 use crate::standing::Entries;
 use nk_determ::{SetId, Sets};
 use nk_field::{List, Packet};
-use crate::goal::Goal;
-use crate::local::state_at;
 use nk_sets::least;
 use nk_store::{Id, Store};
 use std::alloc::AllocError;

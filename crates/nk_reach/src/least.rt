@@ -11,13 +11,13 @@ ghost use Rattle.nk_reach.specs.Backs.{AreBacks};
 ghost use Rattle.nk_reach.specs.Finds.{first_set, first_packets, target_of, found_of};
 
 use crate::back::bad_level;
-use crate::standing::Entries;
 use crate::forward::{last_packet, least_under, next_packet};
 use crate::found::{Found, Side};
+use crate::goal::Goal;
 use crate::pull::pull_level;
+use crate::standing::Entries;
 use nk_determ::{Levels, SetId, Sets};
 use nk_field::{History, List};
-use crate::goal::Goal;
 use nk_store::{Id, Store};
 use std::alloc::{AllocError, Global};
 

@@ -8,14 +8,14 @@ ghost use Rattle.nk_reach.specs.Outs.{AreGiven};
 ghost use Rattle.nk_reach.specs.Rounds.{HaveSets, AreSpare};
 ghost use Rattle.nk_reach.specs.Pulls.{IsPulled, AreAllPulled, IsPulledPair, IsPulledSoFar};
 
+use crate::entries::add;
+use crate::local::state_at;
+use crate::outs::{Given, by_out};
 use crate::standing::Entries;
 use indexmap::IndexMap;
 use nk_algebra::{both, empty, union};
 use nk_determ::{SetId, Sets};
 use nk_field::List;
-use crate::entries::add;
-use crate::local::state_at;
-use crate::outs::{Given, by_out};
 use nk_sets::preimage;
 use nk_store::{Id, Out, Store};
 use std::alloc::AllocError;

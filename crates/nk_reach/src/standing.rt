@@ -2,9 +2,9 @@
 ghost use Rattle.std.specs.Prelude.{◌≡◌, eqb};
 ghost use Rattle.std.specs.Map.{lookup};
 
+use crate::entries::under;
 use indexmap::IndexMap;
 use nk_determ::SetId;
-use crate::entries::under;
 use nk_store::Id;
 use std::marker::Model;
 
