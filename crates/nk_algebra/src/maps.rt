@@ -42,6 +42,10 @@ impl<'a, M: LeafMap> NodeMap for ByLeaf<'a, M> {
         PLACES
     }
 
+    fn is_quick(&self) -> bool {
+        false
+    }
+
     fn laws(&self) {}
 
     fn change(&self, st: &mut Store, d: Id) -> Result<Id, AllocError> {

@@ -54,6 +54,10 @@ impl NodeMap for At {
         self.field.place()
     }
 
+    fn is_quick(&self) -> bool {
+        true
+    }
+
     fn laws(&self) {}
 
     fn change(&self, st: &mut Store, d: Id) -> Result<Id, AllocError> {

@@ -35,6 +35,9 @@ pub trait NodeMap {
         ensures is { result ≡ kept self.now }
         ensures few { result ≤ 18 };
 
+    /// Whether a diagram that tests none of the kept fields is changed so quickly that keeping the answer costs more.
+    fn is_quick(&self) -> bool;
+
     /// What holds at the fields that are kept; it does nothing.
     fn laws(&self)
         ensures same { (g : ℕ) (pk : Items ℕ) → g < kept self.now → slice_index (taken self.now pk) g ≡ slice_index pk g }
@@ -63,7 +66,7 @@ pub fn map_nodes<M: NodeMap>(st: &mut Store, m: &M, d: Id) -> Result<Id, AllocEr
     walk_once(st, &mut seen, m, d)
 }
 
-/// What is made of a diagram, which is looked up where it was made before.
+/// What is made of a diagram, by whether it tests a field which is kept.
 #[cycle(walk)]
 fn walk_once<M: NodeMap>(
     st: &mut Store,
@@ -79,39 +82,8 @@ fn walk_once<M: NodeMap>(
     ensures later { IfOk result (λ r. M.first m.now (top st.old d) ≤ top st.new r) }
     ensures seen { OnOk result (AreMadeOf (M.taken m.now) (M.made m.now) (M.first m.now) st.new seen.new.entries) }
 {
-    if let Some(r) = known(seen, d) {
-        return Ok(r);
-    }
-    let r = walk_new(st, seen, m, d)?;
-    seen.insert(d, r)?;
-    Ok(r)
-}
-
-/// What a table has for a diagram.
-pub fn known(seen: &HashMap<Id, Id>, d: Id) -> Option<Id>
-    ensures { result ≡ lookup (eqb d) seen.now.entries }
-{
-    seen.get(&d).copied()
-}
-
-/// What is made of a diagram, made anew.
-#[cycle(walk)]
-fn walk_new<M: NodeMap>(
-    st: &mut Store,
-    seen: &mut HashMap<Id, Id>,
-    m: &M,
-    d: Id,
-) -> Result<Id, AllocError>
-    requires id { IsId st.old d }
-    requires allowed { M.allowed m.now st.old.maxes }
-    requires seen { AreMadeOf (M.taken m.now) (M.made m.now) (M.first m.now) st.old seen.old.entries }
-    ensures grows { Grows st.old st.new }
-    ensures ok { IfOk result (λ r. HasLeaves st.new r (λ pk. M.made m.now st.old.maxes pk (look st.old d (M.taken m.now pk)))) }
-    ensures later { IfOk result (λ r. M.first m.now (top st.old d) ≤ top st.new r) }
-    ensures seen { OnOk result (AreMadeOf (M.taken m.now) (M.made m.now) (M.first m.now) st.new seen.new.entries) }
-{
     match first_before(st, d, m.place()) {
-        None => m.change(st, d),
+        None => walk_end(st, seen, m, d),
         Some(g) => walk_case(st, seen, m, g, d),
     }
 }
@@ -128,9 +100,72 @@ fn first_before(st: &Store, d: Id, place: usize) -> Option<Fid>
     }
 }
 
-/// What is made of a diagram that tests a field which is kept.
+/// What is made of a diagram that tests none of the kept fields, which is looked up where it was made before.
+fn walk_end<M: NodeMap>(
+    st: &mut Store,
+    seen: &mut HashMap<Id, Id>,
+    m: &M,
+    d: Id,
+) -> Result<Id, AllocError>
+    requires id { IsId st.old d }
+    requires past { M.kept m.now ≤ top st.old d }
+    requires allowed { M.allowed m.now st.old.maxes }
+    requires seen { AreMadeOf (M.taken m.now) (M.made m.now) (M.first m.now) st.old seen.old.entries }
+    ensures grows { Grows st.old st.new }
+    ensures ok { IfOk result (λ r. HasLeaves st.new r (λ pk. M.made m.now st.old.maxes pk (look st.old d (M.taken m.now pk)))) }
+    ensures later { IfOk result (λ r. M.first m.now (top st.old d) ≤ top st.new r) }
+    ensures seen { OnOk result (AreMadeOf (M.taken m.now) (M.made m.now) (M.first m.now) st.new seen.new.entries) }
+{
+    if m.is_quick() {
+        return m.change(st, d);
+    }
+    if let Some(r) = known(seen, d) {
+        return Ok(r);
+    }
+    let r = m.change(st, d)?;
+    seen.insert(d, r)?;
+    Ok(r)
+}
+
+/// What a table has for a diagram.
+pub fn known(seen: &HashMap<Id, Id>, d: Id) -> Option<Id>
+    ensures { result ≡ lookup (eqb d) seen.now.entries }
+{
+    seen.get(&d).copied()
+}
+
+/// What is made of a diagram that tests a field which is kept, which is looked up where it was made before.
 #[cycle(walk)]
 fn walk_case<M: NodeMap>(
+    st: &mut Store,
+    seen: &mut HashMap<Id, Id>,
+    m: &M,
+    g: Fid,
+    d: Id,
+) -> Result<Id, AllocError>
+    requires id { IsId st.old d }
+    requires field { g < 18 }
+    requires before { g < M.kept m.now }
+    requires first { top st.old d ≡ g }
+    requires split { IsSplit st.old g d }
+    requires allowed { M.allowed m.now st.old.maxes }
+    requires seen { AreMadeOf (M.taken m.now) (M.made m.now) (M.first m.now) st.old seen.old.entries }
+    ensures grows { Grows st.old st.new }
+    ensures ok { IfOk result (λ r. HasLeaves st.new r (λ pk. M.made m.now st.old.maxes pk (look st.old d (M.taken m.now pk)))) }
+    ensures later { IfOk result (λ r. M.first m.now (top st.old d) ≤ top st.new r) }
+    ensures seen { OnOk result (AreMadeOf (M.taken m.now) (M.made m.now) (M.first m.now) st.new seen.new.entries) }
+{
+    if let Some(r) = known(seen, d) {
+        return Ok(r);
+    }
+    let r = walk_node(st, seen, m, g, d)?;
+    seen.insert(d, r)?;
+    Ok(r)
+}
+
+/// The same, made anew.
+#[cycle(walk)]
+fn walk_node<M: NodeMap>(
     st: &mut Store,
     seen: &mut HashMap<Id, Id>,
     m: &M,

@@ -81,6 +81,10 @@ impl NodeMap for Unchanged {
         self.field.place()
     }
 
+    fn is_quick(&self) -> bool {
+        false
+    }
+
     fn laws(&self) {}
 
     fn change(&self, st: &mut Store, d: Id) -> Result<Id, AllocError> {

@@ -33,12 +33,12 @@ pub case_kind :
 case_kind st c f ps n id at is means = set_case st c f ps id (sym at ∙ is) (subst (IsNodeOf st c) is means).below
 
 -- the tree of a node is that of the empty set exactly where the node is the leaf with no out
-pub none_is :
+pub empty_leaf_is :
     (st : Held) (c : ℕ) (n : Node) → IsId st c → n ≡ node_of st c → IsNodeOf st c n
     → is_empty_leaf n ≡ is_empty_set (set_tree st c)
-none_is st c (Leaf []) id at means = sym (ap is_empty_set (set_leaf st c [] id (sym at)))
-none_is st c (Leaf (o ∷ os)) id at means = sym (ap is_empty_set (set_leaf st c (o ∷ os) id (sym at)))
-none_is st c (Case f ps) id at means = sym (ap is_empty_set (case_kind st c f ps (Case f ps) id at refl means))
+empty_leaf_is st c (Leaf []) id at means = sym (ap is_empty_set (set_leaf st c [] id (sym at)))
+empty_leaf_is st c (Leaf (o ∷ os)) id at means = sym (ap is_empty_set (set_leaf st c (o ∷ os) id (sym at)))
+empty_leaf_is st c (Case f ps) id at means = sym (ap is_empty_set (case_kind st c f ps (Case f ps) id at refl means))
 
 -- one more element
 pub mapped_push : {A B : Type 0} (g : A → B) (xs : List A) (y : A) → map g (xs ++ y ∷ []) ≡ map g xs ++ g y ∷ []

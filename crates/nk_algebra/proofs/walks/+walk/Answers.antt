@@ -8,35 +8,31 @@ use Rattle.nk_algebra.proofs.MadeOf.{rows_grow, rows_put, made_now, on_any}
 use Rattle.nk_algebra.proofs.Turned.{turned, turned_push, turned_past, turned_made, set_within}
 use Rattle.nk_algebra.proofs.walks.+walk.Goals as goal
 
-pub walk_once-returns-in-Some-clause-ok : goal.walk_once-returns-in-Some-clause-ok
-walk_once-returns-in-Some-clause-ok g t c = (c.requires.seen c.args.d c.in-Some.r (sym c.known.ensures ∙ c.in-Some.is)).leaves
+pub walk_case-returns-in-Some-clause-ok : goal.walk_case-returns-in-Some-clause-ok
+walk_case-returns-in-Some-clause-ok g t c = (c.requires.seen c.args.d c.in-Some.r (sym c.known.ensures ∙ c.in-Some.is)).leaves
 
-pub walk_once-returns-in-Some-clause-later : goal.walk_once-returns-in-Some-clause-later
-walk_once-returns-in-Some-clause-later g t c = (c.requires.seen c.args.d c.in-Some.r (sym c.known.ensures ∙ c.in-Some.is)).later
+pub walk_case-returns-in-Some-clause-later : goal.walk_case-returns-in-Some-clause-later
+walk_case-returns-in-Some-clause-later g t c = (c.requires.seen c.args.d c.in-Some.r (sym c.known.ensures ∙ c.in-Some.is)).later
 
-pub walk_once-returns-clause-seen : goal.walk_once-returns-clause-seen
-walk_once-returns-clause-seen g t c =
-    rows_put (g.M.NodeMap.taken c.args.m.now) (g.M.NodeMap.made c.args.m.now) (g.M.NodeMap.first c.args.m.now) c.walk_new.new.st c.args.d c.in_ok-r.r c.walk_new.new.seen.entries c.insert.new.self.entries c.in_ok-r.ensures.seen
-    (made_now (g.M.NodeMap.taken c.args.m.now) (g.M.NodeMap.made c.args.m.now) (g.M.NodeMap.first c.args.m.now) c.args.st.now c.walk_new.new.st c.args.d c.in_ok-r.r c.walk_new.ensures.grows c.requires.id c.in_ok-r.ensures.ok c.in_ok-r.ensures.later)
+pub walk_case-returns-clause-seen : goal.walk_case-returns-clause-seen
+walk_case-returns-clause-seen g t c =
+    rows_put (g.M.NodeMap.taken c.args.m.now) (g.M.NodeMap.made c.args.m.now) (g.M.NodeMap.first c.args.m.now) c.walk_node.new.st c.args.d c.in_ok-r.r c.walk_node.new.seen.entries c.insert.new.self.entries c.in_ok-r.ensures.seen
+    (made_now (g.M.NodeMap.taken c.args.m.now) (g.M.NodeMap.made c.args.m.now) (g.M.NodeMap.first c.args.m.now) c.args.st.now c.walk_node.new.st c.args.d c.in_ok-r.r c.walk_node.ensures.grows c.requires.id c.in_ok-r.ensures.ok c.in_ok-r.ensures.later)
     (λ q. c.in_ok-insert.ensures.updates.0 q)
 
-pub walk_new-returns-in-None-clause-seen : goal.walk_new-returns-in-None-clause-seen
-walk_new-returns-in-None-clause-seen g t c =
-    on_any c.change.result _ (rows_grow (g.M.NodeMap.taken c.args.m.now) (g.M.NodeMap.made c.args.m.now) (g.M.NodeMap.first c.args.m.now) c.args.st.now c.change.new.st c.args.seen.now.entries c.change.ensures.grows c.requires.seen)
-
-pub walk_case-returns-clause-ok : goal.walk_case-returns-clause-ok
-walk_case-returns-clause-ok g t c =
+pub walk_node-returns-clause-ok : goal.walk_node-returns-clause-ok
+walk_node-returns-clause-ok g t c =
     IfOk-weaker c.case.result _ _
     (λ r h. turned_made (g.M.NodeMap.taken c.args.m.now) (g.M.NodeMap.made c.args.m.now c.args.st.now.maxes) c.args.st.now c.walk_parts.new.st c.case.new.self c.args.g c.args.d r c.in_ok-parts.parts c.requires.split
     (λ pk. c.laws.ensures.same c.args.g pk c.requires.before) c.in_ok-parts.ensures.ok h) c.case.ensures.ok
 
-pub walk_case-returns-clause-later : goal.walk_case-returns-clause-later
-walk_case-returns-clause-later g t c =
+pub walk_node-returns-clause-later : goal.walk_node-returns-clause-later
+walk_node-returns-clause-later g t c =
     let least = c.laws.ensures.least (top c.args.st.now c.args.d) in
     IfOk-weaker c.case.result _ _ (λ r h. omega (arith, least, c.requires.first, h)) c.case.ensures.later
 
-pub walk_case-returns-clause-seen : goal.walk_case-returns-clause-seen
-walk_case-returns-clause-seen g t c =
+pub walk_node-returns-clause-seen : goal.walk_node-returns-clause-seen
+walk_node-returns-clause-seen g t c =
     on_any c.case.result _ (rows_grow (g.M.NodeMap.taken c.args.m.now) (g.M.NodeMap.made c.args.m.now) (g.M.NodeMap.first c.args.m.now) c.walk_parts.new.st c.case.new.self c.walk_parts.new.seen.entries c.case.ensures.grows c.in_ok-parts.ensures.seen)
 
 pub walk_parts-returns-then-end-max-clause-parts : goal.walk_parts-returns-then-end-max-clause-parts

@@ -8,11 +8,11 @@ use Rattle.nk_algebra.proofs.walks.+walk.Given as goal
 abbrev pub decreases-walk_once : goal.decreases-walk_once
 decreases-walk_once g l = 4 * l.d + 3
 
-abbrev pub decreases-walk_new : goal.decreases-walk_new
-decreases-walk_new g l = 4 * l.d + 2
-
 abbrev pub decreases-walk_case : goal.decreases-walk_case
-decreases-walk_case g l = 4 * l.d + 1
+decreases-walk_case g l = 4 * l.d + 2
+
+abbrev pub decreases-walk_node : goal.decreases-walk_node
+decreases-walk_node g l = 4 * l.d + 1
 
 abbrev pub decreases-walk_parts : goal.decreases-walk_parts
 decreases-walk_parts g l = 4 * l.d
