@@ -48,7 +48,7 @@ use crate::trial::tried;
 use std::alloc::AllocError;
 use std::{fs, io};
 
-/// The files, in the order in which they are told.
+/// The files, in the order in which they are told. One that isn't named here isn't run.
 const FILES: [&str; 13] = [
     "words.rows",
     "texts.rows",
