@@ -12,7 +12,7 @@ use Rattle.nk_determ.specs.declared.branches.Branch.{Branch}
 use Rattle.nk_determ.specs.Exact.{exact_out, split_leaf, IsExact, AreExact}
 use Rattle.nk_determ.specs.Sets.{holds, place_in}
 use Rattle.nk_determ.specs.Branches.{with_target, begun, runs, branches, targets_of, labels, labels_of}
-use Rattle.nk_determ.specs.States.{RowSends, IsFollowed, IsStateOf, IsThere, final_of, out_to_set, branch_outs, regrouped}
+use Rattle.nk_determ.specs.States.{SomeSends, AreFollowed, IsStateOf, IsThere, final_of, out_to_set, branch_outs, regrouped}
 use Rattle.nk_determ.proofs.Laws.{exact_changes}
 use Rattle.nk_determ.proofs.Interned.{place_holds}
 use Rattle.nk_determ.proofs.Runs.{branch_for, branches_are, target_has, has_target, label_has, has_label}
@@ -219,12 +219,12 @@ there_holds sets [] l h t = absurd h
 there_holds sets (x ∷ xs) l h t = t
 
 -- what a split leaf sends is by an exact act
-row_exact : (maxes pk : List ℕ) (os : List Out) (g : List (ℕ × ℕ)) (t : ℕ) → InRange maxes pk → Contains (split_leaf maxes pk os) (record { act = g; target = t }) → IsExact pk g
-row_exact maxes pk os g t range c =
+leaf_exact : (maxes pk : List ℕ) (os : List Out) (g : List (ℕ × ℕ)) (t : ℕ) → InRange maxes pk → Contains (split_leaf maxes pk os) (record { act = g; target = t }) → IsExact pk g
+leaf_exact maxes pk os g t range c =
     let s = has_gathered (λ x. exact_out maxes pk x ∷ []) os (record { act = g; target = t }) (contains_has (split_leaf maxes pk os) (record { act = g; target = t }) c) in
     subst (IsExact pk) (ap (λ (x : Out). x.act) (only s.2)) (exact_changes maxes pk s.0.act range)
 
-module _ (old mid new : Held) (sets : List (List ℕ)) (rows marks : List ℕ) (d r : ℕ) (k : IsStateOf old mid new sets rows marks d r) where
+module _ (old mid new : Held) (sets : List (List ℕ)) (ds : List ℕ) (d r : ℕ) (k : IsStateOf old mid new sets ds d r) where
   -- what the leaf has is what was regrouped
   to_leaf : (pk : List ℕ) (o : Out) → IsWhole pk → Contains (look new r pk) o → Has (regrouped sets (look mid d pk)) o
   to_leaf pk o w c = subst (λ os. Has os o) (k.leaves.leaf pk w) (contains_has (look new r pk) o c)
@@ -233,23 +233,23 @@ module _ (old mid new : Held) (sets : List (List ℕ)) (rows marks : List ℕ) (
   from_leaf : (pk : List ℕ) (o : Out) → IsWhole pk → Has (regrouped sets (look mid d pk)) o → Contains (look new r pk) o
   from_leaf pk o w h = has_contains (look new r pk) o (subst (λ os. Has os o) (sym (k.leaves.leaf pk w)) h)
 
-  -- a member of the united rows is sent by one of them
-  to_row : (pk : List ℕ) (g : List (ℕ × ℕ)) (t : ℕ) → IsWhole pk → Has (look mid d pk) (record { act = g; target = t }) → RowSends old rows marks pk g t
-  to_row pk g t w h = (k.together.sends pk g t w).0 (has_contains (look mid d pk) (record { act = g; target = t }) h)
+  -- a member of the united diagrams is sent by one of them
+  to_diagram : (pk : List ℕ) (g : List (ℕ × ℕ)) (t : ℕ) → IsWhole pk → Has (look mid d pk) (record { act = g; target = t }) → SomeSends old ds pk g t
+  to_diagram pk g t w h = (k.together.sends pk g t w).0 (has_contains (look mid d pk) (record { act = g; target = t }) h)
 
   -- and the other way round
-  from_row : (pk : List ℕ) (g : List (ℕ × ℕ)) (t : ℕ) → IsWhole pk → RowSends old rows marks pk g t → Has (look mid d pk) (record { act = g; target = t })
-  from_row pk g t w s = contains_has (look mid d pk) (record { act = g; target = t }) ((k.together.sends pk g t w).1 s)
+  from_diagram : (pk : List ℕ) (g : List (ℕ × ℕ)) (t : ℕ) → IsWhole pk → SomeSends old ds pk g t → Has (look mid d pk) (record { act = g; target = t })
+  from_diagram pk g t w s = contains_has (look mid d pk) (record { act = g; target = t }) ((k.together.sends pk g t w).1 s)
 
   -- the finals of a set state
-  pub finals_are : (pk : List ℕ) (g : List (ℕ × ℕ)) → IsWhole pk → Contains (look new r pk) (record { act = g; target = 0 }) ↔ RowSends old rows marks pk g 0
+  pub finals_are : (pk : List ℕ) (g : List (ℕ × ℕ)) → IsWhole pk → Contains (look new r pk) (record { act = g; target = 0 }) ↔ SomeSends old ds pk g 0
   finals_are pk g w = (
-    λ c. to_row pk g 0 w (final_only sets (look mid d pk) (k.sorted pk) g (to_leaf pk (record { act = g; target = 0 }) w c)),
-    λ s. from_leaf pk (record { act = g; target = 0 }) w (final_stays sets (look mid d pk) (k.sorted pk) g (from_row pk g 0 w s)),
+    λ c. to_diagram pk g 0 w (final_only sets (look mid d pk) (k.sorted pk) g (to_leaf pk (record { act = g; target = 0 }) w c)),
+    λ s. from_leaf pk (record { act = g; target = 0 }) w (final_stays sets (look mid d pk) (k.sorted pk) g (from_diagram pk g 0 w s)),
   )
 
   -- an out to a further set says exactly which labels follow
-  pub next_is : (pk : List ℕ) (g : List (ℕ × ℕ)) (i : ℕ) → IsWhole pk → Contains (look new r pk) (record { act = g; target = i + 1 }) → IsFollowed sets old rows marks pk g i
+  pub next_is : (pk : List ℕ) (g : List (ℕ × ℕ)) (i : ℕ) → IsWhole pk → Contains (look new r pk) (record { act = g; target = i + 1 }) → AreFollowed sets old ds pk g i
   next_is pk g i w c =
       let os = look mid d pk in
       let n = next_only sets os (k.sorted pk) g i (to_leaf pk (record { act = g; target = i + 1 }) w c) in
@@ -261,22 +261,22 @@ module _ (old mid new : Held) (sets : List (List ℕ)) (rows marks : List ℕ) (
         within = subst (λ j. j < length sets) n.3 at.0;
         some = λ e. subst (λ ls. Has ls n.0) (sym members ∙ e) label;
         every = λ l. (
-          λ m. let q = label_has (targets_of g os) l (subst (λ ls. Has ls l) members (contains_has (get_or sets i []) l m)) in (q.0, to_row pk g l w (target_has g os l q.1)),
-          λ m. has_contains (get_or sets i []) l (subst (λ ls. Has ls l) (sym members) (has_label (targets_of g os) l m.0 (has_target g os l (from_row pk g l w m.1)))),
+          λ m. let q = label_has (targets_of g os) l (subst (λ ls. Has ls l) members (contains_has (get_or sets i []) l m)) in (q.0, to_diagram pk g l w (target_has g os l q.1)),
+          λ m. has_contains (get_or sets i []) l (subst (λ ls. Has ls l) (sym members) (has_label (targets_of g os) l m.0 (has_target g os l (from_diagram pk g l w m.1)))),
         );
       }
 
-  -- some row records an act that goes to a further set
-  pub next_row : (pk : List ℕ) (g : List (ℕ × ℕ)) (i : ℕ) → IsWhole pk → Contains (look new r pk) (record { act = g; target = i + 1 }) → (l : ℕ) × RowSends old rows marks pk g l
-  next_row pk g i w c =
+  -- some diagram records an act that goes to a further set
+  pub next_from : (pk : List ℕ) (g : List (ℕ × ℕ)) (i : ℕ) → IsWhole pk → Contains (look new r pk) (record { act = g; target = i + 1 }) → (l : ℕ) × SomeSends old ds pk g l
+  next_from pk g i w c =
       let n = next_only sets (look mid d pk) (k.sorted pk) g i (to_leaf pk (record { act = g; target = i + 1 }) w c) in
-      (n.0, to_row pk g n.0 w n.2)
+      (n.0, to_diagram pk g n.0 w n.2)
 
   -- what some label records goes to a further set
-  pub next_comes : (pk : List ℕ) (g : List (ℕ × ℕ)) (l : ℕ) → IsWhole pk → 0 < l → RowSends old rows marks pk g l → (i : ℕ) × Contains (look new r pk) (record { act = g; target = i + 1 })
+  pub next_comes : (pk : List ℕ) (g : List (ℕ × ℕ)) (l : ℕ) → IsWhole pk → 0 < l → SomeSends old ds pk g l → (i : ℕ) × Contains (look new r pk) (record { act = g; target = i + 1 })
   next_comes pk g l w p s =
       let os = look mid d pk in
-      (place_in sets (labels_of g os), from_leaf pk (record { act = g; target = place_in sets (labels_of g os) + 1 }) w (next_there sets os (k.sorted pk) g l p (from_row pk g l w s)))
+      (place_in sets (labels_of g os), from_leaf pk (record { act = g; target = place_in sets (labels_of g os) + 1 }) w (next_there sets os (k.sorted pk) g l p (from_diagram pk g l w s)))
 
   -- to one set alone
   pub next_once : (pk : List ℕ) (g : List (ℕ × ℕ)) (i j : ℕ) → IsWhole pk → Contains (look new r pk) (record { act = g; target = i + 1 }) → Contains (look new r pk) (record { act = g; target = j + 1 }) → i ≡ j
@@ -290,5 +290,5 @@ module _ (old mid new : Held) (sets : List (List ℕ)) (rows marks : List ℕ) (
       let range : InRange old.maxes pk = subst (λ ms. InRange ms pk) k.maxes p in
       every_from (λ o. IsExact pk o.act) (look new r pk) (λ o h.
       let a = act_only sets (look mid d pk) (k.sorted pk) o (to_leaf pk o p.0 (has_contains (look new r pk) o h)) in
-      let s = to_row pk o.act a.0 p.0 a.1 in
-      row_exact old.maxes pk (look old (get_or rows s.0 0) pk) o.act a.0 range s.2)
+      let s = to_diagram pk o.act a.0 p.0 a.1 in
+      leaf_exact old.maxes pk (look old s.0 pk) o.act a.0 range s.2)

@@ -10,31 +10,53 @@ use Rattle.nk_determ.specs.Exact.{split_leaf, Sends}
 use Rattle.nk_determ.specs.Sets.{holds, place_in}
 use Rattle.nk_determ.specs.Branches.{branches, labels, labels_of}
 
--- one of these rows, split, sends the packet by that act to that target
+-- one of these diagrams, split, sends the packet by that act to that target
+abbrev pub SomeSends : Held → List ℕ → List ℕ → List (ℕ × ℕ) → ℕ → Type 0
+SomeSends st ds pk g target = (d : ℕ) × Contains ds d × Contains (split_leaf st.maxes pk (look st d pk)) (record { act = g; target = target })
+
+-- one of these diagrams sends the packet, made y, to that target
+abbrev pub SomeLeads : Held → List ℕ → List ℕ → List ℕ → ℕ → Type 0
+SomeLeads st ds pk y target = (d : ℕ) × Contains ds d × Sends st d pk y target
+
+-- the same of the rows at these labels, split
 abbrev pub RowSends : Held → List ℕ → List ℕ → List ℕ → List (ℕ × ℕ) → ℕ → Type 0
 RowSends st rows labels pk g target = (l : ℕ) × Contains labels l × Contains (split_leaf st.maxes pk (look st (slice_index rows l) pk)) (record { act = g; target = target })
 
--- one of these rows sends the packet, made y, to that target
+-- and of these rows as they are
 abbrev pub RowLeads : Held → List ℕ → List ℕ → List ℕ → List ℕ → ℕ → Type 0
 RowLeads st rows labels pk y target = (l : ℕ) × Contains labels l × Sends st (slice_index rows l) pk y target
 
--- the set of that number has exactly the labels that record what the act makes of the packet, and there are some
-pub record IsFollowed (sets : List (List ℕ)) (st : Held) (rows labels pk : List ℕ) (g : List (ℕ × ℕ)) (i : ℕ) : Type 0 where
+-- the set of that number has exactly the labels, 0 being none, that are met, and there are some
+pub record IsSetOfMet (sets : List (List ℕ)) (i : ℕ) (Met : ℕ → Type 0) : Type 0 where
   pub within : i < length sets
   pub some : slice_index_or sets i [] ≡ [] → ⊥
-  pub every : (l : ℕ) → Contains (slice_index_or sets i []) l ↔ ((0 < l) × RowSends st rows labels pk g l)
+  pub every : (l : ℕ) → Contains (slice_index_or sets i []) l ↔ ((0 < l) × Met l)
 
--- the set of that number has exactly the labels that record the packet, made y, and there are some
-pub record IsLedTo (sets : List (List ℕ)) (st : Held) (rows labels pk y : List ℕ) (i : ℕ) : Type 0 where
-  pub within : i < length sets
-  pub some : slice_index_or sets i [] ≡ [] → ⊥
-  pub every : (l : ℕ) → Contains (slice_index_or sets i []) l ↔ ((0 < l) × RowLeads st rows labels pk y l)
+-- those labels are all with which some diagram records what the act makes of the packet
+abbrev pub AreFollowed : List (List ℕ) → Held → List ℕ → List ℕ → List (ℕ × ℕ) → ℕ → Type 0
+AreFollowed sets st ds pk g i = IsSetOfMet sets i (λ l. SomeSends st ds pk g l)
 
--- the diagram has all that these rows, split, have
-pub record IsTogether (old : Held) (rows labels : List ℕ) (new : Held) (d : ℕ) : Type 0 where
+-- those labels are all with which some diagram records the packet, made y
+abbrev pub AreLedTo : List (List ℕ) → Held → List ℕ → List ℕ → List ℕ → ℕ → Type 0
+AreLedTo sets st ds pk y i = IsSetOfMet sets i (λ l. SomeLeads st ds pk y l)
+
+-- those labels are all with which some row records what the act makes of the packet
+abbrev pub IsFollowed : List (List ℕ) → Held → List ℕ → List ℕ → List ℕ → List (ℕ × ℕ) → ℕ → Type 0
+IsFollowed sets st rows labels pk g i = IsSetOfMet sets i (λ l. RowSends st rows labels pk g l)
+
+-- those labels are all with which some row records the packet, made y
+abbrev pub IsLedTo : List (List ℕ) → Held → List ℕ → List ℕ → List ℕ → List ℕ → ℕ → Type 0
+IsLedTo sets st rows labels pk y i = IsSetOfMet sets i (λ l. RowLeads st rows labels pk y l)
+
+-- the first n of these diagrams have the leaves that the function gives for their places
+abbrev pub HaveEach : Held → List ℕ → (ℕ → List ℕ → List Out) → ℕ → Type 0
+HaveEach st ds F n = (k : ℕ) → k < n → HasLeaves st (slice_index ds k) (F k)
+
+-- the diagram has all that these diagrams, split, have
+pub record IsTogether (old : Held) (ds : List ℕ) (new : Held) (d : ℕ) : Type 0 where
   pub id : IsId new d
   pub sends : (pk : List ℕ) (g : List (ℕ × ℕ)) (t : ℕ) → IsWhole pk →
-      Contains (look new d pk) (record { act = g; target = t }) ↔ RowSends old rows labels pk g t
+      Contains (look new d pk) (record { act = g; target = t }) ↔ SomeSends old ds pk g t
 
 -- the labels are one of the sets, if there are any
 abbrev pub IsThere : List (List ℕ) → List ℕ → Type 0
@@ -71,8 +93,8 @@ abbrev pub regrouped : List (List ℕ) → List Out → List Out
 regrouped sets outs = gathered (λ o. o ∷ []) (flat_map (branch_outs sets) (branches outs))
 
 -- what a set state's diagram was made of
-pub record IsStateOf (old mid new : Held) (sets : List (List ℕ)) (rows labels : List ℕ) (d r : ℕ) : Type 0 where
-  pub together : IsTogether old rows labels mid d
+pub record IsStateOf (old mid new : Held) (sets : List (List ℕ)) (ds : List ℕ) (d r : ℕ) : Type 0 where
+  pub together : IsTogether old ds mid d
   pub sorted : (pk : List ℕ) → Strict (look mid d pk)
   pub leaves : HasLeaves new r (λ pk. regrouped sets (look mid d pk))
   pub held : HasSets sets mid d

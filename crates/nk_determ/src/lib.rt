@@ -14,5 +14,5 @@ mod targets;
 pub use levels::Levels;
 pub use sets::{SetId, Sets};
 pub use splits::{mean_same, split};
-pub use states::state;
+pub use states::{state, state_of};
 pub use targets::retarget;

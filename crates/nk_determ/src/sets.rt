@@ -1,5 +1,5 @@
 //! Sets of labels, each once.
-ghost use Rattle.std.specs.Prelude.{◌≡◌, ℕ, ◌<◌, ◌^◌, [], List as Items, IfOk, OnOk, OnErr, length, slice_index_or};
+ghost use Rattle.std.specs.Prelude.{◌≡◌, ℕ, ◌+◌, ◌<◌, ◌^◌, [], List as Items, IfOk, OnOk, OnErr, length, slice_index_or};
 ghost use Rattle.std.specs.List.Sorted.{IsStrictlyIncreasing};
 ghost use Rattle.nk_determ.specs.Sets.{SetsGrow, IsSetOf, Differ, Ascend, with_set, place_in};
 
@@ -35,6 +35,24 @@ impl SetId {
         ensures { result ≡ self }
     {
         self.place
+    }
+
+    /// The target of the outs to this set in a set state's diagram: 1 + its number, since 0 is the end.
+    pub fn target(self) -> u64
+        requires { self + 1 < 2 ^ 64 }
+        ensures { result ≡ self + 1 }
+    {
+        self.place as u64 + 1
+    }
+
+    /// The set that outs with this target, which is no end, lead to.
+    pub fn from_target(target: u64) -> SetId
+        requires { 0 < target }
+        ensures { result + 1 ≡ target }
+    {
+        SetId {
+            place: (target - 1) as usize,
+        }
     }
 }
 
@@ -103,14 +121,14 @@ impl Sets {
     }
 
     /// Where these labels are, or how many sets there are.
-    pub(crate) fn place(&self, labels: &List<u64>) -> usize
+    pub(crate) fn place(&self, labels: &List<u64>) -> SetId
         ensures is { result ≡ place_in self.now labels.now }
         ensures small { result < 2 ^ 63 }
     {
         let count = self.sets.len();
         match self.sets.get_index_of(labels) {
-            Some(place) => place,
-            None => count,
+            Some(place) => SetId { place },
+            None => SetId { place: count },
         }
     }
 }

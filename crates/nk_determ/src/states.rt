@@ -1,5 +1,5 @@
-//! The diagram of a set state.
-ghost use Rattle.std.specs.Prelude.{◌≡◌, ◌↔◌, ℕ, ◌+◌, ◌<◌, [], ◌++◌, All, List as Items, IfOk, OnOk, length, flat_map, slice_index, slice_index_or};
+//! The diagram of a set state: of diagrams together, and of the rows at a set of labels.
+ghost use Rattle.std.specs.Prelude.{◌≡◌, ◌↔◌, ℕ, ◌+◌, ◌<◌, [], ◌++◌, All, List as Items, IfOk, OnOk, length, flat_map, map, slice_index, slice_index_or};
 ghost use Rattle.std.specs.List.{Contains};
 ghost use Rattle.std.specs.List.Sorted.{IsStrictlyIncreasing};
 ghost use Rattle.nk_store.specs.Leaves.{Strict};
@@ -8,7 +8,7 @@ ghost use Rattle.nk_algebra.specs.Unions.{AreIds};
 ghost use Rattle.nk_determ.specs.Exact.{split_leaf, AreExact, Sends};
 ghost use Rattle.nk_determ.specs.Sets.{SetsGrow};
 ghost use Rattle.nk_determ.specs.Branches.{branches, labels};
-ghost use Rattle.nk_determ.specs.States.{RowSends, RowLeads, IsFollowed, IsLedTo, IsTogether, IsStateOf, IsThere, HasAll, HasSets, AllHaveSets, final_of, out_to_set, branch_outs, regrouped};
+ghost use Rattle.nk_determ.specs.States.{SomeSends, SomeLeads, AreFollowed, AreLedTo, RowSends, RowLeads, IsFollowed, IsLedTo, HaveEach, IsTogether, IsStateOf, IsThere, HasAll, HasSets, AllHaveSets, final_of, out_to_set, branch_outs, regrouped};
 
 use crate::branches::{Branch, branches_of, labels_in};
 use crate::sets::{SetId, Sets};
@@ -49,50 +49,19 @@ pub fn state(st: &mut Store, ss: &mut Sets, rows: &[Id], s: SetId) -> Result<Id,
     ensures led { IfOk result (λ r. (pk y : Items ℕ) (l : ℕ) → IsPacket st.old pk → 0 < l →
         RowLeads st.old rows.now (slice_index_or ss.old s []) pk y l → (i : ℕ) × Sends st.new r pk y (i + 1)) }
 {
-    st.laws();
-    let r = state_of(st, ss, rows, s)?;
+    let diagrams = rows_at(st.alloc(), rows, ss.members(s))?;
+    let r = state_of(st, ss, diagrams.as_slice())?;
     Ok(r)
 }
 
-/// The diagram of a set of labels, and what it was made of.
-fn state_of(st: &mut Store, ss: &mut Sets, rows: &[Id], s: SetId) -> Result<Id, AllocError>
-    requires rows { AreIds st.old rows.now }
-    requires set { s < length ss.old }
-    requires places { All (λ l. l < length rows.now) (slice_index_or ss.old s []) }
-    ensures grows { Grows st.old st.new }
-    ensures sets { SetsGrow ss.old ss.new }
-    ensures made { IfOk result (λ r. (mid : Held) × (d : ℕ) ×
-        IsStateOf st.old mid st.new ss.new rows.now (slice_index_or ss.old s []) d r) }
+/// The rows at these labels.
+fn rows_at(alloc: Global, rows: &[Id], labels: &[u64]) -> Result<List<Id>, AllocError>
+    requires { All (λ l. l < length rows.now) labels.now }
+    ensures { IfOk result (λ ds. ds ≡ map (λ l. slice_index rows.now l) labels.now) }
 {
-    let d = together(st, rows, ss.members(s))?;
-    st.laws();
-    regroup(st, ss, d)
-}
-
-/// All that the rows of these labels do, split.
-fn together(st: &mut Store, rows: &[Id], labels: &[u64]) -> Result<Id, AllocError>
-    requires rows { AreIds st.old rows.now }
-    requires places { All (λ l. l < length rows.now) labels.now }
-    ensures grows { Grows st.old st.new }
-    ensures ok { IfOk result (λ d. IsTogether st.old rows.now labels.now st.new d) }
-{
-    let ds = split_rows(st, rows, labels)?;
-    union_all(st, ds.as_slice())
-}
-
-/// The rows of these labels, each split.
-fn split_rows(st: &mut Store, rows: &[Id], labels: &[u64]) -> Result<List<Id>, AllocError>
-    requires rows { AreIds st.old rows.now }
-    requires places { All (λ l. l < length rows.now) labels.now }
-    ensures grows { Grows st.old st.new }
-    ensures len { IfOk result (λ ds. length ds ≡ length labels.now) }
-    ensures ok { IfOk result (λ ds. (k : ℕ) → k < length ds → HasLeaves st.new (slice_index ds k)
-        (λ pk. split_leaf st.old.maxes pk (look st.old (slice_index rows.now (slice_index labels.now k)) pk))) }
-{
-    let mut ds = List::new(st.alloc());
+    let mut ds = List::new(alloc);
     for l in labels {
-        let d = split(st, row_at(rows, *l))?;
-        ds.push(d)?;
+        ds.push(row_at(rows, *l))?;
     }
     Ok(ds)
 }
@@ -103,6 +72,77 @@ fn row_at(rows: &[Id], place: u64) -> Id
     ensures { result ≡ slice_index rows.now place }
 {
     rows[place as usize]
+}
+
+/// What these diagrams do together, as the diagram of a set state: a final act with target 0 for each packet that some
+/// diagram ends at, and for each packet that some diagram records next one act with target 1 + the number of the set of all
+/// labels with which some diagram records it. Sets that aren't there yet are put in. The only error is that memory ran out.
+pub fn state_of(st: &mut Store, ss: &mut Sets, diagrams: &[Id]) -> Result<Id, AllocError>
+    requires { AreIds st.old diagrams.now }
+    ensures grows { Grows st.old st.new }
+    ensures sets { SetsGrow ss.old ss.new }
+    ensures id { IfOk result (λ r. IsId st.new r) }
+    ensures exact { IfOk result (λ r. AreExact st.new r) }
+    ensures finals { IfOk result (λ r. (pk : Items ℕ) (g : Items (ℕ × ℕ)) → IsWhole pk →
+        Contains (look st.new r pk) (record { act = g; target = 0 })
+        ↔ SomeSends st.old diagrams.now pk g 0) }
+    ensures next { IfOk result (λ r. (pk : Items ℕ) (g : Items (ℕ × ℕ)) (i : ℕ) → IsWhole pk →
+        Contains (look st.new r pk) (record { act = g; target = i + 1 }) →
+        AreFollowed ss.new st.old diagrams.now pk g i) }
+    ensures recorded { IfOk result (λ r. (pk : Items ℕ) (g : Items (ℕ × ℕ)) (l : ℕ) → IsWhole pk → 0 < l →
+        SomeSends st.old diagrams.now pk g l →
+        (i : ℕ) × Contains (look st.new r pk) (record { act = g; target = i + 1 })) }
+    ensures once { IfOk result (λ r. (pk : Items ℕ) (g : Items (ℕ × ℕ)) (i j : ℕ) → IsWhole pk →
+        Contains (look st.new r pk) (record { act = g; target = i + 1 }) →
+        Contains (look st.new r pk) (record { act = g; target = j + 1 }) → i ≡ j) }
+    ensures ends { IfOk result (λ r. (pk y : Items ℕ) → IsPacket st.old pk →
+        Sends st.new r pk y 0 ↔ SomeLeads st.old diagrams.now pk y 0) }
+    ensures leads { IfOk result (λ r. (pk y : Items ℕ) (i : ℕ) → IsPacket st.old pk → Sends st.new r pk y (i + 1) →
+        AreLedTo ss.new st.old diagrams.now pk y i) }
+    ensures led { IfOk result (λ r. (pk y : Items ℕ) (l : ℕ) → IsPacket st.old pk → 0 < l →
+        SomeLeads st.old diagrams.now pk y l → (i : ℕ) × Sends st.new r pk y (i + 1)) }
+{
+    st.laws();
+    let r = regrouped_union(st, ss, diagrams)?;
+    Ok(r)
+}
+
+/// The diagram of what these diagrams do together, and what it was made of.
+fn regrouped_union(st: &mut Store, ss: &mut Sets, diagrams: &[Id]) -> Result<Id, AllocError>
+    requires { AreIds st.old diagrams.now }
+    ensures grows { Grows st.old st.new }
+    ensures sets { SetsGrow ss.old ss.new }
+    ensures made { IfOk result (λ r. (mid : Held) × (d : ℕ) × IsStateOf st.old mid st.new ss.new diagrams.now d r) }
+{
+    let d = together(st, diagrams)?;
+    st.laws();
+    regroup(st, ss, d)
+}
+
+/// All that these diagrams do, split.
+fn together(st: &mut Store, diagrams: &[Id]) -> Result<Id, AllocError>
+    requires { AreIds st.old diagrams.now }
+    ensures grows { Grows st.old st.new }
+    ensures ok { IfOk result (λ d. IsTogether st.old diagrams.now st.new d) }
+{
+    let ds = split_all(st, diagrams)?;
+    union_all(st, ds.as_slice())
+}
+
+/// These diagrams, each split.
+fn split_all(st: &mut Store, diagrams: &[Id]) -> Result<List<Id>, AllocError>
+    requires { AreIds st.old diagrams.now }
+    ensures grows { Grows st.old st.new }
+    ensures len { IfOk result (λ ds. length ds ≡ length diagrams.now) }
+    ensures ok { IfOk result (λ ds. HaveEach st.new ds
+        (λ k pk. split_leaf st.old.maxes pk (look st.old (slice_index diagrams.now k) pk)) (length ds)) }
+{
+    let mut ds = List::new(st.alloc());
+    for whole in diagrams {
+        let d = split(st, *whole)?;
+        ds.push(d)?;
+    }
+    Ok(ds)
 }
 
 /// The diagram with the outs of each act to the set of all labels of the act. Each node is visited once to put in the
@@ -231,7 +271,7 @@ fn push_to_set(all: &mut List<Out>, sets: &Sets, b: &Branch) -> Result<(), Alloc
     if !labels.is_empty() {
         all.push(Out {
             act: b.act.copy()?,
-            target: sets.place(&labels) as u64 + 1,
+            target: sets.place(&labels).target(),
         })?;
     }
     Ok(())

@@ -1,15 +1,16 @@
 //! Rows cut to one switch.
-ghost use Rattle.std.specs.Prelude.{◌≡◌, ℕ, ◌<◌, All, IfOk, length, slice_index, slice_set};
-ghost use Rattle.nk_store.specs.Held.{IsId, Grows, HasLeaves, look};
+ghost use Rattle.std.specs.Prelude.{◌≡◌, ◌<◌, All, IfOk, length, slice_index, slice_set};
+ghost use Rattle.nk_store.specs.Held.{IsId, Grows, look};
 ghost use Rattle.nk_algebra.specs.Unions.{AreIds};
 ghost use Rattle.nk_determ.specs.Sets.{SetsGrow};
+ghost use Rattle.nk_determ.specs.States.{HaveEach};
 ghost use Rattle.nk_switches.specs.States.{IsStateAt};
 
 use nk_algebra::restrict;
-use nk_determ::{Sets, state};
+use nk_determ::{Sets, state_of};
 use nk_field::{Fid, List};
 use nk_store::{Id, Store};
-use std::alloc::{AllocError, Global};
+use std::alloc::AllocError;
 
 /// What the rows at these places do together at the packets of a switch, as one diagram.
 pub fn state_at(
@@ -26,9 +27,7 @@ pub fn state_at(
     ensures state { IfOk result (λ d. IsStateAt st.new ss.new rows.now members.now sw d) }
 {
     let cut = cut_rows(st, rows, members, sw)?;
-    let all = places(st.alloc(), cut.len())?;
-    let s = ss.intern(all)?;
-    let d = state(st, ss, cut.as_slice(), s)?;
+    let d = state_of(st, ss, cut.as_slice())?;
     Ok(d)
 }
 
@@ -38,8 +37,8 @@ fn cut_rows(st: &mut Store, rows: &[Id], members: &[u64], sw: u16) -> Result<Lis
     requires places { All (λ l. l < length rows.now) members.now }
     ensures grows { Grows st.old st.new }
     ensures len { IfOk result (λ ds. length ds ≡ length members.now) }
-    ensures ok { IfOk result (λ ds. (k : ℕ) → k < length ds → HasLeaves st.new (slice_index ds k)
-        (λ pk. look st.old (slice_index rows.now (slice_index members.now k)) (slice_set pk 0 sw))) }
+    ensures ok { IfOk result (λ ds. HaveEach st.new ds
+        (λ k pk. look st.old (slice_index rows.now (slice_index members.now k)) (slice_set pk 0 sw)) (length ds)) }
 {
     let mut ds = List::new(st.alloc());
     for l in members {
@@ -55,16 +54,4 @@ fn row_at(rows: &[Id], place: u64) -> Id
     ensures { result ≡ slice_index rows.now place }
 {
     rows[place as usize]
-}
-
-/// The places of so many elements.
-fn places(alloc: Global, count: usize) -> Result<List<u64>, AllocError>
-    ensures len { IfOk result (λ ps. length ps ≡ count) }
-    ensures each { IfOk result (λ ps. (k : ℕ) → k < count → slice_index ps k ≡ k) }
-{
-    let mut ps = List::new(alloc);
-    for i in 0..count {
-        ps.push(i as u64)?;
-    }
-    Ok(ps)
 }

@@ -58,7 +58,7 @@ pub fn tag_table(alloc: Global, ss: &Sets, tags: &[SetId]) -> Result<List<Option
     let mut tag = 0;
     for s in tags {
         tag += 1;
-        table.put(s.place() + 1, Some(tag));
+        table.put(s.target() as usize, Some(tag));
     }
     Ok(table)
 }

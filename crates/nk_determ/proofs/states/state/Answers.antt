@@ -1,31 +1,53 @@
-use Rattle.std.proofs.Common.{[], get_or}
-use Rattle.nk_determ.proofs.Regrouped.{finals_are, next_is, next_comes, next_once, state_exact}
-use Rattle.nk_determ.proofs.Followed.{ends_are, led_to, led_on}
+use Rattle.std.proofs.Common.{◌≡◌, ℕ, ◌<◌, ◌∙◌, List, [], length, ap, subst, sym, get_or}
+use Rattle.std.specs.Prelude.{All, map}
+use Rattle.nk_determ.specs.States.{SomeSends, SomeLeads, RowSends, RowLeads}
+use Rattle.nk_determ.proofs.Rows.{rows_ids, sends_rows, leads_rows, met_same}
 use Rattle.nk_determ.proofs.states.state.Goals as goal
 
-pub returns-clause-id : goal.returns-clause-id
-returns-clause-id c = let m = c.in_ok-r.ensures.made in m.2.leaves.id
-
-pub returns-clause-exact : goal.returns-clause-exact
-returns-clause-exact c = let m = c.in_ok-r.ensures.made in state_exact c.args.st.now m.0 c.state_of.new.st c.state_of.new.ss c.args.rows.now (get_or c.args.ss.now c.args.s []) m.1 c.in_ok-r.r m.2
+pub state_of-requires : goal.state_of-requires
+state_of-requires c =
+    let labels : List ℕ = get_or c.args.ss.now c.args.s [] in
+    let are : c.as_slice.result.now ≡ map (λ l. get_or c.args.rows.now l 0) labels = c.as_slice.ensures ∙ c.in_ok-diagrams.ensures ∙ ap (λ (ls : List ℕ). map (λ l. get_or c.args.rows.now l 0) ls) c.members.ensures.is in
+    rows_ids c.args.st.now c.args.rows.now labels c.as_slice.result.now are c.requires.rows c.requires.places
 
 pub returns-clause-finals : goal.returns-clause-finals
-returns-clause-finals c = let m = c.in_ok-r.ensures.made in finals_are c.args.st.now m.0 c.state_of.new.st c.state_of.new.ss c.args.rows.now (get_or c.args.ss.now c.args.s []) m.1 c.in_ok-r.r m.2
+returns-clause-finals c = λ pk g w.
+    let labels : List ℕ = get_or c.args.ss.now c.args.s [] in
+    let are : c.as_slice.result.now ≡ map (λ l. get_or c.args.rows.now l 0) labels = c.as_slice.ensures ∙ c.in_ok-diagrams.ensures ∙ ap (λ (ls : List ℕ). map (λ l. get_or c.args.rows.now l 0) ls) c.members.ensures.is in
+    let e = c.in_ok-r.ensures.finals pk g w in
+    let s = sends_rows c.args.st.now c.args.rows.now labels c.as_slice.result.now are pk g 0 in
+    (λ m. s.0 (e.0 m), λ m. e.1 (s.1 m))
 
 pub returns-clause-next : goal.returns-clause-next
-returns-clause-next c = let m = c.in_ok-r.ensures.made in next_is c.args.st.now m.0 c.state_of.new.st c.state_of.new.ss c.args.rows.now (get_or c.args.ss.now c.args.s []) m.1 c.in_ok-r.r m.2
+returns-clause-next c = λ pk g i w m.
+    let labels : List ℕ = get_or c.args.ss.now c.args.s [] in
+    let are : c.as_slice.result.now ≡ map (λ l. get_or c.args.rows.now l 0) labels = c.as_slice.ensures ∙ c.in_ok-diagrams.ensures ∙ ap (λ (ls : List ℕ). map (λ l. get_or c.args.rows.now l 0) ls) c.members.ensures.is in
+    met_same c.state_of.new.ss i (λ l. SomeSends c.args.st.now c.as_slice.result.now pk g l) (λ l. RowSends c.args.st.now c.args.rows.now labels pk g l)
+    (λ l. sends_rows c.args.st.now c.args.rows.now labels c.as_slice.result.now are pk g l) (c.in_ok-r.ensures.next pk g i w m)
 
 pub returns-clause-recorded : goal.returns-clause-recorded
-returns-clause-recorded c = let m = c.in_ok-r.ensures.made in next_comes c.args.st.now m.0 c.state_of.new.st c.state_of.new.ss c.args.rows.now (get_or c.args.ss.now c.args.s []) m.1 c.in_ok-r.r m.2
-
-pub returns-clause-once : goal.returns-clause-once
-returns-clause-once c = let m = c.in_ok-r.ensures.made in next_once c.args.st.now m.0 c.state_of.new.st c.state_of.new.ss c.args.rows.now (get_or c.args.ss.now c.args.s []) m.1 c.in_ok-r.r m.2
+returns-clause-recorded c = λ pk g l w p m.
+    let labels : List ℕ = get_or c.args.ss.now c.args.s [] in
+    let are : c.as_slice.result.now ≡ map (λ l. get_or c.args.rows.now l 0) labels = c.as_slice.ensures ∙ c.in_ok-diagrams.ensures ∙ ap (λ (ls : List ℕ). map (λ l. get_or c.args.rows.now l 0) ls) c.members.ensures.is in
+    c.in_ok-r.ensures.recorded pk g l w p ((sends_rows c.args.st.now c.args.rows.now labels c.as_slice.result.now are pk g l).1 m)
 
 pub returns-clause-ends : goal.returns-clause-ends
-returns-clause-ends c = let m = c.in_ok-r.ensures.made in ends_are c.args.st.now m.0 c.state_of.new.st c.state_of.new.ss c.args.rows.now (get_or c.args.ss.now c.args.s []) m.1 c.in_ok-r.r m.2 c.laws.ensures.tidy
+returns-clause-ends c = λ pk y p.
+    let labels : List ℕ = get_or c.args.ss.now c.args.s [] in
+    let are : c.as_slice.result.now ≡ map (λ l. get_or c.args.rows.now l 0) labels = c.as_slice.ensures ∙ c.in_ok-diagrams.ensures ∙ ap (λ (ls : List ℕ). map (λ l. get_or c.args.rows.now l 0) ls) c.members.ensures.is in
+    let e = c.in_ok-r.ensures.ends pk y p in
+    let s = leads_rows c.args.st.now c.args.rows.now labels c.as_slice.result.now are pk y 0 in
+    (λ m. s.0 (e.0 m), λ m. e.1 (s.1 m))
 
 pub returns-clause-leads : goal.returns-clause-leads
-returns-clause-leads c = let m = c.in_ok-r.ensures.made in led_to c.args.st.now m.0 c.state_of.new.st c.state_of.new.ss c.args.rows.now (get_or c.args.ss.now c.args.s []) m.1 c.in_ok-r.r m.2 c.laws.ensures.tidy
+returns-clause-leads c = λ pk y i p m.
+    let labels : List ℕ = get_or c.args.ss.now c.args.s [] in
+    let are : c.as_slice.result.now ≡ map (λ l. get_or c.args.rows.now l 0) labels = c.as_slice.ensures ∙ c.in_ok-diagrams.ensures ∙ ap (λ (ls : List ℕ). map (λ l. get_or c.args.rows.now l 0) ls) c.members.ensures.is in
+    met_same c.state_of.new.ss i (λ l. SomeLeads c.args.st.now c.as_slice.result.now pk y l) (λ l. RowLeads c.args.st.now c.args.rows.now labels pk y l)
+    (λ l. leads_rows c.args.st.now c.args.rows.now labels c.as_slice.result.now are pk y l) (c.in_ok-r.ensures.leads pk y i p m)
 
 pub returns-clause-led : goal.returns-clause-led
-returns-clause-led c = let m = c.in_ok-r.ensures.made in led_on c.args.st.now m.0 c.state_of.new.st c.state_of.new.ss c.args.rows.now (get_or c.args.ss.now c.args.s []) m.1 c.in_ok-r.r m.2 c.laws.ensures.tidy
+returns-clause-led c = λ pk y l p pos m.
+    let labels : List ℕ = get_or c.args.ss.now c.args.s [] in
+    let are : c.as_slice.result.now ≡ map (λ l. get_or c.args.rows.now l 0) labels = c.as_slice.ensures ∙ c.in_ok-diagrams.ensures ∙ ap (λ (ls : List ℕ). map (λ l. get_or c.args.rows.now l 0) ls) c.members.ensures.is in
+    c.in_ok-r.ensures.led pk y l p pos ((leads_rows c.args.st.now c.args.rows.now labels c.as_slice.result.now are pk y l).1 m)

@@ -1,9 +1,8 @@
 use Rattle.std.proofs.Common.{◌+◌, ◌∙◌, sym, subst, ap, length, get_or}
-use Rattle.std.proofs.lemmas.List.{get_or_default}
 use Rattle.nk_store.specs.Held.{IsId}
 use Rattle.nk_store.proofs.Stores.{grows_on}
-use Rattle.nk_determ.proofs.Together.{length_more}
-use Rattle.nk_switches.proofs.Cutting.{cut_more}
+use Rattle.nk_determ.proofs.Together.{length_more, each_more}
+use Rattle.nk_switches.proofs.Cutting.{cut_each, cut_before}
 use Rattle.nk_switches.proofs.cuts.cut_rows.Goals as goal
 
 pub restrict-requires-clause-id : goal.restrict-requires-clause-id
@@ -18,6 +17,8 @@ loop-l-preserved c =
     record {
       grows = grows_on _ _ _ c.loop-l.invariant.grows c.restrict.ensures.grows;
       len = ap (λ xs. length xs) c.in_ok-push.ensures.ok ∙ length_more c.loop-l.ds c.in_ok-d.d ∙ ap (λ n. n + 1) c.loop-l.invariant.len;
-      cut = cut_more c.args.st.now c.loop-l.st c.restrict.new.st c.args.rows.now c.args.members.now c.loop-l.ds c.push.new.self c.loop-l.l-index l c.row_at.result c.in_ok-d.d c.args.sw
-          c.loop-l.invariant.grows c.restrict.ensures.grows id c.loop-l.invariant.len c.in_ok-push.ensures.ok c.loop-l-test.true (get_or_default c.args.members.now c.loop-l.l-index 0 l c.loop-l-test.true) c.row_at.ensures c.loop-l.invariant.cut c.in_ok-d.ensures.ok;
+      cut =
+          each_more c.loop-l.st c.restrict.new.st c.loop-l.ds c.push.new.self c.loop-l.l-index c.in_ok-d.d (cut_each c.args.st.now c.args.rows.now c.args.members.now c.args.sw)
+          c.restrict.ensures.grows c.loop-l.invariant.len c.in_ok-push.ensures.ok c.loop-l.invariant.cut
+          (cut_before c.args.st.now c.loop-l.st c.restrict.new.st c.args.rows.now c.args.members.now c.loop-l.l-index c.row_at.result c.in_ok-d.d c.args.sw c.loop-l.invariant.grows id c.row_at.ensures c.in_ok-d.ensures.ok);
     }

@@ -1,6 +1,7 @@
 use Rattle.std.proofs.Common.{◌≡◌, length}
 use Rattle.nk_store.specs.Held.{Grows}
-use Rattle.nk_switches.proofs.Cutting.{AreCut}
+use Rattle.nk_determ.specs.States.{HaveEach}
+use Rattle.nk_switches.proofs.Cutting.{cut_each}
 use Rattle.nk_switches.proofs.cuts.cut_rows.Given as goal
 
 -- the rows so far are cut
@@ -8,5 +9,5 @@ abbrev pub invariant-loop-l : goal.invariant-loop-l
 invariant-loop-l l = record {
   grows : Grows l.fn.st l.st;
   len : length l.ds ≡ l.l-index;
-  cut : AreCut l.fn.st l.rows l.members l.sw l.st l.ds l.l-index;
+  cut : HaveEach l.st l.ds (cut_each l.fn.st l.rows l.members l.sw) l.l-index;
 }

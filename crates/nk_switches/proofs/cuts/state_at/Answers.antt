@@ -1,13 +1,19 @@
-use Rattle.std.proofs.Common.{◌∙◌, ◌<◌, sym, subst, ap, length, get_or, []}
-use Rattle.nk_switches.proofs.Cutting.{AreCut, state_cut}
+use Rattle.std.proofs.Common.{◌∙◌, refl, sym, subst, ap, length}
+use Rattle.nk_algebra.specs.Unions.{AreIds}
+use Rattle.nk_determ.specs.States.{HaveEach}
+use Rattle.nk_determ.proofs.Together.{each_ids}
+use Rattle.nk_switches.proofs.Cutting.{cut_each, state_cut}
 use Rattle.nk_switches.proofs.cuts.state_at.Goals as goal
+
+pub state_of-requires : goal.state_of-requires
+state_of-requires c =
+    subst (AreIds c.cut_rows.new.st) (sym c.as_slice.ensures)
+    (each_ids c.cut_rows.new.st c.in_ok-cut.cut (length c.in_ok-cut.cut) (cut_each c.args.st.now c.args.rows.now c.args.members.now c.args.sw) refl c.in_ok-cut.ensures.ok)
 
 pub returns-clause-state : goal.returns-clause-state
 returns-clause-state c =
-    state_cut c.args.st.now c.cut_rows.new.st c.state.new.st c.args.rows.now c.args.members.now c.as_slice.result.now (get_or c.intern.new.self c.in_ok-s.s []) c.args.sw (length c.in_ok-cut.cut)
-    c.cut_rows.ensures.grows c.state.ensures.grows c.requires.rows c.requires.places
-    (ap length c.as_slice.ensures) (sym c.in_ok-cut.ensures.len)
-    (subst (λ ds. AreCut c.args.st.now c.args.rows.now c.args.members.now c.args.sw c.cut_rows.new.st ds (length c.in_ok-cut.cut)) (sym c.as_slice.ensures) c.in_ok-cut.ensures.ok)
-    (ap length c.in_ok-s.ensures.ok.members ∙ c.in_ok-all.ensures.len ∙ c.len.ensures)
-    (λ k lt. ap (λ l. get_or l k 0) c.in_ok-s.ensures.ok.members ∙ c.in_ok-all.ensures.each k (subst (λ n. k < n) (sym c.len.ensures) lt))
-    c.state.new.ss c.in_ok-d.d c.in_ok-d.ensures.id c.in_ok-d.ensures.exact c.in_ok-d.ensures.ends c.in_ok-d.ensures.leads c.in_ok-d.ensures.led
+    state_cut c.args.st.now c.cut_rows.new.st c.state_of.new.st c.args.rows.now c.args.members.now c.as_slice.result.now c.args.sw
+    c.cut_rows.ensures.grows c.state_of.ensures.grows c.requires.rows c.requires.places
+    (ap length c.as_slice.ensures ∙ c.in_ok-cut.ensures.len)
+    (subst (λ ds. HaveEach c.cut_rows.new.st ds (cut_each c.args.st.now c.args.rows.now c.args.members.now c.args.sw) (length ds)) (sym c.as_slice.ensures) c.in_ok-cut.ensures.ok)
+    c.state_of.new.ss c.in_ok-d.d c.in_ok-d.ensures.id c.in_ok-d.ensures.exact c.in_ok-d.ensures.ends c.in_ok-d.ensures.leads c.in_ok-d.ensures.led
