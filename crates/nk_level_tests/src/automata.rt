@@ -75,10 +75,13 @@ pub fn rows_of(st: &mut Store, raw: &Pol) -> Result<List<Id>, AllocError>
     ensures rows { IfOk result (λ rows. AreRows st.new rows) }
 {
     let alloc = st.alloc();
-    match numbered(alloc, raw)? {
-        Some(p) if fits(st, &p) => drawn(st, &p),
-        _ => Ok(List::new(alloc)),
+    let Some(p) = numbered(alloc, raw)? else {
+        return Ok(List::new(alloc));
+    };
+    if !fits(st, &p) {
+        return Ok(List::new(alloc));
     }
+    drawn(st, &p)
 }
 
 /// The start alone.
