@@ -3,39 +3,9 @@ ghost use Rattle.std.specs.Prelude.{IfOk};
 ghost use Rattle.nk_store.specs.Held.{IsId};
 
 use nk_algebra::{aim, assign, both, empty, negate, restrict, seq, test, union_all};
-use nk_field::{Fid, Fields, Packet};
+use nk_field::{Fid, Packet};
 use nk_store::{Id, Store};
-use std::alloc::{AllocError, Global};
-use std::test::Fail;
-
-/// `sw:=1` and then `sw=0` passes nothing; `sw=0` and then `sw:=1` passes the packet with `sw` 0.
-#[test]
-fn order_matters(rt: HostRuntime) -> Result<(), Fail> {
-    let mut st = store(rt.alloc())?;
-    let none = empty(&mut st)?;
-    let (first, second) = both_orders(&mut st)?;
-    assert!(rt; first == none);
-    assert_eq!(rt; st.look(second, &Packet::zero()).len(), 1);
-    Ok(())
-}
-
-/// Of `sw=0` and `sw=0` aimed at 5 together a packet with `sw` 0 goes to 0 and to 5; where `sw` is set to 1,
-/// `~sw=0` passes it.
-#[test]
-fn leaves_are_united(rt: HostRuntime) -> Result<(), Fail> {
-    let mut st = store(rt.alloc())?;
-    let (all, part) = united(&mut st)?;
-    let zero = Packet::zero();
-    assert_eq!(rt; st.look(all, &zero).len(), 2);
-    assert_eq!(rt; st.look(part, &zero).len(), 1);
-    Ok(())
-}
-
-/// A store for packets with the built-in fields alone.
-fn store(alloc: Global) -> Result<Store, AllocError> {
-    let fields = Fields::new(alloc)?;
-    Store::new(alloc, &fields)
-}
+use std::alloc::AllocError;
 
 /// `sw:=1` and then `sw=0`, and the other way round.
 fn both_orders(st: &mut Store) -> Result<(Id, Id), AllocError>
@@ -59,4 +29,18 @@ fn united(st: &mut Store) -> Result<(Id, Id), AllocError>
     let same = both(st, not, not)?;
     let part = restrict(st, same, Fid::SWITCH, 1)?;
     Ok((all, part))
+}
+
+/// Whether the first of both orders passes nothing, and the second one the packet with `sw` 0.
+pub fn order_matters(st: &mut Store) -> Result<bool, AllocError> {
+    let none = empty(st)?;
+    let (first, second) = both_orders(st)?;
+    Ok(first == none && st.look(second, &Packet::zero()).len() == 1)
+}
+
+/// Whether a packet with `sw` 0 goes to both targets, and where `sw` is set to 1 it passes once.
+pub fn leaves_are_united(st: &mut Store) -> Result<bool, AllocError> {
+    let (all, part) = united(st)?;
+    let zero = Packet::zero();
+    Ok(st.look(all, &zero).len() == 2 && st.look(part, &zero).len() == 1)
 }

@@ -1,68 +1,57 @@
 //! The diagrams of small policies.
+ghost use Rattle.nk_store.specs.Held.{IsId};
+
+use crate::cases::DST;
 use nk_algebra::identity;
-use nk_auto::{continued, policy_automaton, silent};
-use nk_field::{Fid, Fields, Packet};
-use nk_policy::{Pol, Pols};
-use nk_store::Store;
-use std::test::Fail;
+use nk_auto::{continued, silent};
+use nk_field::{Fid, Packet};
+use nk_plain::{complement, either, in_turn, star};
+use nk_policy::Pol;
+use nk_store::{Id, Store};
+use std::alloc::{AllocError, Global};
 
-/// `dst=0; dst:=1 + ~dst=0` makes a `dst` of 0 one of 1, and leaves one of 2 as it is.
-#[test]
-fn a_policy_at_two_packets(rt: HostRuntime) -> Result<(), Fail> {
-    let alloc = rt.alloc();
-    let mut fields = Fields::new(alloc)?;
-    let dst = fields.add("dst", 3)?;
-    let mut st = Store::new(alloc, &fields)?;
-    let moved = vec![in alloc; Pol::Test(dst, 0), Pol::Set(dst, 1)]?;
-    let kept = Pol::Not(Box::new(alloc, Pol::Test(dst, 0))?);
-    let parts = vec![in alloc; Pol::Seq(Pols::new(moved)), kept]?;
-    let d = silent(&mut st, &Pol::Sum(Pols::new(parts)))?;
-    let zero = Packet::zero();
-    let mut two = Packet::zero();
-    two.put(dst, 2);
-    let at_zero = st.look(d, &zero);
-    assert_eq!(rt; at_zero.len(), 1);
-    for out in at_zero {
-        assert_eq!(rt; out.act.apply(&zero).get(dst), 1);
-        assert_eq!(rt; out.target, 0);
-    }
-    let at_two = st.look(d, &two);
-    assert_eq!(rt; at_two.len(), 1);
-    for out in at_two {
-        assert_eq!(rt; out.act.apply(&two).get(dst), 2);
-    }
-    Ok(())
+/// `dst=0;dst:=1 + ~dst=0`.
+fn moved_or_kept(alloc: Global) -> Result<Pol, AllocError> {
+    let dst = Fid::new(DST);
+    let moved = in_turn(alloc, Pol::Test(dst, 0), Pol::Set(dst, 1))?;
+    let kept = complement(alloc, Pol::Test(dst, 0))?;
+    either(alloc, moved, kept)
 }
 
-/// `dup*` ends at the packet itself without a record, or it records the packet at its dup. So from its start an out goes to
-/// target 0 and one to target 1, and its automaton has two states.
-#[test]
-fn a_star_of_a_dup(rt: HostRuntime) -> Result<(), Fail> {
-    let alloc = rt.alloc();
-    let fields = Fields::new(alloc)?;
-    let mut st = Store::new(alloc, &fields)?;
-    let p = Pol::Star(Box::new(alloc, Pol::Dup(1))?);
+/// The `dst` of the one packet that a diagram makes of one with this `dst`, to target 0; nothing where it makes another
+/// number of packets.
+fn dst_after(st: &Store, d: Id, n: u64) -> Option<u64>
+    requires { IsId st.now d }
+{
+    let mut pk = Packet::zero();
+    pk.put(Fid::new(DST), n);
+    let outs = st.look(d, &pk);
+    if outs.len() != 1 || outs[0].target != 0 {
+        return None;
+    }
+    Some(outs[0].act.apply(&pk).get(Fid::new(DST)))
+}
+
+/// Whether the policy makes a `dst` of 0 one of 1, and leaves one of 2 as it is.
+pub fn is_moved_or_kept(st: &mut Store) -> Result<bool, AllocError> {
+    let d = silent(st, &moved_or_kept(st.alloc())?)?;
+    Ok(dst_after(st, d, 0) == Some(1) && dst_after(st, d, 2) == Some(2))
+}
+
+/// Whether `dup*` ends at the packet itself, and goes on to its dup or ends with the packet as it is.
+pub fn ends_or_records(st: &mut Store) -> Result<bool, AllocError> {
+    let p = star(st.alloc(), Pol::Dup(1))?;
     let zero = Packet::zero();
-    let without = silent(&mut st, &p)?;
-    assert_eq!(rt; st.look(without, &zero).len(), 1);
-    let end = identity(&mut st)?;
-    let start = continued(&mut st, &p, end)?;
+    let without = silent(st, &p)?;
+    let ends = st.look(without, &zero).len();
+    let end = identity(st)?;
+    let start = continued(st, &p, end)?;
     let outs = st.look(start, &zero);
-    assert_eq!(rt; outs.len(), 2);
-    for out in outs {
-        assert!(rt; out.target <= 1);
-        assert_eq!(rt; out.act.apply(&zero).get(Fid::SWITCH), 0);
-    }
-    Ok(())
-}
-
-/// The automaton of a dup: the start, which records, and what is left, which ends.
-#[test]
-fn two_states_of_a_dup(rt: HostRuntime) -> Result<(), Fail> {
-    let alloc = rt.alloc();
-    let fields = Fields::new(alloc)?;
-    let mut st = Store::new(alloc, &fields)?;
-    let states = policy_automaton(&mut st, &Pol::Dup(1), 1)?;
-    assert_eq!(rt; states.len(), 2);
-    Ok(())
+    Ok(
+        ends == 1
+            && outs.len() == 2
+            && outs
+                .iter()
+                .all(|out| out.target <= 1 && out.act.apply(&zero) == zero),
+    )
 }

@@ -1,25 +1,15 @@
-//! Acts without what is there already, sets of labels by number, and what two rows record together.
+//! Acts without what is there already, and what two rows record together.
 ghost use Rattle.std.specs.Prelude.{◌≡◌, ◌<◌, [], ◌∷◌, IfOk};
 ghost use Rattle.std.specs.List.Sorted.{IsStrictlyIncreasing};
 ghost use Rattle.nk_store.specs.Held.{IsId, Grows};
 ghost use Rattle.nk_determ.specs.Sets.{IsSetOf};
 
+use crate::cases::DST;
 use nk_algebra::{aim, assign, identity, union};
 use nk_determ::{SetId, Sets, split, state};
-use nk_field::{Fid, Fields, List, Packet};
+use nk_field::{Fid, List, Packet};
 use nk_store::{Id, Store};
 use std::alloc::{AllocError, Global};
-use std::test::Fail;
-
-/// The place of the one declared field, `dst`.
-const DST: u8 = 2;
-
-/// A store over the field `dst`, 0 and 1.
-fn store_of(alloc: Global) -> Result<Store, Fail> {
-    let mut fields = Fields::new(alloc)?;
-    fields.add("dst", 1)?;
-    Ok(Store::new(alloc, &fields)?)
-}
 
 /// `id + dst:=1`.
 fn kept_or_one(st: &mut Store) -> Result<Id, AllocError>
@@ -33,41 +23,14 @@ fn kept_or_one(st: &mut Store) -> Result<Id, AllocError>
     union(st, kept, one)
 }
 
-/// One label.
-fn label(alloc: Global, l: u64) -> Result<List<u64>, AllocError>
-    ensures { IfOk result (λ ls. ls ≡ l ∷ []) }
-{
-    let mut all = List::new(alloc);
-    all.push(l)?;
-    Ok(all)
-}
-
-/// At `dst` 1 both acts are one that assigns nothing, at `dst` 0 they are two.
-#[test]
-fn an_assignment_of_what_is_there_goes(rt: HostRuntime) -> Result<(), Fail> {
-    let alloc = rt.alloc();
-    let mut st = store_of(alloc)?;
-    let d = kept_or_one(&mut st)?;
-    let s = split(&mut st, d)?;
-    let mut at = Packet::zero();
-    assert_eq!(rt; st.look(s, &at).len(), 2);
-    at.put(Fid::new(DST), 1);
-    assert_eq!(rt; st.look(s, &at).len(), 1);
-    Ok(())
-}
-
-/// A set that comes twice has one number, another one another.
-#[test]
-fn a_set_has_one_number(rt: HostRuntime) -> Result<(), Fail> {
-    let alloc = rt.alloc();
-    let mut ss = Sets::new(alloc);
-    let first = ss.intern(label(alloc, 1)?)?;
-    let other = ss.intern(label(alloc, 2)?)?;
-    let again = ss.intern(label(alloc, 1)?)?;
-    assert!(rt; first == again);
-    assert!(rt; first != other);
-    assert_eq!(rt; ss.len(), 2);
-    Ok(())
+/// Whether at `dst` 1 both acts are one that assigns nothing, and at `dst` 0 they are two.
+pub fn unchanged_goes(st: &mut Store) -> Result<bool, AllocError> {
+    let d = kept_or_one(st)?;
+    let s = split(st, d)?;
+    let zero = Packet::zero();
+    let mut one = Packet::zero();
+    one.put(Fid::new(DST), 1);
+    Ok(st.look(s, &zero).len() == 2 && st.look(s, &one).len() == 1)
 }
 
 /// The two labels.
@@ -104,17 +67,11 @@ fn both_record(alloc: Global, st: &mut Store, ss: &mut Sets) -> Result<Id, Alloc
     state_of_two(st, ss, first, second, s)
 }
 
-/// What two rows record is one out, to the set of both labels.
-#[test]
-fn both_labels_follow(rt: HostRuntime) -> Result<(), Fail> {
-    let alloc = rt.alloc();
-    let mut st = store_of(alloc)?;
-    let mut ss = Sets::new(alloc);
-    let d = both_record(alloc, &mut st, &mut ss)?;
+/// Whether what two rows record is one out, to the set of both labels.
+pub fn both_labels_follow(st: &mut Store, ss: &mut Sets) -> Result<bool, AllocError> {
+    let alloc = st.alloc();
+    let d = both_record(alloc, st, ss)?;
     let both = ss.intern(two_labels(alloc, 1, 2)?)?;
     let outs = st.look(d, &Packet::zero());
-    assert_eq!(rt; outs.len(), 1);
-    assert!(rt; outs[0].target > 0);
-    assert_eq!(rt; outs[0].target - 1, both.place() as u64);
-    Ok(())
+    Ok(outs.len() == 1 && outs[0].target > 0 && outs[0].target - 1 == both.place() as u64)
 }

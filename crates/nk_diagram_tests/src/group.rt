@@ -1,48 +1,72 @@
 //! Rows and their groups.
 use nk_field::{Act, List};
 use nk_group::group_rows;
-use nk_table::{Bucket, Exit, Plain, Target};
+use nk_table::{Bucket, Exit, Group, Plain, Row, Target};
 use std::alloc::{AllocError, Global};
 use std::test::Fail;
 
-/// A row whose buckets send to these ports.
-fn plain(alloc: Global, priority: u16, ports: &[u16]) -> Result<Plain, AllocError> {
+/// The rows: a priority, and the ports of the buckets.
+const ROWS: [(u16, &[u16]); 5] = [
+    (9, &[]),
+    (8, &[7]),
+    (4, &[1, 2]),
+    (2, &[2, 1]),
+    (1, &[1, 2]),
+];
+
+/// Buckets that send to these ports.
+fn buckets(alloc: Global, ports: &[u16]) -> Result<List<Bucket>, AllocError> {
     let mut buckets = List::new(alloc);
     for port in ports {
-        let sets = Act::none(alloc);
         buckets.push(Bucket {
-            sets,
+            sets: Act::none(alloc),
             exit: Exit::Port(*port),
         })?;
     }
-    Ok(Plain {
-        priority,
-        matches: List::new(alloc),
-        buckets,
-    })
+    Ok(buckets)
+}
+
+/// The rows, each for all packets.
+fn plain_rows(alloc: Global) -> Result<Vec<Plain>, AllocError> {
+    let mut all = Vec::new(alloc);
+    for (priority, ports) in ROWS {
+        all.push(Plain {
+            priority,
+            matches: List::new(alloc),
+            buckets: buckets(alloc, ports)?,
+        })?;
+    }
+    Ok(all)
+}
+
+/// Whether the rows send where they should: none and one bucket need no group, and the last row has the group of the third.
+fn are_targets(rows: &[Row]) -> bool {
+    rows.len() == 5
+        && rows[0].priority == 9
+        && matches!(&rows[0].target, Target::Discard)
+        && matches!(&rows[1].target, Target::Bucket(b) if b.exit == Exit::Port(7))
+        && matches!(&rows[2].target, Target::Group(1))
+        && matches!(&rows[3].target, Target::Group(2))
+        && matches!(&rows[4].target, Target::Group(1))
+}
+
+/// Whether the two groups are numbered by first use, and the second one has its buckets in order.
+fn are_groups(groups: &[Group]) -> bool {
+    groups.len() == 2
+        && groups[0].number == 1
+        && groups[1].number == 2
+        && groups[1].buckets.len() == 2
+        && groups[1].buckets.at(0).exit == Exit::Port(2)
+}
+
+/// Whether that holds of what is made of the rows.
+fn are_numbered_by_first_use(alloc: Global) -> Result<bool, AllocError> {
+    let (rows, groups) = group_rows(alloc, plain_rows(alloc)?)?;
+    Ok(are_targets(rows.as_slice()) && are_groups(groups.as_slice()))
 }
 
 #[test]
 fn groups_are_numbered_by_first_use(rt: HostRuntime) -> Result<(), Fail> {
-    let alloc = rt.alloc();
-    let mut all = Vec::new(alloc);
-    all.push(plain(alloc, 9, &[])?)?;
-    all.push(plain(alloc, 8, &[7])?)?;
-    all.push(plain(alloc, 4, &[1, 2])?)?;
-    all.push(plain(alloc, 2, &[2, 1])?)?;
-    all.push(plain(alloc, 1, &[1, 2])?)?;
-    let (rows, groups) = group_rows(alloc, all)?;
-    assert_eq!(rt; rows.len(), 5);
-    assert_eq!(rt; rows[0].priority, 9);
-    assert!(rt; matches!(&rows[0].target, Target::Discard));
-    assert!(rt; matches!(&rows[1].target, Target::Bucket(b) if b.exit == Exit::Port(7)));
-    assert!(rt; matches!(&rows[2].target, Target::Group(1)));
-    assert!(rt; matches!(&rows[3].target, Target::Group(2)));
-    assert!(rt; matches!(&rows[4].target, Target::Group(1)));
-    assert_eq!(rt; groups.len(), 2);
-    assert_eq!(rt; groups[0].number, 1);
-    assert_eq!(rt; groups[1].number, 2);
-    assert_eq!(rt; groups[1].buckets.len(), 2);
-    assert!(rt; groups[1].buckets.at(0).exit == Exit::Port(2));
+    assert!(rt; are_numbered_by_first_use(rt.alloc())?);
     Ok(())
 }

@@ -6,22 +6,16 @@ mod algebra;
 #[cfg(test)]
 mod auto;
 #[cfg(test)]
-mod deriv;
+mod cases;
 #[cfg(test)]
 mod determ;
-#[cfg(test)]
-mod draws;
 #[cfg(test)]
 mod generated;
 #[cfg(test)]
 mod group;
-#[cfg(test)]
-mod numbered;
 #[cfg(test)]
 mod sets;
 #[cfg(test)]
 mod star;
 #[cfg(test)]
 mod store;
-#[cfg(test)]
-mod walks;

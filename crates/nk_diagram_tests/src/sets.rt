@@ -4,23 +4,13 @@ ghost use Rattle.nk_store.specs.Held.{Grows, IsId};
 ghost use Rattle.nk_store.specs.Leaves.{IsActFrom};
 ghost use Rattle.nk_sets.specs.PacketSets.{IsSet};
 
+use crate::cases::DST;
 use nk_algebra::{negate, test, union};
 use nk_field::{Act, Fid, Fields};
 use nk_policy::pol_text;
 use nk_sets::{image, is_empty, least, minus, preimage, set_pol};
 use nk_store::{Id, Store};
 use std::alloc::{AllocError, Global};
-use std::test::Fail;
-
-/// The place of the one declared field, `dst`.
-const DST: u8 = 2;
-
-/// The field `dst` from 0 to 3.
-fn fields_of(alloc: Global) -> Result<Fields, Fail> {
-    let mut fields = Fields::new(alloc)?;
-    fields.add("dst", 3)?;
-    Ok(fields)
-}
 
 /// The packets with that `dst`.
 fn with_dst(st: &mut Store, n: u64) -> Result<Id, AllocError>
@@ -72,29 +62,19 @@ fn made_and_left(st: &mut Store, act: &Act, s: Id) -> Result<(Id, Id), AllocErro
     Ok((made, left))
 }
 
-/// Of the values up to 3, those that are neither 0 nor 2: on a tie the else-child is that of the least value.
-#[test]
-fn odd_values_are_printed(rt: HostRuntime) -> Result<(), Fail> {
-    let alloc = rt.alloc();
-    let fields = fields_of(alloc)?;
-    let mut st = Store::new(alloc, &fields)?;
-    let s = odd(&mut st)?;
-    let text = printed(alloc, &fields, &st, s)?;
-    assert!(rt; text.as_slice() == b"dst=1 + dst=3".as_slice());
-    Ok(())
+/// Whether the odd values are printed one by one: on a tie the else-child is that of the least value.
+pub fn odd_is_printed(fields: &Fields, st: &mut Store) -> Result<bool, AllocError> {
+    let s = odd(st)?;
+    let text = printed(st.alloc(), fields, st, s)?;
+    Ok(text.as_slice() == b"dst=1 + dst=3".as_slice())
 }
 
-/// `dst:=1` makes of the odd values the value 1, and brings each packet to it.
-#[test]
-fn an_act_makes_a_set(rt: HostRuntime) -> Result<(), Fail> {
-    let alloc = rt.alloc();
-    let fields = fields_of(alloc)?;
-    let mut st = Store::new(alloc, &fields)?;
-    let s = odd(&mut st)?;
-    let act = to_one(alloc, &st)?;
-    let (made, left) = made_and_left(&mut st, &act, s)?;
-    let first = least(&st, made)?;
-    assert!(rt; first.is_some_and(|pk| pk.get(Fid::new(DST)) == 1));
-    assert!(rt; is_empty(&st, left) && !is_empty(&st, made));
-    Ok(())
+/// Whether `dst:=1` makes of the odd values the value 1, and brings each packet to it.
+pub fn act_makes_a_set(st: &mut Store) -> Result<bool, AllocError> {
+    let s = odd(st)?;
+    let act = to_one(st.alloc(), st)?;
+    let (made, left) = made_and_left(st, &act, s)?;
+    let first = least(st, made)?;
+    let is_one = first.is_some_and(|pk| pk.get(Fid::new(DST)) == 1);
+    Ok(is_one && is_empty(st, left) && !is_empty(st, made))
 }

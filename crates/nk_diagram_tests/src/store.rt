@@ -2,28 +2,9 @@
 ghost use Rattle.std.specs.Prelude.{◌≡◌, [], ◌∷◌, IfOk};
 ghost use Rattle.nk_store.specs.Held.{Grows, IsId};
 
-use nk_field::{Act, Fields, List, Packet};
+use nk_field::{Act, List, Packet};
 use nk_store::{Id, Out, Store};
 use std::alloc::{AllocError, Global};
-use std::test::Fail;
-
-/// Outs in any order and number are one leaf, which stands once.
-#[test]
-fn equal_leaves_are_one(rt: HostRuntime) -> Result<(), Fail> {
-    let mut st = store(rt.alloc())?;
-    let d = leaf_to(&mut st, 5, 0, 5)?;
-    let e = leaf_to(&mut st, 0, 5, 0)?;
-    assert!(rt; st.same(d, e));
-    assert_eq!(rt; st.len(), 1);
-    assert_eq!(rt; st.look(d, &Packet::zero()).len(), 2);
-    Ok(())
-}
-
-/// A store for packets with the built-in fields alone.
-fn store(alloc: Global) -> Result<Store, AllocError> {
-    let fields = Fields::new(alloc)?;
-    Store::new(alloc, &fields)
-}
 
 /// The leaf with the packet itself to three targets.
 fn leaf_to(st: &mut Store, a: u64, b: u64, c: u64) -> Result<Id, AllocError>
@@ -53,4 +34,11 @@ fn to(alloc: Global, target: u64) -> Out
         act: Act::none(alloc),
         target,
     }
+}
+
+/// Whether outs in any order and number are one leaf, which stands once in a store that had nothing.
+pub fn equal_leaves_are_one(st: &mut Store) -> Result<bool, AllocError> {
+    let d = leaf_to(st, 5, 0, 5)?;
+    let e = leaf_to(st, 0, 5, 0)?;
+    Ok(st.same(d, e) && st.len() == 1 && st.look(d, &Packet::zero()).len() == 2)
 }

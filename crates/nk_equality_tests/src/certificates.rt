@@ -5,15 +5,13 @@ ghost use Rattle.nk_policy.specs.Tree.{tree_of};
 ghost use Rattle.nk_cert.specs.Values.{certificate_value};
 ghost use Rattle.nk_cert.specs.Verdicts.{HasPredicates};
 
+use crate::cases::Case;
 use crate::definition::{Row, Sides, found_of};
-use crate::draws::{Draws, TWO_FIELDS, policies};
-use crate::enumerated::packet_of;
-use crate::programs::{declared, program_text};
-use crate::steps::{Steps, push_steps};
 use nk_bisim::{Compared, compare};
 use nk_cert::{Certificate, Verdict, check};
 use nk_field::{Fid, List, Packet};
 use nk_names::Program;
+use nk_plain::{histories_from, packet_of};
 use nk_policy::{Pol, Pols, is_predicate};
 use std::alloc::{AllocError, Global};
 use std::test::Fail;
@@ -67,9 +65,7 @@ fn packets_of(alloc: Global, predicate: &Pol) -> Result<Vec<Packet>, AllocError>
     let mut packets = Vec::new(alloc);
     for number in 0..4 {
         let pk = packet_of(number);
-        let mut steps = Steps::new(alloc);
-        push_steps(alloc, predicate, &pk, &mut steps)?;
-        if !steps.ends.is_empty() {
+        if !histories_from(alloc, predicate, &pk, 0)?.is_empty() {
             packets.push(pk)?;
         }
     }
@@ -311,36 +307,24 @@ fn is_valid_where_same(alloc: Global, program: &Program) -> Result<bool, Fail> {
 }
 
 /// Whether that holds of the certificate of a policy and the same in other words, beside another policy.
-fn holds_beside(alloc: Global, left: &[u8], right: &[u8]) -> Result<bool, Fail> {
-    let text = program_text(alloc, left, right)?;
-    let program = declared(alloc, text.as_slice())?;
-    if !is_valid_where_same(alloc, &program)? {
+pub fn hold_of(alloc: Global, program: &Program) -> Result<bool, Fail> {
+    if !is_valid_where_same(alloc, program)? {
         return Ok(false);
     }
-    match compare(alloc, &program, "l", "s")? {
-        Compared::Related(c) => holds_of(alloc, &program, &c),
+    match compare(alloc, program, "l", "s")? {
+        Compared::Related(c) => holds_of(alloc, program, &c),
         Compared::Broken(_) => Ok(false),
     }
-}
-
-/// Whether that holds of the random policies of a seed, each beside the next one.
-fn holds_of_seed(alloc: Global, seed: u64) -> Result<bool, Fail> {
-    let mut draws = Draws::new(seed);
-    let texts = policies(alloc, TWO_FIELDS, 8, &mut draws)?;
-    let texts = texts.as_slice();
-    for i in 1..texts.len() {
-        if !holds_beside(alloc, texts[i - 1].as_slice(), texts[i].as_slice())? {
-            return Ok(false);
-        }
-    }
-    Ok(true)
 }
 
 /// What is found of the certificates of random policies, as they are and changed, is what the definition says.
 #[test]
 fn certificates_of_random_policies(rt: HostRuntime) -> Result<(), Fail> {
     for seed in 1..=2 {
-        assert!(rt; holds_of_seed(rt.alloc(), seed)?, "seed {seed}");
+        assert!(rt;
+            Case::Certificates.holds_of_seed(rt.alloc(), 8, seed)?,
+            "seed {seed}"
+        );
     }
     Ok(())
 }

@@ -1,8 +1,7 @@
 //! What is found of a certificate by its definition, over the four packets of two fields of two values.
-use crate::enumerated::packet_of;
-use crate::steps::{Steps, push_behind, push_steps};
 use nk_cert::{CertPart, Verdict};
 use nk_field::Packet;
+use nk_plain::{Runs, packet_of, runs_behind, runs_from};
 use nk_policy::{Pol, dups};
 use std::alloc::{AllocError, Global};
 
@@ -24,6 +23,27 @@ pub struct Sides<'a> {
     pub right: &'a Pol,
 }
 
+/// What a policy does from a packet before it records anything more.
+#[derive(Drop)]
+struct Steps {
+    /// Where it ends.
+    ends: Vec<Packet>,
+    /// What it records next, with the number of the dup.
+    records: Vec<(Packet, u64)>,
+}
+
+/// Puts what these runs of at most one record do; so many numbers come before those of the policy's dups.
+fn push_steps(runs: &Runs, before: u64, steps: &mut Steps) -> Result<(), AllocError> {
+    for history in &runs.ends {
+        steps.ends.push(history.last)?;
+    }
+    for run in &runs.so_far {
+        let number = run.label.saturating_add(before);
+        steps.records.push((run.history.last, number))?;
+    }
+    Ok(())
+}
+
 /// What a policy does from a packet where a row stands; so many numbers come before those of its dups.
 fn steps_of_side(
     alloc: Global,
@@ -32,22 +52,20 @@ fn steps_of_side(
     row: &Row,
     pk: &Packet,
 ) -> Result<Steps, AllocError> {
-    let mut own = Steps::new(alloc);
+    let mut steps = Steps {
+        ends: Vec::new(alloc),
+        records: Vec::new(alloc),
+    };
     match &row.positions {
         Some(positions) => {
             for number in positions {
                 if let Some(number) = number.checked_sub(before) {
-                    push_behind(alloc, p, number, pk, &mut own)?;
+                    push_steps(&runs_behind(alloc, p, number, pk, 0)?, before, &mut steps)?;
                 }
             }
         }
-        None => push_steps(alloc, p, pk, &mut own)?,
+        None => push_steps(&runs_from(alloc, p, pk, 0)?, before, &mut steps)?,
     }
-    let mut steps = Steps::new(alloc);
-    for (x, number) in &own.records {
-        steps.push_record(x, number.saturating_add(before))?;
-    }
-    steps.ends = own.ends;
     Ok(steps)
 }
 

@@ -3,20 +3,16 @@
 #![tactic(auto)]
 
 #[cfg(test)]
+mod cases;
+#[cfg(test)]
 mod certificates;
 #[cfg(test)]
 mod definition;
-#[cfg(test)]
-mod draws;
-#[cfg(test)]
-mod enumerated;
 #[cfg(test)]
 mod pairs;
 #[cfg(test)]
 mod programs;
 #[cfg(test)]
 mod queries;
-#[cfg(test)]
-mod steps;
 #[cfg(test)]
 mod walks;

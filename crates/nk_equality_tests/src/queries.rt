@@ -4,12 +4,12 @@ ghost use Rattle.nk_cert.specs.Values.{certificate_value};
 ghost use Rattle.nk_cert.specs.Verdicts.{HasPredicates};
 
 use crate::certificates::is_over_predicates;
-use crate::draws::{Atoms, Draws, one_of, policies};
-use crate::enumerated::{Difference, RECORDS, histories_from, is_before};
 use crate::programs::declared;
+use crate::walks::RECORDS;
 use nk_cert::{Certificate, Verdict};
 use nk_field::{Fid, History, Packet};
 use nk_names::Program;
+use nk_plain::{Atoms, Difference, Draws, histories_from, lesser, one_of, policy_texts};
 use nk_policy::Pol;
 use nk_query::{Answer, Query, ask, check_query};
 use std::alloc::{AllocError, Global};
@@ -84,7 +84,7 @@ struct Asked<'a> {
 
 /// Whether a predicate keeps a packet.
 fn keeps(alloc: Global, predicate: &Pol, pk: &Packet) -> Result<bool, AllocError> {
-    Ok(!histories_from(alloc, predicate, pk)?.is_empty())
+    Ok(!histories_from(alloc, predicate, pk, 0)?.is_empty())
 }
 
 /// Whether a predicate keeps the start, a record or the last packet of a history.
@@ -110,26 +110,20 @@ fn breaks(alloc: Global, asked: Asked, start: &Packet, h: &History) -> Result<bo
 
 /// The least history of at most so many records that breaks the query.
 fn least_break(alloc: Global, asked: Asked) -> Result<Option<Difference>, AllocError> {
-    let mut least: Option<Difference> = None;
+    let mut least = None;
     for number in 0..18 {
         let start = packet_at(number);
         if !keeps(alloc, asked.from, &start)? {
             continue;
         }
-        for history in histories_from(alloc, asked.policy, &start)? {
+        for history in histories_from(alloc, asked.policy, &start, RECORDS)? {
             if breaks(alloc, asked, &start, &history)? {
                 let new = Difference {
                     start,
                     history,
                     is_left: true,
                 };
-                let is_less = match &least {
-                    Some(old) => is_before(&new, old),
-                    None => true,
-                };
-                if is_less {
-                    least = Some(new);
-                }
+                least = lesser(least, new);
             }
         }
     }
@@ -202,7 +196,7 @@ fn both_agree(alloc: Global, text: &[u8]) -> Result<bool, Fail> {
 /// Whether that holds of the random policies of a seed, each with random predicates.
 fn all_agree(alloc: Global, seed: u64) -> Result<bool, Fail> {
     let mut draws = Draws::new(seed);
-    for policy in policies(alloc, ATOMS, 12, &mut draws)? {
+    for policy in policy_texts(alloc, ATOMS, 12, &mut draws)? {
         let predicates = (
             one_of(ATOMS.tests, &mut draws),
             one_of(ATOMS.tests, &mut draws),

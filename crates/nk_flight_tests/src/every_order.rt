@@ -1,8 +1,9 @@
 //! Random tables: whatever copies are handled, what has left and what copies owe is what leaves the tables. The fourth ones
 //! send two copies alike along one link.
-use crate::tables::{Draws, at, drawn_tables};
+use crate::tables::{at, drawn_tables};
 use nk_field::{History, List, Packet};
 use nk_flight::{Flight, Flying, Left};
+use nk_plain::Draws;
 use nk_sim::runs;
 use nk_table::Tables;
 use std::alloc::{AllocError, Global};
@@ -133,14 +134,18 @@ fn broken_after(
     Ok(broken)
 }
 
+/// Whether every order of five steps is whole through the next drawn tables.
+fn is_whole_in_every_order(alloc: Global, draws: &mut Draws) -> Result<bool, Fail> {
+    let t = drawn_tables(alloc, draws)?;
+    let mut places = Vec::new(alloc);
+    Ok(broken_after(alloc, &t, &mut places, 5)? == 0)
+}
+
 #[test]
 fn every_order_is_whole(rt: HostRuntime) -> Result<(), Fail> {
-    let alloc = rt.alloc();
-    let mut draws = Draws { last: 7 };
+    let mut draws = Draws::new(7);
     for _round in 0..4 {
-        let t = drawn_tables(alloc, &mut draws)?;
-        let mut places = Vec::new(alloc);
-        assert_eq!(rt; broken_after(alloc, &t, &mut places, 5)?, 0);
+        assert!(rt; is_whole_in_every_order(rt.alloc(), &mut draws)?);
     }
     Ok(())
 }

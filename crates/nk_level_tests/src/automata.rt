@@ -1,11 +1,12 @@
 //! The automata of policies, and their levels from the start.
-ghost use Rattle.std.specs.Prelude.{◌≡◌, ◌≤◌, ◌<◌, ◌+◌, ◌^◌, [], ◌∷◌, true, refl, IfOk, OnOk, length};
+ghost use Rattle.std.specs.Prelude.{◌≡◌, ◌≤◌, ◌<◌, ◌+◌, ◌^◌, [], ◌∷◌, true, refl, IfOk, IfSome, OnOk, length};
 ghost use Rattle.nk_policy.specs.Policy.{marked_from, dups_of};
 ghost use Rattle.nk_policy.specs.Tree.{tree_of, trees_of};
 ghost use Rattle.nk_store.specs.Held.{Held, Grows};
 ghost use Rattle.nk_algebra.proofs.Members.{contains_has};
 ghost use Rattle.nk_sets.specs.PacketSets.{IsSet};
 ghost use Rattle.nk_auto.specs.Continued.{IsFit, AreFit};
+ghost use Rattle.nk_deriv.specs.Part.{NegatesPredicates, AllNegatePredicates};
 ghost use Rattle.nk_determ.specs.Sets.{IsSetOf};
 ghost use Rattle.nk_reach.specs.Pairs.{AreRows};
 ghost use Rattle.nk_tag.specs.Numbers.{AreEntries};
@@ -14,30 +15,18 @@ use nk_algebra::empty;
 use nk_auto::policy_automaton;
 use nk_determ::{SetId, Sets};
 use nk_field::{Fid, List};
-use nk_policy::{Pol, dups, is_predicate, marked};
+use nk_plain::numbered;
+use nk_policy::{Pol, is_predicate};
 use nk_reach::{Goal, Levels, levels};
 use nk_store::{Id, Store};
 use std::alloc::{AllocError, Global};
 
-/// The most dups of a policy whose automaton is made.
-pub const MOST_DUPS: u64 = 1_000_000;
-
-/// The same policy with its dups numbered in text order, from 1 on.
-#[tactic(auto, using(nk_policy::proofs::Remade::marked_again, nk_policy::proofs::Remade::marked_dups))]
-pub fn numbered(alloc: Global, raw: &Pol) -> Result<Pol, AllocError>
-    requires { dups_of (tree_of raw.now) ≤ 1000000 }
-    ensures numbered { IfOk result (λ p. marked_from (tree_of p) 1 ≡ tree_of p) }
-    ensures few { IfOk result (λ p. 1 + dups_of (tree_of p) ≤ 2 ^ 32) }
-{
-    let p = marked(alloc, raw, 1)?;
-    Ok(p)
-}
-
 /// Whether each complement is over a predicate, and each assignment is to a value in range.
 #[cycle(fits)]
 #[tactic(auto, using(nk_policy::proofs::Trees::tree_of_sum, nk_policy::proofs::Trees::tree_of_seq))]
-fn fits(st: &Store, p: &Pol) -> bool
-    ensures { result ≡ true → IsFit st.now.maxes (tree_of p.now) }
+pub fn fits(st: &Store, p: &Pol) -> bool
+    ensures fit { result ≡ true → IsFit st.now.maxes (tree_of p.now) }
+    ensures complements { result ≡ true → NegatesPredicates (tree_of p.now) }
 {
     match p {
         Pol::Test(_, _) | Pol::Dup(_) => true,
@@ -55,7 +44,8 @@ fn fits(st: &Store, p: &Pol) -> bool
 /// Whether that holds of each part.
 #[cycle(fits)]
 fn all_fit(st: &Store, ps: &[Pol]) -> bool
-    ensures { result ≡ true → AreFit st.now.maxes (trees_of ps.now) }
+    ensures fit { result ≡ true → AreFit st.now.maxes (trees_of ps.now) }
+    ensures complements { result ≡ true → AllNegatePredicates (trees_of ps.now) }
 {
     for q in ps {
         if !fits(st, q) {
@@ -85,10 +75,9 @@ pub fn rows_of(st: &mut Store, raw: &Pol) -> Result<List<Id>, AllocError>
     ensures rows { IfOk result (λ rows. AreRows st.new rows) }
 {
     let alloc = st.alloc();
-    if dups(raw) > MOST_DUPS {
+    let Some(p) = numbered(alloc, raw)? else {
         return Ok(List::new(alloc));
-    }
-    let p = numbered(alloc, raw)?;
+    };
     if !fits(st, &p) {
         return Ok(List::new(alloc));
     }
@@ -150,7 +139,7 @@ impl Goal for NothingBad {
 }
 
 /// The levels of some rows from the start at some packets, all of them: nothing is bad.
-pub fn levels_of(
+fn levels_of(
     st: &mut Store,
     ss: &mut Sets,
     rows: &[Id],
@@ -164,4 +153,23 @@ pub fn levels_of(
 {
     let mut g = NothingBad { labels: rows.len() };
     from_start(st, ss, rows, start, &mut g)
+}
+
+/// The levels of a policy's automaton from its start at some packets, all of them; none where the policy has no automaton.
+#[tactic(auto, using(nk_sets::proofs::SetLemmas::set_grows))]
+pub fn levels_of_policy(
+    st: &mut Store,
+    ss: &mut Sets,
+    raw: &Pol,
+    start: Id,
+) -> Result<Option<Levels>, AllocError>
+    requires packets { IsSet st.old start }
+    ensures entries { IfOk result (λ o. IfSome o (λ l. AreEntries ss.new l.levels)) }
+{
+    let rows = rows_of(st, raw)?;
+    if rows.is_empty() {
+        return Ok(None);
+    }
+    let lv = levels_of(st, ss, rows.as_slice(), start)?;
+    Ok(Some(lv))
 }

@@ -1,6 +1,6 @@
 //! What is tested, each case over a store and sets of its own.
 use crate::stores::store_of;
-use crate::{compare, least, ring, sides, stars, tags};
+use crate::{compare, least, ring, sides, stars, tags, walks};
 use nk_determ::Sets;
 use nk_store::Store;
 use nk_tag::NumberError;
@@ -22,8 +22,10 @@ pub enum Case {
     OneSide,
     /// The least history of the left side, or of the right one.
     Least(bool),
-    /// The random policy of a seed.
-    Random(u64),
+    /// The levels of the random policy of a seed.
+    Levels(u64),
+    /// The walks of the random policy of a seed.
+    Walks(u64),
 }
 
 impl Case {
@@ -34,7 +36,7 @@ impl Case {
             Case::Numbers(_, _) => (1, 1),
             Case::Ring | Case::Least(_) => (1, 7),
             Case::TwoSides | Case::OneSide => (1, 3),
-            Case::Random(_) => (2, 1),
+            Case::Levels(_) | Case::Walks(_) => (2, 1),
         }
     }
 
@@ -47,7 +49,8 @@ impl Case {
             Case::TwoSides => Ok(sides::end_together(alloc, st, ss)?),
             Case::OneSide => Ok(sides::right_ends_alone(alloc, st, ss)?),
             Case::Least(right) => Ok(least::is_found(alloc, st, ss, right)?),
-            Case::Random(seed) => Ok(compare::agree(alloc, st, ss, seed)?),
+            Case::Levels(seed) => Ok(compare::agree(alloc, st, ss, seed)?),
+            Case::Walks(seed) => Ok(walks::agree(alloc, st, seed)?),
         }
     }
 }

@@ -1,23 +1,20 @@
 //! Levels of the automata of random policies, against the runs by the policies' meaning.
-ghost use Rattle.std.specs.Prelude.{◌≤◌, ◌<◌, length};
-ghost use Rattle.nk_policy.specs.Policy.{dups_of};
-ghost use Rattle.nk_policy.specs.Tree.{tree_of};
-ghost use Rattle.nk_reach.specs.Pairs.{AreRows};
-ghost use Rattle.nk_sets.specs.PacketSets.{IsSet};
 
-use crate::automata::{MOST_DUPS, levels_of, numbered, rows_of};
+use crate::automata::levels_of_policy;
 use crate::cases::{Case, holds};
-use crate::draws::{Draws, policy};
 use crate::packets::set_of;
 use crate::reads::{has_labels, level_at};
-use crate::runs::{RECORDS, Run, at_start, push_ends};
-use crate::stores::FIRST;
 use nk_determ::{SetId, Sets};
-use nk_field::{Fid, History, Packet};
-use nk_policy::{Pol, dups};
+use nk_field::{History, Packet};
+use nk_plain::{Draws, Run, at_start, numbered, packet_of, policy, runs_from};
+use nk_policy::Pol;
+use nk_reach::Levels;
 use nk_store::{Id, Store};
 use std::alloc::{AllocError, Global};
 use std::test::Fail;
+
+/// The most records of a run that is compared.
+const RECORDS: usize = 4;
 
 /// A set of labels that is met at a packet after so many records.
 #[derive(PartialEq, Eq, Drop)]
@@ -49,10 +46,8 @@ fn push_met(all: &mut Vec<Met>, m: Met) -> Result<(), AllocError> {
 
 /// Puts at the end what the runs of a policy from a packet meet; at the start they are at label 0.
 fn push_from(alloc: Global, p: &Pol, pk: &Packet, all: &mut Vec<Met>) -> Result<(), AllocError> {
-    let mut runs = Vec::new(alloc);
-    let mut ends = Vec::new(alloc);
+    let mut runs = runs_from(alloc, p, pk, RECORDS - 1)?.so_far;
     let history = at_start(alloc, pk);
-    push_ends(alloc, p, &history, &mut runs, &mut ends)?;
     runs.push(Run { label: 0, history })?;
     for run in &runs {
         let m = Met {
@@ -136,14 +131,6 @@ fn is_level(
     Ok(true)
 }
 
-/// A packet, by a number below 4.
-fn packet_of(number: u64) -> Packet {
-    let mut pk = Packet::zero();
-    pk.put(Fid::new(FIRST), number % 2);
-    pk.put(Fid::new(FIRST + 1), number / 2);
-    pk
-}
-
 /// The packets from which the levels start: those whose number is at least a bound.
 fn start_packets(alloc: Global, least: u64) -> Result<Vec<Packet>, AllocError> {
     let mut packets = Vec::new(alloc);
@@ -153,44 +140,35 @@ fn start_packets(alloc: Global, least: u64) -> Result<Vec<Packet>, AllocError> {
     Ok(packets)
 }
 
-/// Whether the levels of the rows from a set of packets have exactly what is met after each number of records, up to the
-/// most.
+/// Whether levels have exactly what is met after each number of records, up to the most.
 fn are_levels(
     alloc: Global,
     st: &mut Store,
-    ss: &mut Sets,
-    rows: &[Id],
-    start: Id,
+    ss: &Sets,
+    lv: &Levels,
     all: &[Met],
-) -> Result<bool, AllocError>
-    requires rows { AreRows st.old rows.now }
-    requires some { 0 < length rows.now }
-    requires packets { IsSet st.old start }
-{
-    let lv = levels_of(st, ss, rows, start)?;
+) -> Result<bool, AllocError> {
     for i in 0..=RECORDS {
-        if !is_level(alloc, st, ss, level_at(&lv, i), all, i)? {
+        if !is_level(alloc, st, ss, level_at(lv, i), all, i)? {
             return Ok(false);
         }
     }
     Ok(!lv.broken())
 }
 
-/// What the runs of a policy from some packets meet.
-fn met_from(alloc: Global, raw: &Pol, packets: &[Packet]) -> Result<Vec<Met>, AllocError>
-    requires { dups_of (tree_of raw.now) ≤ 1000000 }
-{
-    let p = numbered(alloc, raw)?;
+/// What the runs of a policy from some packets meet; nothing where its dups can't be numbered.
+fn met_from(alloc: Global, raw: &Pol, packets: &[Packet]) -> Result<Vec<Met>, AllocError> {
     let mut all = Vec::new(alloc);
-    for pk in packets {
-        push_from(alloc, &p, pk, &mut all)?;
+    if let Some(p) = numbered(alloc, raw)? {
+        for pk in packets {
+            push_from(alloc, &p, pk, &mut all)?;
+        }
     }
     Ok(all)
 }
 
 /// Whether the levels of the policy's automaton are what its runs meet, from the packets whose number is at least a
 /// bound.
-#[tactic(auto, using(nk_sets::proofs::SetLemmas::set_grows))]
 fn agree_from(
     alloc: Global,
     st: &mut Store,
@@ -198,23 +176,18 @@ fn agree_from(
     raw: &Pol,
     least: u64,
 ) -> Result<bool, AllocError> {
-    if dups(raw) > MOST_DUPS {
-        return Ok(false);
-    }
     let packets = start_packets(alloc, least)?;
     let all = met_from(alloc, raw, packets.as_slice())?;
     let start = set_of(st, packets.as_slice())?;
-    let rows = rows_of(st, raw)?;
-    if rows.is_empty() {
-        return Ok(false);
+    match levels_of_policy(st, ss, raw, start)? {
+        Some(lv) => are_levels(alloc, st, ss, &lv, all.as_slice()),
+        None => Ok(false),
     }
-    are_levels(alloc, st, ss, rows.as_slice(), start, all.as_slice())
 }
 
 /// Whether they agree for the random policy of a seed: from one packet, from two, from three or from all.
 pub fn agree(alloc: Global, st: &mut Store, ss: &mut Sets, seed: u64) -> Result<bool, AllocError> {
-    let mut draws = Draws { last: seed };
-    let raw = policy(alloc, &mut draws, 4)?;
+    let raw = policy(alloc, &mut Draws::new(seed), 4)?;
     agree_from(alloc, st, ss, &raw, seed % 4)
 }
 
@@ -222,7 +195,7 @@ pub fn agree(alloc: Global, st: &mut Store, ss: &mut Sets, seed: u64) -> Result<
 #[test]
 fn levels_of_random_policies(rt: HostRuntime) -> Result<(), Fail> {
     for seed in 1..=60 {
-        assert!(rt; holds(rt.alloc(), Case::Random(seed))?, "seed {seed}");
+        assert!(rt; holds(rt.alloc(), Case::Levels(seed))?, "seed {seed}");
     }
     Ok(())
 }

@@ -1,4 +1,5 @@
-//! Tests of the public calls for levels, each once on the way that it is meant for.
+//! Tests of the automata of policies: the walks and the levels of random ones against all runs by their meaning, and the
+//! public calls for levels, each once on the way that it is meant for.
 #![tactic(auto)]
 
 #[cfg(test)]
@@ -8,19 +9,13 @@ mod cases;
 #[cfg(test)]
 mod compare;
 #[cfg(test)]
-mod draws;
-#[cfg(test)]
 mod least;
 #[cfg(test)]
 mod packets;
 #[cfg(test)]
-mod policies;
-#[cfg(test)]
 mod reads;
 #[cfg(test)]
 mod ring;
-#[cfg(test)]
-mod runs;
 #[cfg(test)]
 mod sides;
 #[cfg(test)]
@@ -29,3 +24,5 @@ mod stars;
 mod stores;
 #[cfg(test)]
 mod tags;
+#[cfg(test)]
+mod walks;

@@ -1,16 +1,12 @@
 //! The numbers of the sets of a ring of two switches.
-ghost use Rattle.std.specs.Prelude.{IfOk, IfSome};
-ghost use Rattle.nk_tag.specs.Numbers.{AreEntries};
-
-use crate::automata::{levels_of, rows_of};
+use crate::automata::levels_of_policy;
 use crate::cases::{Case, holds};
 use crate::packets::set_of;
-use crate::policies::{either, in_turn, star};
 use crate::tags::are_two;
 use nk_determ::Sets;
 use nk_field::{Fid, Packet};
+use nk_plain::{either, in_turn, star};
 use nk_policy::Pol;
-use nk_reach::Levels;
 use nk_store::Store;
 use nk_tag::NumberError;
 use std::alloc::{AllocError, Global};
@@ -42,24 +38,11 @@ fn located(alloc: Global) -> Result<Vec<Packet>, AllocError> {
     Ok(packets)
 }
 
-/// The levels of the ring from the located packets; none unless it has five rows.
-#[tactic(auto, using(nk_sets::proofs::SetLemmas::set_grows))]
-fn levels_around(alloc: Global, st: &mut Store, ss: &mut Sets) -> Result<Option<Levels>, AllocError>
-    ensures entries { IfOk result (λ o. IfSome o (λ l. AreEntries ss.new l.levels)) }
-{
-    let start = set_of(st, located(alloc)?.as_slice())?;
-    let rows = rows_of(st, &around(alloc)?)?;
-    if rows.len() != 5 {
-        return Ok(None);
-    }
-    let lv = levels_of(st, ss, rows.as_slice(), start)?;
-    Ok(Some(lv))
-}
-
 /// Whether the sets of the ring have these two numbers, and two are more than one. Packets at switch 1 record at the first
 /// link's source, those at switch 2 at the second's: in one level, so the set of the first label is the first one.
 pub fn has_two(alloc: Global, st: &mut Store, ss: &mut Sets) -> Result<bool, NumberError> {
-    match levels_around(alloc, st, ss)? {
+    let start = set_of(st, located(alloc)?.as_slice())?;
+    match levels_of_policy(st, ss, &around(alloc)?, start)? {
         Some(lv) => are_two(ss, &lv, 1, 3),
         None => Ok(false),
     }

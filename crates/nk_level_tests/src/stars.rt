@@ -1,11 +1,11 @@
 //! The levels of a star of a dup behind a dup.
 
-use crate::automata::{levels_of, rows_of};
+use crate::automata::levels_of_policy;
 use crate::cases::{Case, holds};
 use crate::packets::each;
-use crate::policies::{in_turn, star};
 use crate::reads::is_level_of;
 use nk_determ::Sets;
+use nk_plain::{in_turn, star};
 use nk_policy::Pol;
 use nk_reach::Levels;
 use nk_store::{Id, Store};
@@ -16,22 +16,6 @@ use std::test::Fail;
 fn dups_on(alloc: Global) -> Result<Pol, AllocError> {
     let more = star(alloc, Pol::Dup(0))?;
     in_turn(alloc, Pol::Dup(0), more)
-}
-
-/// The levels of the policy from its start at each packet; none unless it has three rows.
-#[tactic(auto, using(nk_sets::proofs::SetLemmas::set_grows))]
-fn levels_of_dups(
-    alloc: Global,
-    st: &mut Store,
-    ss: &mut Sets,
-) -> Result<Option<Levels>, AllocError> {
-    let all = each(st)?;
-    let rows = rows_of(st, &dups_on(alloc)?)?;
-    if rows.len() != 3 {
-        return Ok(None);
-    }
-    let lv = levels_of(st, ss, rows.as_slice(), all)?;
-    Ok(Some(lv))
 }
 
 /// Whether there are three levels, none broken, and each has one dup at exactly these packets.
@@ -45,9 +29,8 @@ fn are_three(ss: &Sets, lv: &Levels, all: Id) -> bool {
 
 /// Whether each level has one dup at each packet.
 pub fn are_met_once(alloc: Global, st: &mut Store, ss: &mut Sets) -> Result<bool, AllocError> {
-    let found = levels_of_dups(alloc, st, ss)?;
     let all = each(st)?;
-    match found {
+    match levels_of_policy(st, ss, &dups_on(alloc)?, all)? {
         Some(lv) => Ok(are_three(ss, &lv, all)),
         None => Ok(false),
     }

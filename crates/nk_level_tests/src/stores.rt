@@ -4,9 +4,6 @@ use nk_store::Store;
 use std::alloc::Global;
 use std::test::Fail;
 
-/// The place of the first declared field.
-pub const FIRST: u8 = 2;
-
 /// A store over so many declared fields, two at most, all with the same largest value.
 pub fn store_of(alloc: Global, count: usize, max: u64) -> Result<Store, Fail> {
     let mut fields = Fields::new(alloc)?;

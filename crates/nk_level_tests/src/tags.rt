@@ -1,15 +1,13 @@
 //! Numbers of the sets at odd levels.
-ghost use Rattle.std.specs.Prelude.{IfOk, IfSome};
 ghost use Rattle.nk_tag.specs.Numbers.{AreEntries};
 
-use crate::automata::{levels_of, rows_of};
+use crate::automata::levels_of_policy;
 use crate::cases::{Case, holds};
 use crate::packets::each;
-use crate::policies::{either, in_turn};
 use crate::reads::{has_labels, is_one_too_many};
-use crate::stores::FIRST;
 use nk_determ::Sets;
 use nk_field::Fid;
+use nk_plain::{FIRST, either, in_turn};
 use nk_policy::Pol;
 use nk_reach::Levels;
 use nk_store::Store;
@@ -41,26 +39,6 @@ fn by_value(alloc: Global, n: u64, m: u64) -> Result<Pol, AllocError> {
     either(alloc, first, second)
 }
 
-/// The levels of the policy from its start at each packet; none unless it has three rows.
-#[tactic(auto, using(nk_sets::proofs::SetLemmas::set_grows))]
-fn levels_by_value(
-    alloc: Global,
-    st: &mut Store,
-    ss: &mut Sets,
-    n: u64,
-    m: u64,
-) -> Result<Option<Levels>, AllocError>
-    ensures entries { IfOk result (λ o. IfSome o (λ l. AreEntries ss.new l.levels)) }
-{
-    let all = each(st)?;
-    let rows = rows_of(st, &by_value(alloc, n, m)?)?;
-    if rows.len() != 3 {
-        return Ok(None);
-    }
-    let lv = levels_of(st, ss, rows.as_slice(), all)?;
-    Ok(Some(lv))
-}
-
 /// Whether the two sets of the one level behind the start are numbered by their members, whichever label has which value.
 pub fn has_two(
     alloc: Global,
@@ -69,7 +47,8 @@ pub fn has_two(
     n: u64,
     m: u64,
 ) -> Result<bool, NumberError> {
-    match levels_by_value(alloc, st, ss, n, m)? {
+    let all = each(st)?;
+    match levels_of_policy(st, ss, &by_value(alloc, n, m)?, all)? {
         Some(lv) => are_two(ss, &lv, 1, 2),
         None => Ok(false),
     }

@@ -1,24 +1,6 @@
 //! Texts of random policies.
+use crate::draws::Draws;
 use std::alloc::{AllocError, Global};
-
-/// Numbers drawn one after the other: each is 48271 times the one before, modulo 2147483647.
-#[derive(Drop)]
-pub struct Draws {
-    last: u64,
-}
-
-impl Draws {
-    /// The numbers behind this one.
-    pub fn new(last: u64) -> Draws {
-        Draws { last }
-    }
-
-    /// A number below `bound`.
-    fn below(&mut self, bound: u64) -> u64 {
-        self.last = (self.last % 2_147_483_647) * 48271 % 2_147_483_647;
-        self.last % bound.max(1)
-    }
-}
 
 /// What policies are made of, besides dups.
 #[derive(Clone, Copy)]
@@ -92,8 +74,8 @@ fn next_policy(
     Ok(text)
 }
 
-/// Policies, each made of those before it.
-pub fn policies(
+/// The texts of policies, each made of those before it.
+pub fn policy_texts(
     alloc: Global,
     atoms: Atoms,
     count: u32,

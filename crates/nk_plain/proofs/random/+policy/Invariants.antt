@@ -1,4 +1,4 @@
-use Rattle.nk_diagram_tests.proofs.draws.+policy.Given as goal
+use Rattle.nk_plain.proofs.random.+policy.Given as goal
 
 abbrev pub decreases-policy : goal.decreases-policy
 decreases-policy l = l.depth

@@ -1,4 +1,4 @@
-use Rattle.nk_diagram_tests.proofs.draws.+predicate.Given as goal
+use Rattle.nk_plain.proofs.random.+predicate.Given as goal
 
 abbrev pub decreases-predicate : goal.decreases-predicate
 decreases-predicate l = l.depth

@@ -1,24 +1,10 @@
 //! Random policies over two fields of two values.
-use crate::policies::{either, in_turn, star};
-use crate::stores::FIRST;
+use crate::draws::Draws;
+use crate::packets::FIRST;
+use crate::policies::{complement, either, in_turn, star};
 use nk_field::Fid;
 use nk_policy::Pol;
 use std::alloc::{AllocError, Global};
-
-/// Numbers drawn one after the other: each is 48271 times the one before, modulo 2147483647.
-#[derive(Drop)]
-pub struct Draws {
-    /// The number that was drawn last.
-    pub last: u64,
-}
-
-impl Draws {
-    /// A number below `bound`.
-    fn below(&mut self, bound: u64) -> u64 {
-        self.last = (self.last % 2_147_483_647) * 48271 % 2_147_483_647;
-        self.last % bound.max(1)
-    }
-}
 
 /// One of the two fields, and one of its values.
 fn place(draws: &mut Draws) -> (Fid, u64) {
@@ -48,7 +34,7 @@ fn predicate(alloc: Global, draws: &mut Draws, depth: u32) -> Result<Pol, AllocE
     }
     let p = predicate(alloc, draws, depth - 1)?;
     if kind == 1 {
-        return Ok(Pol::Not(Box::new(alloc, p)?));
+        return complement(alloc, p);
     }
     let q = predicate(alloc, draws, depth - 1)?;
     of_two(alloc, kind == 2, p, q)
@@ -66,7 +52,7 @@ fn leaf(alloc: Global, draws: &mut Draws) -> Result<Pol, AllocError> {
     }
 }
 
-/// A policy of at most that depth, its dups without numbers.
+/// A policy of at most that depth, its dups without numbers. Each of its complements is of a predicate.
 pub fn policy(alloc: Global, draws: &mut Draws, depth: u32) -> Result<Pol, AllocError> {
     let kind = draws.below(6);
     if depth == 0 || kind == 0 {

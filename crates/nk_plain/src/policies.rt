@@ -1,4 +1,4 @@
-//! Policies of two parts, and stars.
+//! Policies of one or two parts.
 use nk_policy::{Pol, Pols};
 use std::alloc::{AllocError, Global};
 
@@ -15,4 +15,9 @@ pub fn in_turn(alloc: Global, p: Pol, q: Pol) -> Result<Pol, AllocError> {
 /// Any number of rounds of a policy.
 pub fn star(alloc: Global, p: Pol) -> Result<Pol, AllocError> {
     Ok(Pol::Star(Box::new(alloc, p)?))
+}
+
+/// What a predicate drops.
+pub fn complement(alloc: Global, p: Pol) -> Result<Pol, AllocError> {
+    Ok(Pol::Not(Box::new(alloc, p)?))
 }

@@ -1,5 +1,5 @@
 use Rattle.nk_store.specs.Held.{Grows}
-use Rattle.nk_diagram_tests.proofs.walks.mean_same.Given as goal
+use Rattle.nk_level_tests.proofs.walks.mean_same.Given as goal
 
 -- the store has grown
 abbrev pub invariant-loop-i : goal.invariant-loop-i
