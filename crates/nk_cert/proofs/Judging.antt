@@ -8,11 +8,10 @@ use Rattle.nk_algebra.specs.Unions.{AreIds}
 use Rattle.nk_determ.specs.Sets.{SetsGrow}
 use Rattle.nk_reach.specs.Pairs.{Node, Under, Within, AreRows, HavePlaces, IsPair, ArePairs, IsStep}
 use Rattle.nk_reach.specs.Goals.{PairBad, PairNone, MeetsBad, MeetsNone}
-use Rattle.nk_reach.specs.Rounds.{AreSpare, IsNextLevel}
+use Rattle.nk_reach.specs.Rounds.{IsNextLevel}
 use Rattle.nk_reach.specs.Sides.{alone, ends_of, ends_same, IsGoalOf, goal_on}
 use Rattle.nk_reach.proofs.Kept.{packet_on, packet_back, has_on, has_back}
 use Rattle.nk_reach.proofs.Growing.{sets_refl, sets_same, packets_of, pairs_on, within_on, within_back, within_or_not, rows_grow, step_on, step_back}
-use Rattle.nk_reach.proofs.Cutting.{spare_on}
 use Rattle.nk_reach.proofs.BadFinals.{none_back}
 use Rattle.nk_reach.proofs.Round.{first_node}
 use Rattle.nk_cert.specs.declared.shape.CertPart.{CertPart}
@@ -26,24 +25,22 @@ pub one_level : (st : Held) (ss : List (List ℕ)) (n : ℕ) (e : ℕ × ℕ) (l
 one_level st ss n e l is k = subst (ArePairs st ss n) (sym is) (record { each = (k, tt); once = (λ z. z, tt) })
 
 -- what is at hand stays at hand
-pub can_judge_on : (a b : Held) (ss nss : List (List ℕ)) (rows : List ℕ) (told : List (ℕ × ℕ)) (cut ends : List ℕ) (table : List (ℕ × ℕ)) → Grows a b → SetsGrow ss nss
-    → CanJudge a ss rows told cut ends table → CanJudge b nss rows told cut ends table
-can_judge_on a b ss nss rows told cut ends table g h k = record {
+pub can_judge_on : (a b : Held) (ss nss : List (List ℕ)) (rows : List ℕ) (told : List (ℕ × ℕ)) (ends : List ℕ) (table : List (ℕ × ℕ)) → Grows a b → SetsGrow ss nss
+    → CanJudge a ss rows told ends table → CanJudge b nss rows told ends table
+can_judge_on a b ss nss rows told ends table g h k = record {
   rows_are = rows_grow a b rows g k.rows_are;
   told_are = pairs_on a b ss nss (length rows) told g h k.told_are;
-  spare = spare_on a b rows cut g k.spare;
   goal = goal_on a b ends table k.goal g;
   labels = k.labels;
 }
 
 -- after a look at ends and steps
-pub can_judge_after : (a b : Held) (ss nss : List (List ℕ)) (rows : List ℕ) (told : List (ℕ × ℕ)) (cut ends new_cut new_ends : List ℕ) (table new_table : List (ℕ × ℕ)) → Grows a b
-    → SetsGrow ss nss → CanJudge a ss rows told cut ends table → AreSpare b rows new_cut → IsGoalOf b new_ends new_table → length new_ends ≡ length ends
-    → CanJudge b nss rows told new_cut new_ends new_table
-can_judge_after a b ss nss rows told cut ends new_cut new_ends table new_table g h k spare goal count = record {
+pub can_judge_after : (a b : Held) (ss nss : List (List ℕ)) (rows : List ℕ) (told : List (ℕ × ℕ)) (ends new_ends : List ℕ) (table new_table : List (ℕ × ℕ)) → Grows a b
+    → SetsGrow ss nss → CanJudge a ss rows told ends table → IsGoalOf b new_ends new_table → length new_ends ≡ length ends
+    → CanJudge b nss rows told new_ends new_table
+can_judge_after a b ss nss rows told ends new_ends table new_table g h k goal count = record {
   rows_are = rows_grow a b rows g k.rows_are;
   told_are = pairs_on a b ss nss (length rows) told g h k.told_are;
-  spare = spare;
   goal = goal;
   labels = count ∙ k.labels;
 }
@@ -185,10 +182,10 @@ module _ (st : Held) (ss : List (List ℕ)) (rows : List ℕ) (bad : List ℕ �
   ]
 
 -- a row that was judged later, by what was at hand at first
-pub row_before : (a b : Held) (ss nss : List (List ℕ)) (rows : List ℕ) (told : List (ℕ × ℕ)) (cut ends new_ends : List ℕ) (table : List (ℕ × ℕ)) (e : ℕ × ℕ) → Grows a b → SetsGrow ss nss
-    → CanJudge a ss rows told cut ends table → IsPair a ss (length rows) e
+pub row_before : (a b : Held) (ss nss : List (List ℕ)) (rows : List ℕ) (told : List (ℕ × ℕ)) (ends new_ends : List ℕ) (table : List (ℕ × ℕ)) (e : ℕ × ℕ) → Grows a b → SetsGrow ss nss
+    → CanJudge a ss rows told ends table → IsPair a ss (length rows) e
     → ((set pk : List ℕ) → alone (ends_of b new_ends set pk) ≡ alone (ends_of b ends set pk)) → (positions : List ℕ) (o : Option CertPart)
     → IsRowJudged b nss rows (λ set pk. alone (ends_of b new_ends set pk)) told positions e o → IsRowJudged a ss rows (λ set pk. alone (ends_of a ends set pk)) told positions e o
-row_before a b ss nss rows told cut ends new_ends table e g h can k same positions o j =
+row_before a b ss nss rows told ends new_ends table e g h can k same positions o j =
     row_judged_before a b ss nss rows (λ set pk. alone (ends_of a ends set pk)) (λ set pk. alone (ends_of b new_ends set pk)) told e g h can.rows_are can.told_are k
     (λ pk. same (get_or ss e.0 []) pk ∙ ends_stay a b ends rows (get_or ss e.0 []) pk g can.goal.ids can.labels k.places) positions o j

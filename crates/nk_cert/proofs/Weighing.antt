@@ -9,7 +9,6 @@ use Rattle.nk_determ.specs.Sets.{Ascend}
 use Rattle.nk_reach.specs.Pairs.{HavePlaces, ArePairs}
 use Rattle.nk_reach.specs.Sides.{alone, ends_of, AreMarked, AreOneSided, IsGoalOf, goal_on}
 use Rattle.nk_reach.proofs.Growing.{rows_grow}
-use Rattle.nk_reach.proofs.Cutting.{spare_on, spare_start}
 use Rattle.nk_runs.proofs.Stands.{are_rows}
 use Rattle.nk_cert.specs.declared.shape.Verdict.{Verdict}
 use Rattle.nk_cert.specs.Together.{either_of}
@@ -23,15 +22,14 @@ use Rattle.nk_cert.proofs.Sided.{one_sided_on}
 use Rattle.nk_cert.proofs.Finding.{found}
 
 module _ (fields : FieldTable) (first made now : Held) (rows : List ℕ) (left right : ℕ) (p q : Policy) (a : IsAutomatonOfBoth fields first rows left right p q) (bound : ℕ) (is : bound ≡ 1 + dups_of p) (ends : List ℕ) (g1 : Grows first made) (g2 : Grows made now) (ids : AreIds made ends) (marked : AreMarked first rows left right bound (length rows) made ends) where
-  -- rows, spare diagrams and ends are at hand
-  pub can_judge : (ss : List (List ℕ)) (cut : List ℕ) (pairs table : List (ℕ × ℕ)) → cut ≡ rows → ArePairs now ss (length rows) pairs → IsGoalOf made ends table → CanJudge now ss rows pairs cut ends table
-  can_judge ss cut pairs table e t goal =
+  -- rows and ends are at hand
+  pub can_judge : (ss : List (List ℕ)) (pairs table : List (ℕ × ℕ)) → ArePairs now ss (length rows) pairs → IsGoalOf made ends table → CanJudge now ss rows pairs ends table
+  can_judge ss pairs table t goal =
       let g = grows_on first made now g1 g2 in
       let r = are_rows first rows (either_of p q) a.rows_are in
       record {
         rows_are = rows_grow first now rows g r;
         told_are = t;
-        spare = spare_on first now rows cut g (spare_start first rows cut r.ids e);
         goal = goal_on made now ends table goal g2;
         labels = marked.count;
       }

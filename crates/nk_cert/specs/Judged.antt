@@ -6,7 +6,6 @@ use Rattle.nk_store.specs.declared.node.Out.{Out}
 use Rattle.nk_store.specs.Held.{Held, IsPacket}
 use Rattle.nk_sets.specs.PacketSets.{is_in, IsSet}
 use Rattle.nk_reach.specs.Pairs.{Node, Under, Within, AreRows, IsPair, ArePairs, IsStep}
-use Rattle.nk_reach.specs.Rounds.{AreSpare}
 use Rattle.nk_reach.specs.Goals.{PairBad, PairNone}
 use Rattle.nk_reach.specs.Sides.{IsGoalOf}
 use Rattle.nk_cert.specs.declared.shape.CertPart.{CertPart}
@@ -17,12 +16,11 @@ use Rattle.nk_cert.specs.Certificates.{behind, RowValue, CertificateValue, Holds
 use Rattle.nk_cert.specs.Levelled.{HasEach}
 use Rattle.nk_cert.specs.Checked.{IsSetAt}
 
--- what is at hand while rows are judged: rows, entries, diagrams to be written over, a diagram of marked ends for each row, and
--- the table of what one side alone has of ends
-pub record CanJudge (st : Held) (ss : List (List ℕ)) (rows : List ℕ) (told : List (ℕ × ℕ)) (cut ends : List ℕ) (table : List (ℕ × ℕ)) : Type 0 where
+-- what is at hand while rows are judged: rows, entries, a diagram of marked ends for each row, and the
+-- table of what one side alone has of ends
+pub record CanJudge (st : Held) (ss : List (List ℕ)) (rows : List ℕ) (told : List (ℕ × ℕ)) (ends : List ℕ) (table : List (ℕ × ℕ)) : Type 0 where
   pub rows_are : AreRows st rows
   pub told_are : ArePairs st ss (length rows) told
-  pub spare : AreSpare st rows cut
   pub goal : IsGoalOf st ends table
   pub labels : length ends ≡ length rows
 

@@ -68,18 +68,10 @@ fn verdict_in(
     let both = automaton_of_both(st, left, right)?;
     let bound = number_behind(left) as usize;
     let mut goal = OneSide::new(st, both.rows.as_slice(), both.left, both.right, bound)?;
-    let mut cut = both.rows.copy()?;
     let judge = judge_of(st, ss, both, certificate)?;
     ss.differ();
     st.laws();
-    judge_rows(
-        st,
-        ss,
-        &judge,
-        &mut cut,
-        &mut goal,
-        certificate.rows.as_slice(),
-    )
+    judge_rows(st, ss, &judge, &mut goal, certificate.rows.as_slice())
 }
 
 /// What the rows of a certificate are judged by.

@@ -36,22 +36,21 @@ pub(crate) fn judge_rows(
     st: &mut Store,
     ss: &mut Sets,
     judge: &Judge,
-    cut: &mut List<Id>,
     goal: &mut OneSide,
     later: &[(List<u64>, Pol)],
 ) -> Result<Verdict, AllocError>
-    requires can { CanJudge st.old ss.old judge.now.rows judge.now.told.entries cut.old goal.old.ends goal.old.seen.entries }
+    requires can { CanJudge st.old ss.old judge.now.rows judge.now.told.entries goal.old.ends goal.old.seen.entries }
     requires start { IsPair st.old ss.old (length judge.now.rows) judge.now.start }
     requires entries { AreEntriesOf st.old ss.old (length judge.now.rows) (row_values later.now) judge.now.entries }
     ensures grows { Grows st.old st.new }
     ensures ok { IfOk result (λ v. IsJudged st.old ss.old judge.now.rows (λ set pk. alone (ends_of st.old goal.old.ends set pk)) judge.now.told.entries judge.now.start (row_values later.now) judge.now.entries v) }
 {
-    let first = judge_start(st, ss, judge, cut, goal)?;
+    let first = judge_start(st, ss, judge, goal)?;
     if let Some(part) = first {
         return Ok(Verdict::Invalid { row: 1, part });
     }
     for i in 0..later.len() {
-        let found = judge_row(st, ss, judge, cut, goal, later, i)?;
+        let found = judge_row(st, ss, judge, goal, later, i)?;
         if let Some(part) = found {
             return Ok(Verdict::Invalid {
                 row: i as u64 + 2,
@@ -67,21 +66,20 @@ fn judge_start(
     st: &mut Store,
     ss: &mut Sets,
     judge: &Judge,
-    cut: &mut List<Id>,
     goal: &mut OneSide,
 ) -> Result<Option<CertPart>, AllocError>
-    requires can { CanJudge st.old ss.old judge.now.rows judge.now.told.entries cut.old goal.old.ends goal.old.seen.entries }
+    requires can { CanJudge st.old ss.old judge.now.rows judge.now.told.entries goal.old.ends goal.old.seen.entries }
     requires start { IsPair st.old ss.old (length judge.now.rows) judge.now.start }
     ensures grows { Grows st.old st.new }
     ensures sets { SetsGrow ss.old ss.new }
-    ensures can { OnOk result (CanJudge st.new ss.new judge.now.rows judge.now.told.entries cut.new goal.new.ends goal.new.seen.entries) }
+    ensures can { OnOk result (CanJudge st.new ss.new judge.now.rows judge.now.told.entries goal.new.ends goal.new.seen.entries) }
     ensures same { OnOk result ((st : Held) (set pk : Items ℕ) → alone (ends_of st goal.new.ends set pk) ≡ alone (ends_of st goal.old.ends set pk)) }
     ensures ok { IfOk result (λ o. IsStartJudged st.old ss.old judge.now.rows (λ set pk. alone (ends_of st.old goal.old.ends set pk)) judge.now.told.entries judge.now.start o) }
 {
     if !has_each(st, judge.start.1)? {
         return Ok(Some(CertPart::Start));
     }
-    judge_set(st, ss, judge, cut, goal, judge.start)
+    judge_set(st, ss, judge, goal, judge.start)
 }
 
 /// The first part that the later row at a place fails, if one.
@@ -89,17 +87,16 @@ fn judge_row(
     st: &mut Store,
     ss: &mut Sets,
     judge: &Judge,
-    cut: &mut List<Id>,
     goal: &mut OneSide,
     later: &[(List<u64>, Pol)],
     i: usize,
 ) -> Result<Option<CertPart>, AllocError>
-    requires can { CanJudge st.old ss.old judge.now.rows judge.now.told.entries cut.old goal.old.ends goal.old.seen.entries }
+    requires can { CanJudge st.old ss.old judge.now.rows judge.now.told.entries goal.old.ends goal.old.seen.entries }
     requires entries { AreEntriesOf st.old ss.old (length judge.now.rows) (row_values later.now) judge.now.entries }
     requires place { i < length later.now }
     ensures grows { Grows st.old st.new }
     ensures sets { SetsGrow ss.old ss.new }
-    ensures can { OnOk result (CanJudge st.new ss.new judge.now.rows judge.now.told.entries cut.new goal.new.ends goal.new.seen.entries) }
+    ensures can { OnOk result (CanJudge st.new ss.new judge.now.rows judge.now.told.entries goal.new.ends goal.new.seen.entries) }
     ensures same { OnOk result ((st : Held) (set pk : Items ℕ) → alone (ends_of st goal.new.ends set pk) ≡ alone (ends_of st goal.old.ends set pk)) }
     ensures ok { IfOk result (λ o. IsRowJudged st.old ss.old judge.now.rows (λ set pk. alone (ends_of st.old goal.old.ends set pk)) judge.now.told.entries (row_at (row_values later.now) i).positions (entry_at judge.now.entries i) o) }
 {
@@ -107,7 +104,7 @@ fn judge_row(
         return Ok(Some(CertPart::Position));
     }
     let entry = entry_of(judge, i);
-    judge_set(st, ss, judge, cut, goal, entry)
+    judge_set(st, ss, judge, goal, entry)
 }
 
 /// Whether each position of the row at a place is a label above 0; there are `count` labels.
@@ -132,15 +129,14 @@ fn judge_set(
     st: &mut Store,
     ss: &mut Sets,
     judge: &Judge,
-    cut: &mut List<Id>,
     goal: &mut OneSide,
     entry: (SetId, Id),
 ) -> Result<Option<CertPart>, AllocError>
-    requires can { CanJudge st.old ss.old judge.now.rows judge.now.told.entries cut.old goal.old.ends goal.old.seen.entries }
+    requires can { CanJudge st.old ss.old judge.now.rows judge.now.told.entries goal.old.ends goal.old.seen.entries }
     requires entry { IsPair st.old ss.old (length judge.now.rows) entry }
     ensures grows { Grows st.old st.new }
     ensures sets { SetsGrow ss.old ss.new }
-    ensures can { OnOk result (CanJudge st.new ss.new judge.now.rows judge.now.told.entries cut.new goal.new.ends goal.new.seen.entries) }
+    ensures can { OnOk result (CanJudge st.new ss.new judge.now.rows judge.now.told.entries goal.new.ends goal.new.seen.entries) }
     ensures same { OnOk result ((st : Held) (set pk : Items ℕ) → alone (ends_of st goal.new.ends set pk) ≡ alone (ends_of st goal.old.ends set pk)) }
     ensures ok { IfOk result (λ o. IsSetJudged st.old ss.old judge.now.rows (λ set pk. alone (ends_of st.old goal.old.ends set pk)) judge.now.told.entries entry o) }
 {
@@ -148,7 +144,7 @@ fn judge_set(
     if any_bad(st, ss, &level, goal)? {
         return Ok(Some(CertPart::Finals));
     }
-    let elsewhere = next_level(st, ss, judge.rows.as_slice(), cut, &judge.told, &level)?;
+    let elsewhere = next_level(st, ss, judge.rows.as_slice(), &judge.told, &level)?;
     if elsewhere.len() > 0 {
         return Ok(Some(CertPart::Hop));
     }

@@ -1,59 +1,79 @@
--- Rows cut to the packets of a set, one after another.
-use Rattle.std.proofs.Common.{◌≡◌, ℕ, ◌<◌, ◌+◌, inl, inr, sym, ◌∙◌, ap, subst, arith, List, length, get_or, set}
-use Rattle.std.proofs.lemmas.List.{get_or-set_same, get_or-set_other, length-set}
-use Rattle.std.proofs.lemmas.Bool.Decides.{eqb_tells}
-use Rattle.nk_store.specs.Held.{Held, IsId, look, Grows, HasLeaves}
+-- Rows cut to the packets of a set do there what the rows do.
+use Rattle.std.proofs.Common.{◌≡◌, ℕ, ◌<◌, true, refl, sym, ◌∙◌, ap, subst, arith, List, [], ◌∷◌, length, get_or, Contains}
+use Rattle.nk_store.specs.declared.node.Out.{Out}
+use Rattle.nk_store.specs.Held.{Held, IsId, IsWhole, IsPacket, look, Grows, HasLeaves}
 use Rattle.nk_algebra.specs.Leaves.{guarded}
-use Rattle.nk_algebra.specs.Unions.{AreIds}
-use Rattle.nk_reach.specs.Rounds.{AreSpare, AreCut}
+use Rattle.nk_sets.specs.PacketSets.{has_out}
+use Rattle.nk_determ.specs.Sets.{Ascend}
+use Rattle.nk_determ.specs.Exact.{Sends}
+use Rattle.nk_determ.specs.States.{HaveEach, SomeLeads, RowLeads, AreLedTo}
+use Rattle.nk_determ.proofs.Rows.{at_row, from_row}
+use Rattle.nk_reach.specs.Pairs.{IsStep}
+use Rattle.nk_reach.specs.Rounds.{sent_to}
+use Rattle.nk_reach.proofs.Kept.{Has}
 
--- diagrams that may be written over stay so as the store grows
-pub spare_on : (a b : Held) (rows cut : List ℕ) → Grows a b → AreSpare a rows cut → AreSpare b rows cut
-spare_on a b rows cut g k = record { ids = λ i l. g.ids (get_or cut i 0) (k.ids i l); count = k.count }
+-- what the rows of labels have at the packets of x alone
+abbrev pub cut_each : Held → List ℕ → List ℕ → ℕ → ℕ → List ℕ → List Out
+cut_each st rows labels x k pk = guarded (look st x pk) (look st (get_or rows (get_or labels k 0) 0) pk)
 
--- no row is cut yet
-pub cut_none : (st : Held) (rows labels : List ℕ) (x : ℕ) (cut : List ℕ) → AreSpare st rows cut → AreCut st rows labels 0 x st cut
-cut_none st rows labels x cut k = record { spare = k; at = λ i l. absurd (omega (arith, l)) }
-
--- one row more
-pub cut_push : (a st new : Held) (rows labels : List ℕ) (n x l d : ℕ) (cut : List ℕ) → AreIds a rows → IsId a x → l ≡ get_or labels n 0 → l < length rows → Grows a st → Grows st new → AreCut a rows labels n x st cut →
-    HasLeaves new d (λ pk. guarded (look st x pk) (look st (get_or rows l 0) pk)) → AreCut a rows labels (n + 1) x new (set cut l d)
-cut_push a st new rows labels n x l d cut ids ix is within g h m leaves = record {
-  spare = record {
-    ids = λ i w. elim (eqb_tells i l) [
-      | inl same ↦ subst (λ j. IsId new (get_or (set cut l d) j 0)) (sym same.1) (subst (IsId new) (sym (get_or-set_same cut l d 0 lc)) leaves.id)
-      | inr other ↦ subst (IsId new) (sym (get_or-set_other cut l i d 0 other.1)) (h.ids (get_or cut i 0) (m.spare.ids i (omega (arith, w, length-set cut l d))))
-    ];
-    count = length-set cut l d ∙ m.spare.count;
-  };
-  at = λ k w. elim (eqb_tells (get_or labels k 0) l) [
-    | inl same ↦
-        subst (λ j. HasLeaves new (get_or (set cut l d) j 0) (λ pk. guarded (look a x pk) (look a (get_or rows j 0) pk))) (sym same.1)
-        (subst (λ (c : ℕ). HasLeaves new c (λ pk. guarded (look a x pk) (look a (get_or rows l 0) pk))) (sym (get_or-set_same cut l d 0 lc)) now)
-    | inr other ↦
-        let before : k < n = by k w other.1 in
-        subst (λ (c : ℕ). HasLeaves new c (λ pk. guarded (look a x pk) (look a (get_or rows (get_or labels k 0) 0) pk))) (sym (get_or-set_other cut l (get_or labels k 0) d 0 other.1)) (on (get_or cut (get_or labels k 0) 0) (get_or labels k 0) (m.at k before))
-  ];
+-- a row is cut in a store that grew
+pub cut_before : (old st new : Held) (rows labels : List ℕ) (k row x d : ℕ) → Grows old st → IsId old row → IsId old x → row ≡ get_or rows (get_or labels k 0) 0 →
+    HasLeaves new d (λ pk. guarded (look st x pk) (look st row pk)) → HasLeaves new d (cut_each old rows labels x k)
+cut_before old st new rows labels k row x d g id ix is one = record {
+  id = one.id;
+  leaf = λ pk w.
+      one.leaf pk w ∙ ap (λ os. guarded os (look st row pk)) (g.leaves x pk ix) ∙ ap (λ os. guarded (look old x pk) os) (g.leaves row pk id)
+      ∙ ap (λ j. guarded (look old x pk) (look old j pk)) is;
 }
-  where
-    lc : l < length cut
-    lc = omega (arith, within, m.spare.count)
 
-    by : (k : ℕ) → k < n + 1 → (get_or labels k 0 ≡ l → ⊥) → k < n
-    by k w ne = elim (eqb_tells k n) [
-      | inl same ↦ absurd (ne (ap (λ j. get_or labels j 0) same.1 ∙ sym is))
-      | inr other ↦ omega (arith, w, other.1)
-    ]
+-- a guard that has an out leaves what it guards
+guard_in : (xs ys : List Out) (o : Out) → has_out xs ≡ true → Contains ys o → Contains (guarded xs ys) o
+guard_in [] ys o h c = absurd cc
+guard_in (x ∷ xs) ys o h c = c
 
-    now : HasLeaves new d (λ pk. guarded (look a x pk) (look a (get_or rows l 0) pk))
-    now = record {
-      id = leaves.id;
-      leaf = λ pk w. leaves.leaf pk w ∙ ap (λ os. guarded os (look st (get_or rows l 0) pk)) (g.leaves x pk ix) ∙ ap (λ os. guarded (look a x pk) os) (g.leaves (get_or rows l 0) pk (ids l within));
-    }
+-- what a guard leaves it guards, and it has an out
+guard_out : (xs ys : List Out) (o : Out) → Contains (guarded xs ys) o → (has_out xs ≡ true) × Contains ys o
+guard_out [] ys o c = absurd (omega (arith, c.1))
+guard_out (x ∷ xs) ys o c = (refl, c)
 
-    on : (c r : ℕ) → HasLeaves st c (λ pk. guarded (look a x pk) (look a (get_or rows r 0) pk)) → HasLeaves new c (λ pk. guarded (look a x pk) (look a (get_or rows r 0) pk))
-    on c r k = record { id = h.ids c k.id; leaf = λ pk w. h.leaves c pk k.id ∙ k.leaf pk w }
+module _ (old new : Held) (rows labels cut : List ℕ) (x : ℕ) (same : length cut ≡ length labels) (all : HaveEach new cut (cut_each old rows labels x) (length cut)) (z : List ℕ) (w : IsWhole z) where
+  -- the leaf of a cut row
+  cut_leaf : (k : ℕ) → k < length labels → look new (get_or cut k 0) z ≡ cut_each old rows labels x k z
+  cut_leaf k lt = (all k (omega (arith, lt, same))).leaf z w
 
--- the rows themselves may be written over
-pub spare_start : (st : Held) (rows cut : List ℕ) → AreIds st rows → cut ≡ rows → AreSpare st rows cut
-spare_start st rows cut ids e = record { ids = subst (AreIds st) (sym e) ids; count = ap (λ (xs : List ℕ). length xs) e }
+  -- what the cut rows lead to
+  pub cut_leads : (y : List ℕ) (t : ℕ) → SomeLeads new cut z y t → Has old x z × RowLeads old rows labels z y t
+  cut_leads y t s =
+      let r = at_row rows labels cut same (λ d. Sends new d z y t) (λ d. Has old x z × Sends old d z y t) (λ k lt q.
+      let row = get_or rows (get_or labels k 0) 0 in
+      let g = guard_out (look old x z) (look old row z) (sent_to q.0 t) (subst (λ (os : List Out). Contains os (sent_to q.0 t)) (cut_leaf k lt) q.1) in
+      (g.0, (q.0, g.1, q.2))) s in
+      (r.2.0, (r.0, r.1, r.2.1))
+
+  -- what the rows lead to at these packets the cut rows lead to
+  pub leads_cut : (y : List ℕ) (t : ℕ) → Has old x z → RowLeads old rows labels z y t → SomeLeads new cut z y t
+  leads_cut y t h s =
+      from_row rows labels cut same (λ d. Sends new d z y t) (λ d. Sends old d z y t) (λ k lt q.
+      let row = get_or rows (get_or labels k 0) 0 in
+      (q.0, subst (λ (os : List Out). Contains os (sent_to q.0 t)) (sym (cut_leaf k lt)) (guard_in (look old x z) (look old row z) (sent_to q.0 t) h q.1), q.2)) s
+
+  -- a set with a member that is led to holds what the rows record at the packets
+  pub led_step : (nss : List (List ℕ)) (y : List ℕ) (i : ℕ) → Ascend nss → IsPacket old y → AreLedTo nss new cut z y i → Has old x z × IsStep old rows (labels, z) (get_or nss i [], y)
+  led_step nss y i asc py led =
+      let one = some_member (get_or nss i []) led.some in
+      let has : Has old x z = (cut_leads y one.0 ((led.every one.0).0 one.1).1).0 in (
+        has,
+        record {
+          packet = py;
+          some = led.some;
+          ascend = asc i;
+          every = λ l. (
+            λ m. let q = (led.every l).0 m in (q.0, (cut_leads y l q.1).1),
+            λ q. (led.every l).1 (q.0, leads_cut y l has q.1),
+          );
+        },
+      )
+    where
+      some_member : (xs : List ℕ) → (xs ≡ [] → ⊥) → (l : ℕ) × Contains xs l
+      some_member [] n = absurd (n refl)
+      some_member (l ∷ ls) n = (l, (0, omega arith, refl))

@@ -1,10 +1,8 @@
 -- What one round of the levels makes.
-use Rattle.std.specs.Prelude.{◌≡◌, ℕ, ◌+◌, ◌<◌, ◌⊎◌, true, List, [], length, slice_index, slice_index_or}
+use Rattle.std.specs.Prelude.{◌≡◌, ℕ, ◌+◌, ◌<◌, ◌⊎◌, true, List, [], length, slice_index_or}
 use Rattle.nk_field.specs.Act.{applied}
 use Rattle.nk_store.specs.declared.node.Out.{Out}
-use Rattle.nk_store.specs.Held.{Held, IsPacket, look, HasLeaves}
-use Rattle.nk_algebra.specs.Leaves.{guarded}
-use Rattle.nk_algebra.specs.Unions.{AreIds}
+use Rattle.nk_store.specs.Held.{Held, IsPacket}
 use Rattle.nk_sets.specs.PacketSets.{is_in, IsSet}
 use Rattle.nk_determ.specs.Sets.{Differ}
 use Rattle.nk_reach.specs.Pairs.{Node, Under, Named, Once, EachPair, Within, ArePairs, HavePlaces, IsStep}
@@ -19,17 +17,6 @@ HaveSets st ps = EachPair (λ p. IsSet st p.1) ps
 -- the out with this act and target
 abbrev pub sent_to : List (ℕ × ℕ) → ℕ → Out
 sent_to g t = record { act = g; target = t }
-
--- as many diagrams as rows
-pub record AreSpare (st : Held) (rows cut : List ℕ) : Type 0 where
-  pub ids : AreIds st cut
-  pub count : length cut ≡ length rows
-
--- the rows of the first n labels at the packets of x alone, each at its label's place
-pub record AreCut (old : Held) (rows labels : List ℕ) (n x : ℕ) (new : Held) (cut : List ℕ) : Type 0 where
-  pub spare : AreSpare new rows cut
-  pub at : (k : ℕ) → k < n → HasLeaves new (slice_index cut (slice_index labels k))
-      (λ pk. guarded (look old x pk) (look old (slice_index rows (slice_index labels k)) pk))
 
 -- the level has exactly what the last level leads to and was not met
 pub record IsNextLevel (st : Held) (ss : List (List ℕ)) (rows : List ℕ) (met last : List (ℕ × ℕ)) (new : Held) (nss : List (List ℕ)) (level : List (ℕ × ℕ)) : Type 0 where

@@ -5,7 +5,7 @@ ghost use Rattle.nk_store.specs.Held.{Held, IsPacket, Grows};
 ghost use Rattle.nk_sets.specs.PacketSets.{IsLeast};
 ghost use Rattle.nk_determ.specs.Sets.{SetsGrow};
 ghost use Rattle.nk_reach.specs.Pairs.{Node, AreRows, HavePlaces, ArePairs, Under, Named, Within, Once, IsStep};
-ghost use Rattle.nk_reach.specs.Rounds.{HaveSets, AreSpare};
+ghost use Rattle.nk_reach.specs.Rounds.{HaveSets};
 ghost use Rattle.nk_reach.specs.Choices.{IsAny, IsBest};
 ghost use Rattle.nk_reach.specs.Finds.{IsNextLeast};
 
@@ -40,14 +40,12 @@ pub(crate) fn next_packet(
     st: &mut Store,
     ss: &mut Sets,
     rows: &[Id],
-    cut: &mut List<Id>,
     s: SetId,
     x: &Packet,
     here: &Entries,
     next: &Entries,
 ) -> Result<(SetId, Packet), AllocError>
     requires rows { AreRows st.old rows.now }
-    requires cut { AreSpare st.old rows.now cut.old }
     requires here { ArePairs st.old ss.old (length rows.now) here.now }
     requires next { ArePairs st.old ss.old (length rows.now) next.now }
     requires packet { IsPacket st.old x.now }
@@ -55,11 +53,10 @@ pub(crate) fn next_packet(
     requires ahead { (k : Node) × IsStep st.old rows.now (slice_index_or ss.old s [], x.now) k × Within st.old ss.old next.now k }
     ensures grows { Grows st.old st.new }
     ensures sets { SetsGrow ss.old ss.new }
-    ensures cut { OnOk result (AreSpare st.new rows.now cut.new) }
     ensures ok { IfOk result (λ r. IsNextLeast st.old ss.old rows.now (slice_index_or ss.old s []) x.now next.now r.0 r.1) }
 {
     let p = packets_under(here, s);
-    let d = state_at(st, ss, rows, cut, s, p)?;
+    let d = state_at(st, ss, rows, s, p)?;
     let outs = st.look(d, x);
     match least_ahead(st, outs, x, next) {
         Some(b) => {

@@ -5,7 +5,6 @@ ghost use Rattle.nk_store.specs.Held.{Held, IsPacket, Grows};
 ghost use Rattle.nk_determ.specs.Sets.{SetsGrow, Differ};
 ghost use Rattle.nk_reach.specs.Pairs.{AreRows};
 ghost use Rattle.nk_reach.specs.Levels.{AreLevels};
-ghost use Rattle.nk_reach.specs.Rounds.{AreSpare};
 ghost use Rattle.nk_reach.specs.Histories.{IsBreak, Breaks};
 ghost use Rattle.nk_reach.specs.Backs.{AreBacks};
 ghost use Rattle.nk_reach.specs.Finds.{first_set, first_packets, target_of, found_of};
@@ -19,7 +18,7 @@ use crate::standing::Entries;
 use nk_determ::{Levels, SetId, Sets};
 use nk_field::{History, List};
 use nk_store::{Id, Store};
-use std::alloc::{AllocError, Global};
+use std::alloc::AllocError;
 
 /// The least history that breaks a goal: it starts at one of the packets that the levels start from, its records follow
 /// the rows' set states, and a bad final of the side that is told makes its last packet. Fewer records come first, then the
@@ -51,9 +50,8 @@ pub fn least_history<G: Goal>(
     ensures labels { OnOk result (G.labels g.new ≡ G.labels g.old) }
     ensures same { OnOk result ((st : Held) (set pk : Items ℕ) → G.bad_of g.new st set pk ≡ G.bad_of g.old st set pk) }
 {
-    let mut cut = spare(st.alloc(), rows)?;
     let mut backs = List::new(st.alloc());
-    let found = go_forward(st, ss, rows, &mut cut, &mut backs, l, g)?;
+    let found = go_forward(st, ss, rows, &mut backs, l, g)?;
     Ok(found)
 }
 
@@ -62,12 +60,10 @@ fn go_forward<G: Goal>(
     st: &mut Store,
     ss: &mut Sets,
     rows: &[Id],
-    cut: &mut List<Id>,
     backs: &mut List<Entries>,
     l: &Levels,
     g: &mut G,
 ) -> Result<Found, AllocError>
-    requires cut { AreSpare st.old rows.now cut.old }
     requires fits { G.fits g.old st.old }
     requires labels { length rows.now ≤ G.labels g.old }
     requires rows { AreRows st.old rows.now }
@@ -86,7 +82,7 @@ fn go_forward<G: Goal>(
     ensures labels { OnOk result (G.labels g.new ≡ G.labels g.old) }
     ensures same { OnOk result ((st : Held) (set pk : Items ℕ) → G.bad_of g.new st set pk ≡ G.bad_of g.old st set pk) }
 {
-    let made = backs_of(st, ss, rows, cut, l, g)?;
+    let made = backs_of(st, ss, rows, l, g)?;
     *backs = made;
     let last = l.levels.len() - 1;
     let set = start_set(l);
@@ -98,7 +94,7 @@ fn go_forward<G: Goal>(
     for i in 0..last {
         let here = backs.at(last - i);
         let next = backs.at(last - i - 1);
-        let step = next_packet(st, ss, rows, cut, s, &x, here, next)?;
+        let step = next_packet(st, ss, rows, s, &x, here, next)?;
         records.push(step.1)?;
         s = step.0;
         x = step.1;
@@ -112,14 +108,6 @@ fn go_forward<G: Goal>(
         },
         side: side_of(end.target),
     })
-}
-
-/// As many diagrams as rows, to be written over.
-fn spare(alloc: Global, rows: &[Id]) -> Result<List<Id>, AllocError>
-    ensures { IfOk result (λ cut. cut ≡ rows.now) }
-{
-    let cut = Vec::from_slice(alloc, rows)?;
-    Ok(List::from_vec(cut))
 }
 
 /// The set that levels start from.
@@ -144,19 +132,16 @@ fn backs_of<G: Goal>(
     st: &mut Store,
     ss: &mut Sets,
     rows: &[Id],
-    cut: &mut List<Id>,
     l: &Levels,
     g: &mut G,
 ) -> Result<List<Entries>, AllocError>
     requires fits { G.fits g.old st.old }
     requires labels { length rows.now ≤ G.labels g.old }
     requires rows { AreRows st.old rows.now }
-    requires cut { AreSpare st.old rows.now cut.old }
     requires levels { AreLevels st.old st.old ss.old rows.now (first_set l.now.levels) (first_packets l.now.levels) (G.bad_of g.old st.old) l.now.levels l.now.broken }
     ensures grows { Grows st.old st.new }
     ensures sets { SetsGrow ss.old ss.new }
     ensures differ { OnOk result (Differ ss.new) }
-    ensures cut { OnOk result (AreSpare st.new rows.now cut.new) }
     ensures count { IfOk result (λ backs. length backs ≡ length l.now.levels) }
     ensures ok { IfOk result (λ backs. AreBacks st.old st.new ss.old ss.new rows.now (G.bad_of g.old st.old) l.now.levels (length l.now.levels - 1) (length l.now.levels) backs) }
     ensures fits { OnOk result (G.fits g.new st.new) }
@@ -171,7 +156,7 @@ fn backs_of<G: Goal>(
     for k in 0..last {
         let before = l.levels.at(last - 1 - k);
         let next = backs.at(k);
-        let back = pull_level(st, ss, rows, cut, before, next)?;
+        let back = pull_level(st, ss, rows, before, next)?;
         backs.push(back)?;
     }
     ss.differ();

@@ -1,9 +1,9 @@
 //! One round of the levels.
-ghost use Rattle.std.specs.Prelude.{◌≡◌, IfOk, OnOk, length};
+ghost use Rattle.std.specs.Prelude.{◌≡◌, IfOk, length};
 ghost use Rattle.nk_store.specs.Held.{Grows};
 ghost use Rattle.nk_determ.specs.Sets.{SetsGrow};
 ghost use Rattle.nk_reach.specs.Pairs.{AreRows, ArePairs, Once};
-ghost use Rattle.nk_reach.specs.Rounds.{HaveSets, AreSpare, IsNextLevel, IsFresh};
+ghost use Rattle.nk_reach.specs.Rounds.{HaveSets, IsNextLevel, IsFresh};
 
 use crate::entries::{listed, unmet};
 use crate::follow::follow_level;
@@ -14,26 +14,22 @@ use nk_sets::is_empty;
 use nk_store::{Id, Store};
 use std::alloc::AllocError;
 
-/// What the last level leads to and was not met. The spare diagrams are as many as the rows and are written over. The only
-/// error is that memory ran out.
+/// What the last level leads to and was not met. The only error is that memory ran out.
 pub fn next_level(
     st: &mut Store,
     ss: &mut Sets,
     rows: &[Id],
-    cut: &mut List<Id>,
     met: &IndexMap<SetId, Id>,
     last: &List<(SetId, Id)>,
 ) -> Result<List<(SetId, Id)>, AllocError>
     requires rows { AreRows st.old rows.now }
-    requires cut { AreSpare st.old rows.now cut.old }
     requires met { ArePairs st.old ss.old (length rows.now) met.now.entries }
     requires last { ArePairs st.old ss.old (length rows.now) last.now }
     ensures grows { Grows st.old st.new }
     ensures sets { SetsGrow ss.old ss.new }
-    ensures cut { OnOk result (AreSpare st.new rows.now cut.new) }
     ensures ok { IfOk result (λ level. IsNextLevel st.old ss.old rows.now met.now.entries last.now st.new ss.new level) }
 {
-    let found = follow_level(st, ss, rows, cut, last)?;
+    let found = follow_level(st, ss, rows, last)?;
     let raw = listed(st.alloc(), found)?;
     let level = fresh(st, met, &raw)?;
     Ok(level)

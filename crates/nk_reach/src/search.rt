@@ -39,7 +39,6 @@ pub fn levels<G: Goal>(
 {
     let alloc = st.alloc();
     let mut met = first_met(alloc, s, start)?;
-    let mut cut = spare(alloc, rows)?;
     let mut all = List::new(alloc);
     all.push(first_level(alloc, s, start)?)?;
     loop {
@@ -50,7 +49,7 @@ pub fn levels<G: Goal>(
                 broken: true,
             });
         }
-        let level = next_level(st, ss, rows, &mut cut, &met, all.at(last))?;
+        let level = next_level(st, ss, rows, &met, all.at(last))?;
         if level.len() == 0 {
             return Ok(Levels {
                 levels: all,
@@ -78,12 +77,4 @@ fn first_met(alloc: Global, s: SetId, start: Id) -> Result<IndexMap<SetId, Id>, 
     let mut met = IndexMap::new(alloc);
     met.insert(s, start)?;
     Ok(met)
-}
-
-/// As many diagrams as rows, to be written over.
-fn spare(alloc: Global, rows: &[Id]) -> Result<List<Id>, AllocError>
-    ensures { IfOk result (λ cut. cut ≡ rows.now) }
-{
-    let cut = Vec::from_slice(alloc, rows)?;
-    Ok(List::from_vec(cut))
 }

@@ -38,9 +38,9 @@ pub judge_rows-requires-clause-can : goal.judge_rows-requires-clause-can
 judge_rows-requires-clause-can c =
     let a = c.in_ok-both.ensures.ok c.args.fields.now c.requires.over in
     let marked = subst (λ (r : List ℕ). AreMarked c.automaton_of_both.new.st r c.in_ok-both.both.left c.in_ok-both.both.right c.number_behind-bound.result (length r) c.new.new.st c.in_ok-goal.goal.ends) c.as_slice.ensures c.in_ok-goal.ensures.marked in
-    subst (λ r. CanJudge c.judge_of.new.st c.judge_of.new.ss r c.in_ok-judge.judge.told.entries c.in_ok-cut.cut c.in_ok-goal.goal.ends c.in_ok-goal.goal.seen.entries) (sym c.in_ok-judge.ensures.rows)
+    subst (λ r. CanJudge c.judge_of.new.st c.judge_of.new.ss r c.in_ok-judge.judge.told.entries c.in_ok-goal.goal.ends c.in_ok-goal.goal.seen.entries) (sym c.in_ok-judge.ensures.rows)
     (can_judge c.args.fields.now c.automaton_of_both.new.st c.new.new.st c.judge_of.new.st c.in_ok-both.both.rows c.in_ok-both.both.left c.in_ok-both.both.right (tree_of c.args.left.now) (tree_of c.args.right.now)
-    a c.number_behind-bound.result c.number_behind-bound.ensures c.in_ok-goal.goal.ends c.new.ensures.grows c.judge_of.ensures.grows c.in_ok-goal.ensures.ids marked c.judge_of.new.ss c.in_ok-cut.cut c.in_ok-judge.judge.told.entries c.in_ok-goal.goal.seen.entries c.in_ok-cut.ensures
+    a c.number_behind-bound.result c.number_behind-bound.ensures c.in_ok-goal.goal.ends c.new.ensures.grows c.judge_of.ensures.grows c.in_ok-goal.ensures.ids marked c.judge_of.new.ss c.in_ok-judge.judge.told.entries c.in_ok-goal.goal.seen.entries
     (subst (λ (r : List ℕ). IsJudge c.judge_of.new.st c.judge_of.new.ss (length r) (certificate_value c.args.certificate.now) c.in_ok-judge.judge.start c.in_ok-judge.judge.entries c.in_ok-judge.judge.told.entries) c.in_ok-judge.ensures.rows c.in_ok-judge.ensures.ok).all.pairs c.in_ok-goal.ensures.fits)
 
 pub judge_rows-requires-clause-start : goal.judge_rows-requires-clause-start

@@ -33,7 +33,7 @@ loop-i-preserved c =
       can = c.in_ok-found.ensures.can;
       same = λ st set pk. c.in_ok-found.ensures.same st set pk ∙ c.loop-i.invariant.same st set pk;
       met = one_met_more c.args.st.now c.args.ss.now c.args.judge.now.rows bad c.args.judge.now.told.entries (row_values c.args.later.now) c.args.judge.now.entries c.loop-i.i c.loop-i.invariant.met
-          (row_before c.args.st.now c.loop-i.st c.args.ss.now c.loop-i.ss c.args.judge.now.rows c.args.judge.now.told.entries c.args.cut.now c.args.goal.now.ends c.loop-i.goal.ends c.args.goal.now.seen.entries e c.loop-i.invariant.grows c.loop-i.invariant.sets c.requires.can
+          (row_before c.args.st.now c.loop-i.st c.args.ss.now c.loop-i.ss c.args.judge.now.rows c.args.judge.now.told.entries c.args.goal.now.ends c.loop-i.goal.ends c.args.goal.now.seen.entries e c.loop-i.invariant.grows c.loop-i.invariant.sets c.requires.can
           (entry_pair c.args.st.now c.args.ss.now (length c.args.judge.now.rows) c.args.later.now c.args.judge.now.entries c.loop-i.i (omega (arith, c.loop-i-test.true)) c.requires.entries)
           (λ set pk. c.loop-i.invariant.same c.loop-i.st set pk) (row_at (row_values c.args.later.now) c.loop-i.i).positions None now);
     }
@@ -52,7 +52,7 @@ returns-in-Some-found-clause-ok c =
         within = omega (arith, n, c.loop-i-test.true);
         first = subst (λ o. IsStartJudged c.args.st.now c.args.ss.now c.args.judge.now.rows bad c.args.judge.now.told.entries c.args.judge.now.start o) c.in_default.is c.in_ok-first.ensures.ok;
         before = c.loop-i.invariant.met;
-        fails = row_before c.args.st.now c.loop-i.st c.args.ss.now c.loop-i.ss c.args.judge.now.rows c.args.judge.now.told.entries c.args.cut.now c.args.goal.now.ends c.loop-i.goal.ends c.args.goal.now.seen.entries e c.loop-i.invariant.grows c.loop-i.invariant.sets c.requires.can
+        fails = row_before c.args.st.now c.loop-i.st c.args.ss.now c.loop-i.ss c.args.judge.now.rows c.args.judge.now.told.entries c.args.goal.now.ends c.loop-i.goal.ends c.args.goal.now.seen.entries e c.loop-i.invariant.grows c.loop-i.invariant.sets c.requires.can
             (entry_pair c.args.st.now c.args.ss.now (length c.args.judge.now.rows) c.args.later.now c.args.judge.now.entries c.loop-i.i (omega (arith, c.loop-i-test.true)) c.requires.entries)
             (λ set pk. c.loop-i.invariant.same c.loop-i.st set pk) (row_at (row_values c.args.later.now) c.loop-i.i).positions (Some c.in-Some-found.part) now;
       },

@@ -1,10 +1,9 @@
 use Rattle.std.proofs.Common.{ℕ, List, length, sym, subst, arith, ◌<◌, ◌≡◌}
 use Rattle.nk_store.proofs.Stores.{grows_on}
 use Rattle.nk_reach.specs.Pairs.{AreRows, ArePairs}
-use Rattle.nk_reach.specs.Rounds.{AreSpare, IsNextLevel}
+use Rattle.nk_reach.specs.Rounds.{IsNextLevel}
 use Rattle.nk_reach.specs.Sides.{alone, ends_of, goal_on}
 use Rattle.nk_reach.proofs.Growing.{sets_refl, rows_grow, pairs_on}
-use Rattle.nk_reach.proofs.Cutting.{spare_on}
 use Rattle.nk_cert.proofs.Judging.{one_level, can_judge_after, one_bad, none_bad, one_leaves, all_stay}
 use Rattle.nk_cert.proofs.judge.judge_set.Goals as goal
 
@@ -21,8 +20,8 @@ returns-then-branch-clause-sets c = sets_refl c.args.ss.now
 
 pub returns-then-branch-clause-can : goal.returns-then-branch-clause-can
 returns-then-branch-clause-can c =
-    can_judge_after c.args.st.now c.any_bad.new.st c.args.ss.now c.args.ss.now c.args.judge.now.rows c.args.judge.now.told.entries c.args.cut.now c.args.goal.now.ends c.args.cut.now c.any_bad.new.g.ends c.args.goal.now.seen.entries c.any_bad.new.g.seen.entries
-    c.any_bad.ensures.grows (sets_refl c.args.ss.now) c.requires.can (spare_on c.args.st.now c.any_bad.new.st c.args.judge.now.rows c.args.cut.now c.any_bad.ensures.grows c.requires.can.spare)
+    can_judge_after c.args.st.now c.any_bad.new.st c.args.ss.now c.args.ss.now c.args.judge.now.rows c.args.judge.now.told.entries c.args.goal.now.ends c.any_bad.new.g.ends c.args.goal.now.seen.entries c.any_bad.new.g.seen.entries
+    c.any_bad.ensures.grows (sets_refl c.args.ss.now) c.requires.can
     c.in_ok-any_bad.ensures.fits c.in_ok-any_bad.ensures.labels
 
 pub returns-then-branch-clause-ok : goal.returns-then-branch-clause-ok
@@ -33,11 +32,6 @@ returns-then-branch-clause-ok c =
 pub next_level-requires-clause-rows : goal.next_level-requires-clause-rows
 next_level-requires-clause-rows c =
     subst (AreRows c.any_bad.new.st) (sym c.as_slice.ensures) (rows_grow c.args.st.now c.any_bad.new.st c.args.judge.now.rows c.any_bad.ensures.grows c.requires.can.rows_are)
-
-pub next_level-requires-clause-cut : goal.next_level-requires-clause-cut
-next_level-requires-clause-cut c =
-    subst (λ r. AreSpare c.any_bad.new.st r c.args.cut.now) (sym c.as_slice.ensures)
-    (spare_on c.args.st.now c.any_bad.new.st c.args.judge.now.rows c.args.cut.now c.any_bad.ensures.grows c.requires.can.spare)
 
 pub next_level-requires-clause-met : goal.next_level-requires-clause-met
 next_level-requires-clause-met c =
@@ -52,9 +46,8 @@ next_level-requires-clause-last c =
 
 pub returns-then-len-gt0-clause-can : goal.returns-then-len-gt0-clause-can
 returns-then-len-gt0-clause-can c =
-    can_judge_after c.args.st.now c.next_level.new.st c.args.ss.now c.next_level.new.ss c.args.judge.now.rows c.args.judge.now.told.entries c.args.cut.now c.args.goal.now.ends c.next_level.new.cut c.any_bad.new.g.ends c.args.goal.now.seen.entries c.any_bad.new.g.seen.entries
+    can_judge_after c.args.st.now c.next_level.new.st c.args.ss.now c.next_level.new.ss c.args.judge.now.rows c.args.judge.now.told.entries c.args.goal.now.ends c.any_bad.new.g.ends c.args.goal.now.seen.entries c.any_bad.new.g.seen.entries
     (grows_on _ _ _ c.any_bad.ensures.grows c.next_level.ensures.grows) c.next_level.ensures.sets c.requires.can
-    (subst (λ r. AreSpare c.next_level.new.st r c.next_level.new.cut) c.as_slice.ensures c.in_ok-elsewhere.ensures.cut)
     (goal_on c.any_bad.new.st c.next_level.new.st c.any_bad.new.g.ends c.any_bad.new.g.seen.entries c.in_ok-any_bad.ensures.fits c.next_level.ensures.grows) c.in_ok-any_bad.ensures.labels
 
 pub returns-then-len-gt0-clause-ok : goal.returns-then-len-gt0-clause-ok
@@ -69,9 +62,8 @@ returns-then-len-gt0-clause-ok c =
 
 pub returns-clause-can : goal.returns-clause-can
 returns-clause-can c =
-    can_judge_after c.args.st.now c.next_level.new.st c.args.ss.now c.next_level.new.ss c.args.judge.now.rows c.args.judge.now.told.entries c.args.cut.now c.args.goal.now.ends c.next_level.new.cut c.any_bad.new.g.ends c.args.goal.now.seen.entries c.any_bad.new.g.seen.entries
+    can_judge_after c.args.st.now c.next_level.new.st c.args.ss.now c.next_level.new.ss c.args.judge.now.rows c.args.judge.now.told.entries c.args.goal.now.ends c.any_bad.new.g.ends c.args.goal.now.seen.entries c.any_bad.new.g.seen.entries
     (grows_on _ _ _ c.any_bad.ensures.grows c.next_level.ensures.grows) c.next_level.ensures.sets c.requires.can
-    (subst (λ r. AreSpare c.next_level.new.st r c.next_level.new.cut) c.as_slice.ensures c.in_ok-elsewhere.ensures.cut)
     (goal_on c.any_bad.new.st c.next_level.new.st c.any_bad.new.g.ends c.any_bad.new.g.seen.entries c.in_ok-any_bad.ensures.fits c.next_level.ensures.grows) c.in_ok-any_bad.ensures.labels
 
 pub returns-clause-ok : goal.returns-clause-ok

@@ -7,7 +7,7 @@ use Rattle.nk_cert.proofs.judge.judge_start.Goals as goal
 
 pub judge_set-requires-clause-can : goal.judge_set-requires-clause-can
 judge_set-requires-clause-can c =
-    can_judge_on c.args.st.now c.has_each.new.st c.args.ss.now c.args.ss.now c.args.judge.now.rows c.args.judge.now.told.entries c.args.cut.now c.args.goal.now.ends c.args.goal.now.seen.entries c.has_each.ensures.grows (sets_refl c.args.ss.now) c.requires.can
+    can_judge_on c.args.st.now c.has_each.new.st c.args.ss.now c.args.ss.now c.args.judge.now.rows c.args.judge.now.told.entries c.args.goal.now.ends c.args.goal.now.seen.entries c.has_each.ensures.grows (sets_refl c.args.ss.now) c.requires.can
 
 pub judge_set-requires-clause-entry : goal.judge_set-requires-clause-entry
 judge_set-requires-clause-entry c =
@@ -27,7 +27,7 @@ returns-clause-ok c =
 
 pub returns-then-not-branch-clause-can : goal.returns-then-not-branch-clause-can
 returns-then-not-branch-clause-can c =
-    can_judge_on c.args.st.now c.has_each.new.st c.args.ss.now c.args.ss.now c.args.judge.now.rows c.args.judge.now.told.entries c.args.cut.now c.args.goal.now.ends c.args.goal.now.seen.entries c.has_each.ensures.grows (sets_refl c.args.ss.now) c.requires.can
+    can_judge_on c.args.st.now c.has_each.new.st c.args.ss.now c.args.ss.now c.args.judge.now.rows c.args.judge.now.told.entries c.args.goal.now.ends c.args.goal.now.seen.entries c.has_each.ensures.grows (sets_refl c.args.ss.now) c.requires.can
 
 pub returns-then-not-branch-clause-ok : goal.returns-then-not-branch-clause-ok
 returns-then-not-branch-clause-ok c = c.in_ok-has_each.ensures.no c.if-not-branch.true

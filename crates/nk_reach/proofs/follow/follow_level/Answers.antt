@@ -36,7 +36,6 @@ loop-k-preserved c =
           c.requires.rows c.loop-k.invariant.made c.loop-k.invariant.grows c.loop-k.invariant.sets c.follow_pair.ensures.sets
           (each_at (IsPair c.args.st.now c.args.ss.now (length c.args.rows.now)) c.args.last.now c.loop-k.k c.at.result.now c.requires.last.each l c.at.ensures)
           c.in_ok-follow_pair.ensures.ok);
-      cut = c.in_ok-follow_pair.ensures.cut;
     }
 
 pub returns-clause-ok : goal.returns-clause-ok

@@ -1,7 +1,7 @@
 use Rattle.std.proofs.Common.{take}
 use Rattle.nk_store.specs.Held.{Grows}
 use Rattle.nk_determ.specs.Sets.{SetsGrow}
-use Rattle.nk_reach.specs.Rounds.{AreSpare, IsSoFar}
+use Rattle.nk_reach.specs.Rounds.{IsSoFar}
 use Rattle.nk_reach.proofs.follow.follow_level.Given as goal
 
 abbrev pub invariant-loop-k : goal.invariant-loop-k
@@ -9,5 +9,4 @@ invariant-loop-k l = record {
   grows : Grows l.fn.st l.st;
   sets : SetsGrow l.fn.ss l.ss;
   made : IsSoFar l.fn.st l.fn.ss l.rows (take l.k l.last) l.st l.ss l.raw.entries;
-  cut : AreSpare l.st l.rows l.cut;
 }

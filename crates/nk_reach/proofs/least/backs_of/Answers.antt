@@ -4,7 +4,6 @@ use Rattle.nk_determ.proofs.Interned.{sets_on}
 use Rattle.nk_reach.specs.Pairs.{ArePairs}
 use Rattle.nk_reach.proofs.Growing.{sets_refl, rows_grow, pairs_on}
 use Rattle.nk_reach.proofs.Ends.{pairs_more}
-use Rattle.nk_reach.proofs.Cutting.{spare_on}
 use Rattle.nk_reach.specs.Finds.{first_set, first_packets}
 use Rattle.nk_reach.specs.Backs.{AreBacks}
 use Rattle.nk_reach.proofs.Backing.{level_at, backs_start, backs_round}
@@ -33,7 +32,6 @@ loop-k-init g c =
     record {
       grows = c.bad_level.ensures.grows;
       sets = sets_refl c.args.ss.now;
-      cut = spare_on c.args.st.now c.bad_level.new.st c.args.rows.now c.args.cut.now c.bad_level.ensures.grows c.requires.cut;
       fits = c.in_ok-first.ensures.fits;
       count = ap (λ (v : List (List (ℕ × ℕ))). length v) is;
       backs = subst (λ n. AreBacks c.args.st.now c.bad_level.new.st c.args.ss.now c.args.ss.now c.args.rows.now (g.G.Goal.bad_of c.args.g.now c.args.st.now) c.args.l.now.levels n 1 c.push.new.self) e
@@ -68,7 +66,6 @@ loop-k-preserved g c =
     record {
       grows = grows_on _ _ _ c.loop-k.invariant.grows c.pull_level.ensures.grows;
       sets = sets_on c.args.ss.now c.loop-k.ss c.pull_level.new.ss c.loop-k.invariant.sets c.pull_level.ensures.sets;
-      cut = c.in_ok-back.ensures.cut;
       fits = g.met.G.Goal.fits_on c.bad_level.new.g c.loop-k.st c.pull_level.new.st c.loop-k.invariant.fits c.pull_level.ensures.grows;
       count = let q = c.loop-k.invariant.count in let len : length c.push-in-loop-k.new.self ≡ length (c.loop-k.backs ++ c.in_ok-back.back ∷ []) = ap (λ (v : List (List (ℕ × ℕ))). length v) pushed in omega (arith, q, len, length-append c.loop-k.backs (c.in_ok-back.back ∷ []));
       backs = subst (λ (v : List (List (ℕ × ℕ))). AreBacks c.args.st.now c.pull_level.new.st c.args.ss.now c.pull_level.new.ss c.args.rows.now (g.G.Goal.bad_of c.args.g.now c.args.st.now) c.args.l.now.levels (length c.args.l.now.levels - 1) (c.loop-k.k + 1 + 1) v) (sym pushed)

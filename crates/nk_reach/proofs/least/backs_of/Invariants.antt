@@ -1,7 +1,6 @@
 use Rattle.std.proofs.Common.{◌≡◌, ◌+◌, ◌-◌, length}
 use Rattle.nk_store.specs.Held.{Grows}
 use Rattle.nk_determ.specs.Sets.{SetsGrow}
-use Rattle.nk_reach.specs.Rounds.{AreSpare}
 use Rattle.nk_reach.specs.Backs.{AreBacks}
 use Rattle.nk_reach.proofs.least.backs_of.Given as goal
 
@@ -9,7 +8,6 @@ abbrev pub invariant-loop-k : goal.invariant-loop-k
 invariant-loop-k g l = record {
   grows : Grows l.fn.st l.st;
   sets : SetsGrow l.fn.ss l.ss;
-  cut : AreSpare l.st l.rows l.cut;
   fits : g.G.Goal.fits l.g l.st;
   count : length l.backs ≡ l.k + 1;
   backs : AreBacks l.fn.st l.st l.fn.ss l.ss l.rows (g.G.Goal.bad_of l.fn.g l.fn.st) l.l.levels (length l.l.levels - 1) (l.k + 1) l.backs;

@@ -77,7 +77,6 @@ loop-i-init g c =
     record {
       grows = c.backs_of.ensures.grows;
       sets = c.backs_of.ensures.sets;
-      cut = c.in_ok-made.ensures.cut;
       fits = c.in_ok-made.ensures.fits;
       backs = c.in_ok-made.ensures.ok;
       forward = start_forward old c.backs_of.new.st c.backs_of.new.ss rows (first_packets ls) bad h made whole (get_or oss set []) y c.new-records.result c.start_set-set.result set c.new-records.ensures c.start_set-set.ensures at
@@ -206,7 +205,6 @@ loop-i-preserved g c =
     record {
       grows = grows_on _ _ _ c.loop-i.invariant.grows c.next_packet.ensures.grows;
       sets = sets_on c.args.ss.now c.loop-i.ss c.next_packet.new.ss c.loop-i.invariant.sets c.next_packet.ensures.sets;
-      cut = c.in_ok-step.ensures.cut;
       fits = g.met.G.Goal.fits_on c.backs_of.new.g c.loop-i.st c.next_packet.new.st c.loop-i.invariant.fits c.next_packet.ensures.grows;
       backs = backs_on old c.loop-i.st c.next_packet.new.st oss c.loop-i.ss c.next_packet.new.ss rows bad ls h (length ls) made c.next_packet.ensures.grows c.next_packet.ensures.sets c.loop-i.invariant.backs;
       forward = round_on old c.loop-i.st oss c.loop-i.ss rows (first_set ls) (first_packets ls) bad ls c.args.l.now.broken h i made here next c.in_ok-start.start c.loop-i.x c.loop-i.records c.loop-i.s c.requires.rows c.requires.levels count less c.loop-i.invariant.grows c.loop-i.invariant.backs at_here at_next c.loop-i.invariant.forward c.next_packet.new.st c.next_packet.new.ss c.in_ok-step.step.1 c.in_ok-step.step.0 c.push.new.self c.next_packet.ensures.grows c.next_packet.ensures.sets c.in_ok-step.ensures.ok c.in_ok-push.ensures.ok;

@@ -7,7 +7,6 @@ use Rattle.nk_reach.specs.Pairs.{HavePlaces, IsPair}
 use Rattle.nk_reach.proofs.Kept.{each_at}
 use Rattle.nk_reach.proofs.Growing.{sets_same, sets_known, rows_grow, pairs_on, each_weaker}
 use Rattle.nk_reach.proofs.Adding.{take_more, take_whole}
-use Rattle.nk_reach.proofs.Cutting.{spare_on}
 use Rattle.nk_reach.specs.Pulls.{IsPulledSoFar}
 use Rattle.nk_reach.proofs.Pulling.{pulled_so_far_push}
 use Rattle.nk_reach.proofs.pull.pull_level.Goals as goal
@@ -54,7 +53,6 @@ loop-k-preserved c =
           c.requires.rows c.loop-k.invariant.made c.loop-k.invariant.grows c.loop-k.invariant.sets c.pull_pair.ensures.grows c.requires.next
           (each_at (IsPair c.args.st.now c.args.ss.now (length c.args.rows.now)) c.args.level.now c.loop-k.k c.at.result.now c.requires.level.each l c.at.ensures)
           c.in_ok-led.ensures.ok c.in_ok-add.ensures.ok);
-      cut = spare_on c.pull_pair.new.st c.add.new.st c.args.rows.now c.pull_pair.new.cut c.add.ensures.grows c.in_ok-led.ensures.cut;
     }
 
 pub returns-clause-ok : goal.returns-clause-ok

@@ -1,7 +1,6 @@
 use Rattle.std.proofs.Common.{take}
 use Rattle.nk_store.specs.Held.{Grows}
 use Rattle.nk_determ.specs.Sets.{SetsGrow}
-use Rattle.nk_reach.specs.Rounds.{AreSpare}
 use Rattle.nk_reach.specs.Pulls.{IsPulledSoFar}
 use Rattle.nk_reach.proofs.pull.pull_level.Given as goal
 
@@ -10,5 +9,4 @@ invariant-loop-k l = record {
   grows : Grows l.fn.st l.st;
   sets : SetsGrow l.fn.ss l.ss;
   made : IsPulledSoFar l.fn.st l.fn.ss l.rows l.next (take l.k l.level) l.st l.back.entries;
-  cut : AreSpare l.st l.rows l.cut;
 }

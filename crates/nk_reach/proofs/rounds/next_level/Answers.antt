@@ -5,7 +5,6 @@ use Rattle.nk_reach.specs.Pairs.{Once}
 use Rattle.nk_reach.specs.Rounds.{HaveSets, IsRaw}
 use Rattle.nk_reach.proofs.Growing.{packets_of, each_weaker}
 use Rattle.nk_reach.proofs.Nexts.{next_of_raw}
-use Rattle.nk_reach.proofs.Cutting.{spare_on}
 use Rattle.nk_reach.proofs.rounds.next_level.Goals as goal
 
 pub fresh-requires-clause-met : goal.fresh-requires-clause-met
@@ -20,9 +19,6 @@ fresh-requires-clause-raw c =
 
 pub fresh-requires-clause-apart : goal.fresh-requires-clause-apart
 fresh-requires-clause-apart c = subst Once (sym c.in_ok-raw.ensures) c.in_ok-found.ensures.ok.pairs.once
-
-pub returns-clause-cut : goal.returns-clause-cut
-returns-clause-cut c = spare_on c.follow_level.new.st c.fresh.new.st c.args.rows.now c.follow_level.new.cut c.fresh.ensures.grows c.in_ok-found.ensures.cut
 
 pub returns-clause-ok : goal.returns-clause-ok
 returns-clause-ok c =

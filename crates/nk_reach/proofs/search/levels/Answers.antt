@@ -5,7 +5,6 @@ use Rattle.nk_reach.specs.Goals.{MeetsBad}
 use Rattle.nk_reach.proofs.Everything.{all_nodes}
 use Rattle.nk_reach.proofs.Growing.{sets_refl, packets_of, pairs_on, rows_grow}
 use Rattle.nk_determ.proofs.Interned.{sets_on}
-use Rattle.nk_reach.proofs.Cutting.{spare_on, spare_start}
 use Rattle.nk_reach.proofs.Going.{Going, room}
 use Rattle.nk_reach.proofs.Round.{going_start}
 use Rattle.nk_reach.proofs.Ends.{levels_broken, last_is, pairs_more, round_done, round_last, falls}
@@ -25,7 +24,6 @@ loop-all-init g c =
         subst (λ ls. Going c.args.st.now c.args.ss.now c.args.st.now c.args.ss.now c.args.rows.now c.args.s c.args.start bad c.in_ok-met.met.entries ls 0) (sym all)
             (subst (λ met. Going c.args.st.now c.args.ss.now c.args.st.now c.args.ss.now c.args.rows.now c.args.s c.args.start bad met (((c.args.s, c.args.start) ∷ []) ∷ []) 0) (sym c.in_ok-met.ensures) first),
       );
-      cut = spare_start c.args.st.now c.args.rows.now c.in_ok-cut.cut c.requires.rows.ids c.in_ok-cut.ensures;
     }
 
 pub any_bad-requires-clause-pairs : goal.any_bad-requires-clause-pairs
@@ -67,9 +65,6 @@ returns-in_err-merge-clause-sets g c = sets_on _ _ _ c.loop-all.invariant.going.
 
 pub returns-in_err-push-2-clause-sets : goal.returns-in_err-push-2-clause-sets
 returns-in_err-push-2-clause-sets g c = sets_on _ _ _ c.loop-all.invariant.going.1.sets c.next_level.ensures.sets
-
-pub next_level-requires-clause-cut : goal.next_level-requires-clause-cut
-next_level-requires-clause-cut g c = spare_on c.loop-all.st c.any_bad.new.st c.args.rows.now c.loop-all.cut c.any_bad.ensures.grows c.loop-all.invariant.cut
 
 pub next_level-requires-clause-last : goal.next_level-requires-clause-last
 next_level-requires-clause-last g c =
@@ -136,6 +131,5 @@ loop-all-preserved g c =
       fits = g.met.G.Goal.fits_on c.any_bad.new.g c.any_bad.new.st c.merge.new.st c.in_ok-any_bad.ensures.fits (grows_on _ _ _ c.next_level.ensures.grows c.merge.ensures.grows);
       labels = c.in_ok-any_bad.ensures.labels ∙ c.loop-all.invariant.labels;
       same = λ st set pk. c.in_ok-any_bad.ensures.same st set pk ∙ c.loop-all.invariant.same st set pk;
-      cut = spare_on c.next_level.new.st c.merge.new.st c.args.rows.now c.next_level.new.cut c.merge.ensures.grows c.in_ok-level.ensures.cut;
       going = (h + 1, subst (λ ls. Going c.args.st.now c.args.ss.now c.merge.new.st c.next_level.new.ss c.args.rows.now c.args.s c.args.start bad c.merge.new.met.entries ls (h + 1)) (sym c.in_ok-push-2.ensures.ok) done);
     }

@@ -1,7 +1,6 @@
 use Rattle.std.proofs.Common.{◌≡◌, ℕ, List, length, ◌+◌, ◌-◌}
 use Rattle.nk_store.specs.Held.{Held}
 use Rattle.nk_reach.proofs.Everything.{all_nodes}
-use Rattle.nk_reach.specs.Rounds.{AreSpare}
 use Rattle.nk_reach.proofs.Going.{Going}
 use Rattle.nk_reach.proofs.search.levels.Given as goal
 
@@ -11,7 +10,6 @@ invariant-loop-all g l = record {
   labels : g.G.Goal.labels l.g ≡ g.G.Goal.labels l.fn.g;
   same : (st : Held) (set pk : List ℕ) → g.G.Goal.bad_of l.g st set pk ≡ g.G.Goal.bad_of l.fn.g st set pk;
   going : (h : ℕ) × Going l.fn.st l.fn.ss l.st l.ss l.rows l.fn.s l.fn.start (g.G.Goal.bad_of l.fn.g l.fn.st) l.met.entries l.all h;
-  cut : AreSpare l.st l.rows l.cut;
 }
 
 abbrev pub decreases-loop-all : goal.decreases-loop-all
