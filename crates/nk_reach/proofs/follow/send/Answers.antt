@@ -15,5 +15,5 @@ add-requires-clause-pairs c =
 
 pub returns-clause-ok : goal.returns-clause-ok
 returns-clause-ok c =
-    sent_add c.args.st.now c.image.new.st c.add.new.st c.args.o.now c.args.p c.in_ok-y.y c.from_target.result c.args.raw.now.entries c.add.new.pairs.entries c.requires.raw c.image.ensures.grows c.in_ok-y.ensures.ok
-    (c.is_empty.ensures.no c.if-is_empty.false) (omega (arith, c.from_target.ensures, c.if-o-eq0.false)) c.in_ok-add.ensures.ok
+    sent_add c.args.st.now c.image.new.st c.add.new.st c.args.o.now c.args.p c.in_ok-y.y c.from_target-t.result c.args.raw.now.entries c.add.new.pairs.entries c.requires.raw c.image.ensures.grows c.in_ok-y.ensures.ok
+    (c.is_empty.ensures.no c.if-is_empty.false) (omega (arith, c.from_target-t.ensures, c.if-o-eq0.false)) c.in_ok-add.ensures.ok
