@@ -45,10 +45,6 @@ pub record Serving (R : ℕ → List ℕ → List Out) (st : Held) (f to : ℕ) 
   pub ids : Each (IsId st) ps
   pub leaf : (v : ℕ) (pk : List ℕ) → length pk ≡ 18 → v < to → look st (child_at 0 ps v) pk ≡ R v pk
 
--- no part serves no value
-pub serving_none : (R : ℕ → List ℕ → List Out) (st : Held) (f : ℕ) → Serving R st f 0 []
-serving_none R st f = record { ends = refl; ids = tt; leaf = λ v pk w l. absurd (omega arith) }
-
 -- one part more, which serves the values up to e
 pub serving_push : (R : ℕ → List ℕ → List Out) (st new : Held) (f from : ℕ) (ps : List (ℕ × ℕ)) (d e : ℕ) →
     Serving R st f from ps → Grows st new → from ≤ e → IsId new d →

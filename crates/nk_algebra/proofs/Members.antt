@@ -193,10 +193,6 @@ pub gathered_every : (P Q : Out → Type 0) (F : Out → List Out) (os : List Ou
 gathered_every P Q F [] f e = tt
 gathered_every P Q F (o ∷ os) f e = merged_every P (F o) (gathered F os) (f o e.0) (gathered_every P Q F os f e.1)
 
--- the outs with one target ascend strictly
-pub aimed_strict : (t : ℕ) (os : List Out) → Strict (aimed t os)
-aimed_strict t os = gathered_strict (λ o. out_to t o ∷ []) os (λ o. (tt, tt))
-
 -- the outs with one target suit the highest values
 pub aimed_suits : (maxes : List ℕ) (t : ℕ) (os : List Out) → Every (Suits maxes) os →
     Every (Suits maxes) (aimed t os)

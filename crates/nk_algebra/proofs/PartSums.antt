@@ -100,11 +100,6 @@ leaf_grows old new f ds v pk k g i s =
     let d = get_or ds k 0 in
     ap (λ c. look new c pk) (sub_grows old new f v d g i) ∙ g.leaves (sub old f v d) pk (s.child v).id
 
--- the first fields stay in a store that grew
-pub from_grows : (old new : Held) (f : ℕ) (ds : List ℕ) → Grows old new → AreIds old ds → AreFrom old f ds →
-    AreFrom new f ds
-from_grows old new f ds g ids from = λ k l. subst (λ t. f ≤ t) (sym (g.tops (get_or ds k 0) (ids k l))) (from k l)
-
 -- the parts of a single diagram
 pub one_sum : (st : Held) (f : ℕ) (ds : List ℕ) (from n d : ℕ) (ps : List (ℕ × ℕ)) → n ≡ 1 → d ≡ get_or ds from 0 →
     HaveParts st f (λ v pk. look st (sub st f v d) pk) ps →
@@ -187,17 +182,6 @@ one_parts st f d high lt c is = record {
 -- none of the first n diagrams tests a field before f
 abbrev pub AreFromTo : Held → ℕ → List ℕ → ℕ → Type 0
 AreFromTo st f ds n = (k : ℕ) → k < n → f ≤ top st (get_or ds k 0)
-
--- with one diagram more
-pub least_next : (st : Held) (ds : List ℕ) (i least m x : ℕ) → AreFromTo st least ds i → x ≡ get_or ds i 0 →
-    m ≡ min least (top st x) → AreFromTo st m ds (i + 1)
-least_next st ds i least m x h is at = λ k l.
-    elim (eqb_tells k i) [
-      | inl same ↦
-          let one : top st x ≡ top st (get_or ds k 0) = ap (λ d. top st d) (is ∙ ap (λ n. get_or ds n 0) (sym same.1)) in
-          omega (arith, at, one)
-      | inr other ↦ omega (arith, at, h k (omega (arith, l, other.1)))
-    ]
 
 -- the part that is found has a child by the field
 pub found_child : (old : Held) (f from : ℕ) (xs : List (ℕ × ℕ)) (p : ℕ × ℕ) → AreParts old f xs →

@@ -82,15 +82,6 @@ whole_applied (s ∷ ss) pk w = whole_applied ss (set pk s.0 s.1) (whole_set pk 
 pub ends_by : (st : Held) (d : ℕ) (F : List ℕ → List Out) → HasLeaves st d F → Ends F → Ends (look st d)
 ends_by st d F h e = λ pk w. subst (Every (λ o. o.target ≡ 0)) (sym (h.leaf pk w)) (e pk w)
 
--- what passes ends
-pub pass_ends : (os : List Out) → IsPass os → Every (λ o. o.target ≡ 0) os
-pass_ends [] p = tt
-pass_ends (o ∷ os) p = (ap (λ (x : Out). x.target) p.0, subst (Every (λ o. o.target ≡ 0)) (sym p.1) tt)
-
--- a predicate's outs end
-pub predicate_ends : (st : Held) (d : ℕ) → IsPredicate st d → Ends (look st d)
-predicate_ends st d p = λ pk w. pass_ends (look st d pk) (p pk w)
-
 -- both together end
 pub ends_merged : (a b : List Out) → Every (λ o. o.target ≡ 0) a → Every (λ o. o.target ≡ 0) b →
     Every (λ o. o.target ≡ 0) (merged a b)

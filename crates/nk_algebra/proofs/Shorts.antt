@@ -17,11 +17,6 @@ use Rattle.nk_algebra.proofs.Weaves.{merged-nil}
 pub merged_same : (a : List Out) → Strict a → merged a a ≡ a
 merged_same a s = strict_same (merged a a) a (merged_strict a a s s) s (λ o h. elim (merged_has o a a h) [ inl k ↦ k | inr k ↦ k ]) (λ o h. merged_left o a a h)
 
--- a leaf where it is not empty itself
-pub guarded_same : (a : List Out) → guarded a a ≡ a
-guarded_same [] = refl
-guarded_same (x ∷ xs) = refl
-
 -- each out after no assignment is the out
 pub prefixed_none : (os : List Out) → Strict os → prefixed [] os ≡ os
 prefixed_none [] s = refl
@@ -41,16 +36,6 @@ pub united_left : (st : Held) (a b : ℕ) → IsId st a → ((pk : List ℕ) →
     HasLeaves st a (λ pk. merged (look st a pk) (look st b pk))
 united_left st a b ia e = record { id = ia; leaf = λ pk w. sym (ap (λ y. merged (look st a pk) y) (e pk) ∙ merged-nil (look st a pk)) }
 
--- and the other way round
-pub united_right : (st : Held) (a b : ℕ) → IsId st b → ((pk : List ℕ) → look st a pk ≡ []) →
-    HasLeaves st b (λ pk. merged (look st a pk) (look st b pk))
-united_right st a b ib e = record { id = ib; leaf = λ pk w. sym (ap (λ x. merged x (look st b pk)) (e pk)) }
-
--- a diagram where it is not empty itself
-pub guarded_self : (st : Held) (a b : ℕ) → IsId st b → a ≡ b →
-    HasLeaves st b (λ pk. guarded (look st a pk) (look st b pk))
-guarded_self st a b ib e = record { id = ib; leaf = λ pk w. sym (ap (λ k. guarded (look st k pk) (look st b pk)) e ∙ guarded_same (look st b pk)) }
-
 -- nothing where a leaf without an out is not empty
 pub guarded_nothing : (st : Held) (a b : ℕ) (n : Node) (outs : List Out) → IsId st a → IsNodeOf st a n →
     n ≡ Leaf outs → outs ≡ [] → HasLeaves st a (λ pk. guarded (look st a pk) (look st b pk))
@@ -60,15 +45,6 @@ guarded_nothing st a b n outs ia k is e = record {
       let empty : look st a pk ≡ [] = (subst (IsNodeOf st a) is k).leaf pk ∙ e in
       empty ∙ sym (ap (λ x. guarded x (look st b pk)) empty);
 }
-
--- a diagram where a leaf with an out is not empty
-pub guarded_whole : (st : Held) (a b : ℕ) (n : Node) (outs : List Out) → IsId st b → IsNodeOf st a n →
-    n ≡ Leaf outs → (outs ≡ [] → ⊥) → HasLeaves st b (λ pk. guarded (look st a pk) (look st b pk))
-guarded_whole st a b n outs ib k is e = record { id = ib; leaf = λ pk w. sym (ap (λ x. guarded x (look st b pk)) ((subst (IsNodeOf st a) is k).leaf pk) ∙ by outs e (look st b pk)) }
-  where
-    by : (xs : List Out) → (xs ≡ [] → ⊥) → (ys : List Out) → guarded xs ys ≡ ys
-    by [] n ys = absurd (n refl)
-    by (x ∷ xs) n ys = refl
 
 -- a list without items is empty
 pub no_items : {A : Type 0} (xs : List A) → length xs ≡ 0 → xs ≡ []

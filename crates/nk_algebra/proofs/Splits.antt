@@ -240,22 +240,3 @@ moved_made old s1 s2 f a b moved d ib g hm hd = record {
 pub split_first : (st : Held) (f d : ℕ) → IsId st d → ((e : ℕ) → IsId st e → IsNodeOf st e (node_of st e)) →
     f ≤ top st d → f < 18 → IsSplit st f d
 split_first st f d i k l h = split_at st f d (node_of st d) i refl (k d i) l h
-
--- an out of the other kind is not let pass
-pub passed_not : (f : ℕ) (b : Bool) (o : Out) → assigns f o.act ≢ b → passed f b o ≡ []
-passed_not f b o n = by (assigns f o.act) b n
-  where
-    by : (s c : Bool) → s ≢ c → cond s (cond c (o ∷ []) []) (cond c [] (o ∷ [])) ≡ []
-    by true true m = absurd (m refl)
-    by true false m = refl
-    by false true m = refl
-    by false false m = absurd (m refl)
-
--- one of its kind is
-pub passed_is : (f : ℕ) (b : Bool) (o : Out) → assigns f o.act ≡ b → passed f b o ≡ o ∷ []
-passed_is f b o e =
-    ap (λ c. cond (assigns f o.act) (cond c (o ∷ []) []) (cond c [] (o ∷ []))) (sym e) ∙ by (assigns f o.act)
-  where
-    by : (s : Bool) → cond s (cond s (o ∷ []) []) (cond s [] (o ∷ [])) ≡ o ∷ []
-    by true = refl
-    by false = refl

@@ -74,10 +74,6 @@ halves_have_leaves old s1 s2 s3 ds from middle to left right new g h ids t a b e
       ∙ unions_halves old ds from (middle - from) (to - middle) pk t ∙ ap (λ n. unions old ds from n pk) count;
 }
 
--- numbers stay numbers in a store that grew
-pub ids_grow : (old new : Held) (ds : List ℕ) → Grows old new → AreIds old ds → AreIds new ds
-ids_grow old new ds g ids = λ k l. g.ids (get_or ds k 0) (ids k l)
-
 -- a single diagram
 pub one_has_leaves : (st : Held) (ds : List ℕ) (from n d : ℕ) → n ≡ 1 → d ≡ get_or ds from 0 →
     from < length ds → AreIds st ds → HasLeaves st d (λ pk. unions st ds from n pk)

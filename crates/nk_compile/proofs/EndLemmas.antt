@@ -20,10 +20,6 @@ or_turn : (a b c : Option ℕ) → or_else (or_else a b) c ≡ or_else a (or_els
 or_turn None b c = refl
 or_turn (Some n) b c = refl
 
--- no part has no end
-pub no_more_ends : (ends : List (Option ℕ)) → HaveEnds ends ends no_part
-no_more_ends ends = record { count = refl; each = λ l lt. sym (or_none (get_or ends l None)) }
-
 -- one more part in front
 pub ends_before : (old mid new : List (Option ℕ)) (p : Policy) (ps : Policies) → HasEnds old mid p → HaveEnds mid new ps → HaveEnds old new (part p ps)
 ends_before old mid new p ps a b = record {

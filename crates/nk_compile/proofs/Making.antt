@@ -131,18 +131,3 @@ module _ (fields : FieldTable) (topo : Topology) (tag : ℕ) (p : Policy) (is : 
   many_error levels max (Refused SwitchSet) ends most to h = absurd h
   many_error levels max (Refused NoSuchLink) ends most to h = absurd h
   many_error levels max (Refused (OffEdge start history)) ends most to h = absurd h
-
--- what is seen is the reason
-pub seen_reason : (fields : FieldTable) (topo : Topology) (p : Policy) (tag : ℕ) (r : Refusal) → fields.tag ≡ Some tag →
-    seen_with tag topo p ≡ Some r → IsReason fields topo p r
-seen_reason fields topo p tag r is h = reason r (ap (λ o. seen_for o topo p) is ∙ h) (seen_is tag topo p r h)
-  where
-    reason : (q : Refusal) → seen fields topo p ≡ Some q → IsSeen q → IsReason fields topo p q
-    reason NoPolicy s w = s
-    reason NoTag s w = s
-    reason TagUsed s w = s
-    reason LooseDup s w = s
-    reason SwitchSet s w = s
-    reason NoSuchLink s w = s
-    reason (OffEdge start history) s w = absurd w
-    reason (TooManyTags found) s w = absurd w

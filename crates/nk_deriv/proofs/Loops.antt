@@ -103,13 +103,6 @@ silent_one old out new next rest p left all skip none e inv =
     (rests_silent out new (rest (part p left)) (numbers_of p) next e (no_dups p none))
     inv
 
--- the part at the place is fit
-pub fit_at : (q : Pol) (xs : List Pol) (i : ℕ) → i < length xs → q ≡ get_or xs i q → AreFit (trees_of (drop i xs))
-    → HasDistinct (tree_of q) × NegatesPredicates (tree_of q) × MarksBelow (tree_of q) (2 ^ 32 - 1)
-fit_at q xs i lt is f =
-    let here : AreFit (part (tree_of q) (trees_of (drop (i + 1) xs))) = subst (λ l. AreFit (trees_of l)) (left_is xs i q lt is) f in
-    (here.distinct.0, here.complements.0, here.fit.0)
-
 -- the loop over a sum, after one more part
 pub sum_next : (old out new : List (ℕ × Part)) (next : Part) (q : Pol) (xs : List Pol) (i : ℕ)
     → i < length xs → q ≡ get_or xs i q

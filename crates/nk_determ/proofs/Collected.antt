@@ -13,14 +13,6 @@ use Rattle.nk_store.proofs.Looks.{joined_some}
 use Rattle.nk_determ.specs.Unchanged.{AreAmong, HasItems, AllHaveItems}
 use Rattle.nk_determ.proofs.HaveSets.{child_place}
 
--- each item is one of itself
-pub among_same : (xs : List ℕ) → AreAmong xs xs
-among_same xs v c = c
-
--- and one of more items
-pub among_front : (xs ys zs : List ℕ) → zs ≡ xs ++ ys → AreAmong xs zs
-among_front xs ys zs e v c = subst (λ l. Contains l v) (sym e) (Contains-append_left xs ys v c)
-
 -- the items put behind are there
 pub among_back : (xs ys zs : List ℕ) → zs ≡ xs ++ ys → AreAmong ys zs
 among_back xs ys zs e v c = subst (λ l. Contains l v) (sym e) (Contains-append_right xs ys v c)

@@ -85,9 +85,3 @@ packet_step t with_tag pk out more whole f n lt e inv =
     let rest = flat_map (further t with_tag pk) (range_with_len (f + 1) (n - (f + 1))) in
     ap (λ l. l ++ rest) e ∙ append_assoc out (further t with_tag pk f) rest
     ∙ ap (λ fs. out ++ flat_map (further t with_tag pk) fs) (sym (range_first f n lt)) ∙ inv
-
--- a joined list that goes on
-pub joined_on : {X Y : Type 0} (g : X → List Y) (sep : List Y) (x y : X) (xs : List X)
-    → join_by g sep (x ∷ xs ++ y ∷ []) ≡ g x ++ (sep ++ join_by g sep (xs ++ y ∷ []))
-joined_on g sep x y [] = ap (λ l. g x ++ l) (append_assoc sep (g y) [])
-joined_on g sep x y (z ∷ zs) = ap (λ l. g x ++ l) (append_assoc sep (g z) (flat_map (λ v. sep ++ g v) (zs ++ y ∷ [])))

@@ -37,13 +37,6 @@ pub said_more : (ds : List Decl) (i : ℕ) (d : Decl) (s s' : Said) (all : Resul
 said_more ds i d s s' all lt is e h =
     sym (ap (λ l. said_after l s) (rest_declared ds i d lt is) ∙ ap (λ r. going_on r (said_after (map declaration_of (drop (i + 1) ds)))) e) ∙ h
 
--- a fault of a declaration is the fault of the text
-pub fault_of_all : (ds : List Decl) (i : ℕ) (d : Decl) (s : Said) (all : Result Said NamesError) (e : NamesError) → i < length ds → d ≡ get_or ds i d
-    → IsFault e (said_with s (declaration_of d)) → said_after (map declaration_of (drop i ds)) s ≡ all → IsFault e all
-fault_of_all ds i d s all NoMemory lt is f h = tt
-fault_of_all ds i d s all (Fault k line) lt is f h =
-    sym h ∙ ap (λ l. said_after l s) (rest_declared ds i d lt is) ∙ ap (λ r. going_on r (said_after (map declaration_of (drop (i + 1) ds)))) f
-
 -- each declaration is written as the grammar has it
 pub written_at : (ds : List Decl) (i : ℕ) (d : Decl) → All IsWritten (map declaration_of ds) → i < length ds → d ≡ get_or ds i d → IsWritten (declaration_of d)
 written_at ds i d h lt is =
@@ -59,15 +52,6 @@ written_at ds i d h lt is =
 pub record HasLets (s : Said) : Type 0 where
   pub maxima : All (λ m. m ≤ 281474976710655) s.fields.maxima
   pub policies : All (λ l. IsLet s.fields l.1) s.lets
-
--- nothing said has none
-pub no_lets : HasLets nothing_said
-no_lets = record { maxima = λ k d lt. two k d lt; policies = λ k d lt. absurd (omega (arith, lt)) }
-  where
-    two : (k d : ℕ) → k < 2 → get_or nothing_said.fields.maxima k d ≤ 281474976710655
-    two zero d lt = omega arith
-    two (suc zero) d lt = omega arith
-    two (suc (suc k)) d lt = absurd (omega (arith, lt))
 
 -- a policy stays one over more fields
 more_fields : (fields more : FieldTable) → ((f v : ℕ) → IsValue fields f v → IsValue more f v) → (p : Policy) → IsLet fields p → IsLet more p

@@ -12,12 +12,6 @@ or_none : (b : Bool) → (b || false) ≡ b
 or_none true = refl
 or_none false = refl
 
--- one place more
-pub place_push : (places more : List (ℕ × ℕ)) (p : ℕ × ℕ) (pk : List ℕ) → more ≡ places ++ p ∷ [] →
-    is_at_place more pk ≡ (is_at_place places pk || is_at p pk)
-place_push places more p pk e =
-    ap (λ l. is_at_place l pk) e ∙ list_any-append (λ q. is_at q pk) places (p ∷ []) ∙ ap (λ b. is_at_place places pk || b) (or_none (is_at p pk))
-
 -- choices in another order of parentheses
 or_assoc : (a b c : Bool) → ((a || b) || c) ≡ (a || (b || c))
 or_assoc true b c = refl

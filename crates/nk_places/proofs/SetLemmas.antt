@@ -14,11 +14,6 @@ use Rattle.nk_algebra.specs.Leaves.{weave, merged, guarded, absent, by_order}
 use Rattle.nk_algebra.specs.Unions.{unions}
 use Rattle.nk_places.specs.PacketSets.{has_out, IsSetInRange}
 
--- a list without an out is empty
-pub no_outs : (outs : List Out) → has_out outs ≡ false → outs ≡ []
-no_outs [] e = refl
-no_outs (o ∷ os) e = cc
-
 -- an out there is
 pub test_out : (b : Bool) (o : Out) → has_out (cond b (o ∷ []) []) ≡ b
 test_out true o = refl

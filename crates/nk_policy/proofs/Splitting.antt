@@ -20,10 +20,6 @@ link_records : (a m b n k : ℕ) (pk : Packet) (u : Marked) (x : Packet) (l : �
     → AllRecordAt (link_parts a m b n k) pk u x l → RecordsAt (link a m b n k) pk u x l
 link_records a m b n k pk u x l r = r
 
--- and what is left of it
-pub link_after : (a m b n k l : ℕ) → after_all (link_parts a m b n k) l ≡ after (link a m b n k) l
-link_after a m b n k l = refl
-
 -- the parts of a link literal from the second on
 abbrev pub after1 : ℕ → ℕ → ℕ → ℕ → Policies
 after1 m b n k = part (test 1 m) (part (dup k) (part (assign 0 b) (part (assign 1 n) (part (dup (k + 1)) no_part))))

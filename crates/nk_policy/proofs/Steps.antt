@@ -48,11 +48,6 @@ expanded_more xs i q y out out' all most lt is e f inv =
       below.1,
     )
 
--- the part that comes next meets what is asked of all that are left
-pub marks_next : (xs : List Pol) (i : ℕ) (q : Pol) (most : ℕ) → i < length xs → q ≡ get_or xs i q
-    → AllMarksBelow (trees_of (drop i xs)) most → MarksBelow (tree_of q) most
-marks_next xs i q most lt is h = let below : AllMarksBelow (trees_of (q ∷ drop (i + 1) xs)) most = subst (λ l. AllMarksBelow (trees_of l) most) (left_is xs i q lt is) h in below.0
-
 -- the loop's fact, after one more part is copied
 pub copied_more : (xs : List Pol) (i : ℕ) (q y : Pol) (out out' : List Pol) (all : Policies)
     → i < length xs → q ≡ get_or xs i q → out' ≡ out ++ y ∷ [] → tree_of y ≡ tree_of q

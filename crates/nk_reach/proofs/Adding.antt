@@ -292,10 +292,6 @@ added_put st new ps t y v g h o j = record {
   once = put_once ps t v o;
 }
 
--- nothing more
-pub merged_none : (st : Held) (met : List (ℕ × ℕ)) → HaveSets st met → Once met → IsMerged st met [] st met
-merged_none st met e o = record { either = λ i x w u. inl u; old = λ i x w u. u; more = λ i x w u. absurd u; named = λ i n. inl n; packets = e; once = o }
-
 -- one entry more
 pub merged_push : (a st new : Held) (met level all more : List (ℕ × ℕ)) (p : ℕ × ℕ) → IsMerged a met level st all → Grows a st → IsSet a p.1 → IsAdded st all p.0 p.1 new more → IsMerged a met (level ++ p ∷ []) new more
 merged_push a st new met level all more p m g k d = record {
@@ -343,10 +339,6 @@ split_at (q ∷ qs) (suc k) p l is = let w = split_at qs k p (omega (arith, l)) 
 -- the set of an entry is not named before its place
 pub once_before : (ps : List (ℕ × ℕ)) (k : ℕ) (p : ℕ × ℕ) → Once ps → k < length ps → p ≡ get_or ps k p → Named (take k ps) p.0 → ⊥
 once_before ps k p o l is = let w = split_at ps k p l is in once_apart (take k ps) w.0 p (subst (λ (q : List (ℕ × ℕ)). Once q) w.1 o)
-
--- no entries, none left
-pub fresh_none : (st : Held) (met : List (ℕ × ℕ)) → IsFresh st met [] st []
-fresh_none st met = record { from = λ i x w u. u; unmet = λ i x w u. absurd u; every = λ i x w u n. absurd u; named = λ i n. n; packets = tt; filled = tt; once = tt }
 
 -- an entry with packets left
 pub fresh_push : (a st new : Held) (met done level : List (ℕ × ℕ)) (p : ℕ × ℕ) (r : ℕ) → HaveSets a met → IsFresh a met done st level → Grows a st → IsSet a p.1 → Grows st new → IsRest st met p.0 p.1 new r → IsFilled new r → (Named done p.0 → ⊥) → IsFresh a met (done ++ p ∷ []) new (level ++ (p.0, r) ∷ [])

@@ -44,10 +44,6 @@ some_out : (os : List Out) → (os ≡ [] → ⊥) → has_out os ≡ true
 some_out [] n = absurd (n refl)
 some_out (o ∷ os) n = refl
 
--- no entry yet
-pub bad_so_far_none : (st : Held) (ss : List (List ℕ)) (bad : List ℕ → List ℕ → List Out) → IsBadSoFar st ss bad [] st []
-bad_so_far_none st ss bad = record { from = λ i z w u. absurd u; every = λ i z w u b. absurd u; named = λ i n. absurd n; packets = tt; once = tt }
-
 -- one entry more
 pub bad_so_far_push : (a st s1 s2 new : Held) (ss : List (List ℕ)) (rows : ℕ) (bad : List ℕ → List ℕ → List Out) (F : List ℕ → List Out) (done back more : List (ℕ × ℕ)) (p : ℕ × ℕ) (d r : ℕ) → IsBadSoFar a ss bad done st back → Grows a st → Grows st s1 → HasLeaves s1 d F →
     ((pk : List ℕ) → F pk ≡ bad (get_or ss p.0 []) pk) → Grows s1 s2 → HasLeaves s2 r (λ pk. guarded (look s1 d pk) (look s1 p.1 pk)) → IsPair a ss rows p → IsAdded s2 back p.0 r new more → IsBadSoFar a ss bad (done ++ p ∷ []) new more

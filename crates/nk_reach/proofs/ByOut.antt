@@ -89,10 +89,6 @@ leaf_by_out st d outs all es id leaf h past p is = subst (IsByOut st d) (sym is)
       );
 })
 
--- none before the first value
-pub up_to_start : (st : Held) (d f : ℕ) → IsUpTo st d f 0 st []
-up_to_start st d f = record { given = λ k l. absurd (omega (arith, l)); goes = λ x o p w. absurd (omega (arith, w.2)); comes = λ x o p l c. absurd (omega (arith, l)) }
-
 -- those of one part more
 up_to_push : (a st new : Held) (d f from : ℕ) (p : ℕ × ℕ) (es : List Given) (all : List Stretch) → IsId a d → IsSplit a f d → Grows a st → IsPart st f d from p → Grows st new →
     IsByOut new p.1 es → IsUpTo a d f from st all → IsUpTo a d f (p.0 + 1) new (all ++ map (stretch from p.0) es)

@@ -8,10 +8,6 @@ use Rattle.nk_reach.proofs.Kept.{packet_on, packet_back, has_on, has_back}
 use Rattle.nk_reach.proofs.Growing.{sets_known, sets_same, under_named, pairs_of, step_on, step_back}
 use Rattle.nk_reach.proofs.Adding.{under_append, under_left, under_right}
 
--- no entries lead to nothing
-pub so_far_none : (st : Held) (ss : List (List ℕ)) (rows : List ℕ) → IsSoFar st ss rows [] st ss []
-so_far_none st ss rows = record { from = λ i y w u. absurd u; every = λ m n p w s. absurd w.2; named = λ i n. absurd n; packets = tt; once = tt }
-
 -- one entry more
 pub so_far_push : (a st new : Held) (ass ss nss : List (List ℕ)) (rows : List ℕ) (done raw more : List (ℕ × ℕ)) (p : ℕ × ℕ) → AreRows a rows → IsSoFar a ass rows done st ss raw → Grows a st → SetsGrow ass ss → SetsGrow ss nss → IsPair a ass (length rows) p → IsFollowed st rows (get_or ss p.0 []) p.1 raw new nss more → IsSoFar a ass rows (done ++ p ∷ []) new nss more
 so_far_push a st new ass ss nss rows done raw more p rows_ok m g s t q f =

@@ -17,10 +17,6 @@ use Rattle.nk_reach.proofs.Stretches.{stretches_on, has_at_on, has_at_back, any_
 pub none_on : (a b : Held) (d : ℕ) → Grows a b → IsNone a d → IsNone b d
 none_on a b d g n = record { leaves = record { id = g.ids d n.leaves.id; leaf = λ pk w. g.leaves d pk n.leaves.id ∙ n.leaves.leaf pk w }; later = g.tops d n.leaves.id ∙ n.later }
 
--- none put together
-pub united_none : (st : Held) (f : ℕ) (ss : List Stretch) → AreUnited st f ss 0 st []
-united_none st f ss = record { given = λ k l. absurd (omega (arith, l)); later = λ k l. absurd (omega (arith, l)); from = λ x o p w. absurd (omega (arith, w.2)); more = λ x o p w. absurd (omega (arith, w.2)) }
-
 -- one run more put together
 pub united_push : (a st new : Held) (f : ℕ) (ss : List Stretch) (from to : ℕ) (made : List Given) (o : Out) (p : ℕ) → AreStretches a f ss → o ≡ (piece ss from).out → Grows a st → Grows st new →
     IsRunOf st f ss from to new p → AreUnited a f ss from st made → AreUnited a f ss to new (made ++ record { out = o; packets = p } ∷ [])

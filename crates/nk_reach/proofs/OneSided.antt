@@ -127,10 +127,6 @@ marks_ids a st rows left right bound n ends m i l = elim (eqb_tells i 0) [
   | inr some ↦ (m.rest i (omega (arith, some.1)) (omega (arith, l, m.count))).id
 ]
 
--- no label is marked
-pub marks_none : (a : Held) (rows : List ℕ) (left right bound : ℕ) → AreMarked a rows left right bound 0 a []
-marks_none a rows left right bound = record { count = refl; start = λ p. absurd (omega (arith, p)); rest = λ i p q. absurd (omega (arith, q)) }
-
 -- a table with one more entry, each with the property
 table_put : (P : ℕ → ℕ → Type 0) (key r : ℕ) (old new : List (ℕ × ℕ)) → ((q z : ℕ) → lookup (eqb q) old ≡ Some z → P q z) → P key r →
     ((q : ℕ) → lookup (eqb q) new ≡ cond (eqb key q) (Some r) (lookup (eqb q) old)) → (q z : ℕ) → lookup (eqb q) new ≡ Some z → P q z
@@ -169,10 +165,6 @@ alones_put old new d r before after g i are k put =
 -- the goal at its start
 pub goal_new : (st : Held) (ends : List ℕ) (table : List (ℕ × ℕ)) → AreIds st ends → table ≡ [] → IsGoalOf st ends table
 goal_new st ends table ids is = record { ids = ids; made = no_entry (IsAloneOf st) table is }
-
--- no row is marked
-pub no_marks : (st : Held) (mark : ℕ) (table : List (ℕ × ℕ)) → table ≡ [] → AreMarkedOf st mark table
-no_marks st mark table is = no_entry (IsMarkedOf st mark) table is
 
 -- marked rows stay so while the store grows
 pub marks_on : (old new : Held) (mark : ℕ) (table : List (ℕ × ℕ)) → Grows old new → AreMarkedOf old mark table → AreMarkedOf new mark table

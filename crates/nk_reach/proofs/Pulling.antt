@@ -33,10 +33,6 @@ pulled_none st new o p r next h k none = record {
   every = λ z t w m e u. absurd (none t (applied o.act z) e u);
 }
 
--- where the out has no set
-pub pulled_final : (st new : Held) (o : Out) (p r : ℕ) (next : List (ℕ × ℕ)) → HasLeaves new r (λ pk. []) → IsPredicate new r → o.target ≡ 0 → IsPulled st o p next new r
-pulled_final st new o p r next h k e = pulled_none st new o p r next h k (λ t z is u. absurd (omega (arith, is, e)))
-
 -- where the out's set has no entry
 pub pulled_missing : (st new : Held) (o : Out) (p r t : ℕ) (next : List (ℕ × ℕ)) → HasLeaves new r (λ pk. []) → IsPredicate new r → t + 1 ≡ o.target → lookup (eqb t) next ≡ None → IsPulled st o p next new r
 pulled_missing st new o p r t next h k e miss =
@@ -134,10 +130,6 @@ pulled_pair_of st s1 s2 new ss nss rows set x d es next r g1 g2 grow differ pair
 
     sets : HaveSets st next
     sets = packets_of st ss (length rows) next pairs.each
-
--- no entry yet
-pub pulled_so_far_none : (st : Held) (ss : List (List ℕ)) (rows : List ℕ) (next : List (ℕ × ℕ)) → IsPulledSoFar st ss rows next [] st []
-pulled_so_far_none st ss rows next = record { from = λ i z w u. absurd u; every = λ i z k w u s n. absurd u; named = λ i n. absurd n; packets = tt; once = tt }
 
 -- one entry more
 pub pulled_so_far_push : (a st mid new : Held) (ass ss : List (List ℕ)) (rows : List ℕ) (next done back more : List (ℕ × ℕ)) (p : ℕ × ℕ) (r : ℕ) → AreRows a rows → IsPulledSoFar a ass rows next done st back → Grows a st → SetsGrow ass ss → Grows st mid → ArePairs a ass (length rows) next →

@@ -15,11 +15,6 @@ way_of Start Step (suc i) n r =
     let w = way_of Start Step i r.0 r.1 in
     (w.0, w.1 ++ n ∷ [], w.2, omega (arith, length-append w.1 (n ∷ []), w.3), way_push Step w.0 r.0 n w.1 w.4 r.2)
 
--- a way from what is reached reaches its end
-pub reach_on : {N : Type 0} (Start : N → Type 0) (Step : N → N → Type 0) (i j : ℕ) (m n : N) (ks : List N) → Reach Start Step i m → Way Step m ks n → i + length ks ≡ j → Reach Start Step j n
-reach_on Start Step i j m n [] r w e = let z : i ≡ j = omega (arith, e) in subst (λ q. Reach Start Step j q) w (subst (λ k. Reach Start Step k m) z r)
-reach_on Start Step i j m n (q ∷ qs) r w e = reach_on Start Step (suc i) j q n qs (m, r, w.0) w.1 (omega (arith, e))
-
 -- what is bad is not reached before the last level
 pub bad_not_early : {N : Type 0} (Start : N → Type 0) (Step : N → N → Type 0) (Good : N → Type 0) (Lev : ℕ → N → Type 0) (Bad : N → Type 0) (h : ℕ) (n : N) → Exact Start Step Good Lev (h + 1) → ((j : ℕ) (n : N) → j < h + 1 → Good n → Lev j n ⊎ (Lev j n → ⊥)) → ((i : ℕ) → i < h → Lev i n → Bad n → ⊥) → Good n → Bad n → (j : ℕ) → j < h → Reach Start Step j n → ⊥
 bad_not_early Start Step Good Lev Bad h n e dec goal g b j l r =
@@ -27,8 +22,3 @@ bad_not_early Start Step Good Lev Bad h n e dec goal g b j l r =
       | inl found ↦ goal found.0 (omega (arith, found.1, l)) found.2 b
       | inr none ↦ not_before Start Step Good Lev (h + 1) (j + 1) n e (omega (arith, l)) none j (omega arith) r
     ]
-
--- a shortest way to something bad passes each level at its own place
-pub on_the_way : {N : Type 0} (Start : N → Type 0) (Step : N → N → Type 0) (Good : N → Type 0) (Lev : ℕ → N → Type 0) (h i : ℕ) (k n : N) (ks : List N) → Exact Start Step Good Lev (h + 1) → ((j : ℕ) → j < h → Reach Start Step j n → ⊥) → Reach Start Step i k → Way Step k ks n → i + length ks ≡ h → Lev i k
-on_the_way Start Step Good Lev h i k n ks e early r w s =
-    e.full i k (omega (arith, s)) r (λ j l q. early (j + length ks) (omega (arith, s, l)) (reach_on Start Step j (j + length ks) k n ks q w refl))

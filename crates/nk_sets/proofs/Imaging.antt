@@ -123,10 +123,6 @@ assigned_push old st s1 new g s kept t d p a b k test h predicate = record {
       ∙ sym (assigned_more old.maxes g p pk (is_in old s pk));
 }
 
--- no value
-pub assigned_none : (st : Held) (s : ℕ) → IsSet st s → IsSetOf st s (λ pk. true && is_in st s pk)
-assigned_none st s is = record { set = is; at = λ pk w. refl }
-
 -- assigned values stand where the packet is the same beside them
 made_same :
     (maxes : List ℕ) (low : ℕ) (g : List (ℕ × ℕ)) (x y : List ℕ) → IsActFrom maxes low g → IsWhole x

@@ -248,12 +248,6 @@ module _ (st : Held) (sound : Sound st.maxes st.nodes) where
           by true = refl
           by false = refl
 
--- one term alone stands for itself
-pub only_is :
-    (xs ys : List Pol) (x : Pol) → length xs ≡ 1 → xs ≡ ys ++ x ∷ [] → tree_of x ≡ sum_of_terms (map tree_of xs)
-only_is xs [] x l e = ap (λ zs. sum_of_terms (map tree_of zs)) (sym e)
-only_is xs (y ∷ ys) x l e = absurd (omega (arith, l, ap length e, length-append ys (x ∷ [])))
-
 -- the predicate of a leaf without an out
 pub none_is : (outs : List Out) → length outs ≡ 0 → predicate_of (leaf outs) ≡ drop_policy
 none_is [] e = refl

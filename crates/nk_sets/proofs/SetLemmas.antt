@@ -26,13 +26,6 @@ pub absent_out : (p d : List Out) → has_out (absent p d) ≡ not (has_out p)
 absent_out [] d = refl
 absent_out (x ∷ xs) d = refl
 
--- a test in either order
-pub and_turned : (a b : Bool) → a && b ≡ b && a
-and_turned true true = refl
-and_turned true false = refl
-and_turned false true = refl
-and_turned false false = refl
-
 -- a predicate stays one in a store that grew
 pub predicate_grows : (old new : Held) (d : ℕ) → Grows old new → IsId old d → IsPredicate old d → IsPredicate new d
 predicate_grows old new d g i p = λ pk w. subst IsPass (sym (g.leaves d pk i)) (p pk w)

@@ -57,10 +57,6 @@ one_crossed t cs k s (Some to) h =
       All-cons (Has (cs ++ c ∷ []) (suc k)) f [] (within, subst (λ (d : Crossing). HasTrail (cs ++ c ∷ []) k d.earlier) (sym at) rest.1) (All-nil (Has (cs ++ c ∷ []) (suc k))),
     )
 
--- no copy has crossed yet
-pub crossed_none : (t : Tables) (cs : List Crossing) (k : ℕ) → AreCrossed t cs cs k [] []
-crossed_none t cs k = record { more = []; grown = sym (append-nil cs); copies = refl; trails = All-nil (Has cs (suc k)) }
-
 -- one sent copy more
 pub crossed_step : (t : Tables) (cs ds es : List Crossing) (k : ℕ) (sent next last : List Flying) (s : Flying) → HasTrail cs k s.last
     → AreCrossed t cs ds k sent next → es ≡ ds ++ crossing_by t s (link_of_sent t s) → last ≡ next ++ flying_by (length ds) s (link_of_sent t s)

@@ -100,10 +100,6 @@ pub record IsFresh (st : Held) (fresh : ℕ) (D : List ℕ → List Out) (n : �
   pub id : IsId st fresh
   pub enough : (pk : List ℕ) → IsWhole pk → merged (rounds D n pk) (seq_leaf (look st fresh pk) D pk) ≡ rounds D (suc n) pk
 
--- at first the packet itself is what was added
-pub fresh_first : (st : Held) (d : ℕ) (D : List ℕ → List Out) → HasLeaves st d (λ pk. no_out ∷ []) → IsFresh st d D 0
-fresh_first st d D h = record { id = h.id; enough = λ pk w. ap (λ xs. merged (no_out ∷ []) (seq_leaf xs D pk)) (h.leaf pk w) }
-
 -- what a copy makes of an out
 made_by : (D : List ℕ → List Out) (pk : List ℕ) (o p q : Out) (xs : List Out) → Has xs p →
     Has (D (applied p.act pk)) q → out_after p.act q ≡ o → Has (seq_leaf xs D pk) o

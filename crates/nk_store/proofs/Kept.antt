@@ -116,38 +116,11 @@ pub answers_after : {T E : Type 0} (st : Held) (old new : List (Key × ℕ)) (k 
 answers_after st old new k d (Ok x) m a u e = answers_kept st old new k d m a u
 answers_after st old new k d (Err x) m a u e = subst (AreAnswers st) (sym e) m
 
--- no answer at all is kept at first
-pub answers_none : (st : Held) (rows : List (Key × ℕ)) → ((k : Key) → lookup (key_eq k) rows ≡ None) →
-    AreAnswers st rows
-answers_none st rows none = λ k d e. absurd (differs (sym (none k) ∙ e))
-  where
-    differs : {d : ℕ} → None ≡ Some d → ⊥
-    differs e = cc
-
 -- what is found of a key is its answer
 pub recalled : (st : Held) (rows : List (Key × ℕ)) (k : Key) (o : Option ℕ) → AreAnswers st rows →
     o ≡ lookup (key_eq k) rows → IfSome o (λ d. IsAnswer st k.operation k.left k.right d)
 recalled st rows k None m e = tt
 recalled st rows k (Some d) m e = m k d (sym e)
-
--- what an operation made of diagrams of an earlier store is its answer now
-pub answer_made : (old new : Held) (operation : Operation) (a b d : ℕ) → Grows old new → IsId old a →
-    IsId old b → HasLeaves new d (λ pk. made operation old.maxes (look old a pk) (look old b) pk) →
-    IsAnswer new operation a b d
-answer_made old new operation a b d g ia ib h =
-    let second : look old b ≡ look new b = λ i pk. sym (g.leaves b pk ib) i in
-    record {
-      left = g.ids a ia;
-      right = g.ids b ib;
-      leaves = record {
-        id = h.id;
-        leaf = λ pk w.
-            h.leaf pk w
-            ∙ ap (λ ms. made operation ms (look old a pk) (look old b) pk) (sym g.maxes)
-            ∙ ap (λ x. made operation new.maxes x (look old b) pk) (sym (g.leaves a pk ia))
-            ∙ ap (λ B. made operation new.maxes (look new a pk) B pk) second;
-      };
-    }
 
 -- a leaf that is kept is that leaf in a store that grew
 pub leaf_kept : (old new : Held) (outs : List Out) (o : Option ℕ) → Grows old new → IsKeptLeaf old outs o →

@@ -164,11 +164,6 @@ stored_id st base xs d e n m v h k same is =
     let s = stored_node st base xs d n v h k in
     (subst (IsId st) (sym same) s.0, ap (λ i. node_at st.nodes i) same ∙ s.1 ∙ is)
 
--- a store has as many nodes as its list oldest first
-pub read_past : (st : Held) (base : Held) (xs : List Node) (i : ℕ) → with_nodes base (reverse xs) ≡ st →
-    length st.nodes ≡ length xs
-read_past st base xs i e = ap (λ (s : Held). length s.nodes) (sym e) ∙ length-reverse xs
-
 -- no part at all covers no value
 no_parts : (high : ℕ) → Rises high 0 [] → ⊥
 no_parts high r = omega (arith, r)

@@ -11,11 +11,6 @@ use Rattle.nk_switches.specs.Tagged.{set_of, members_of, LeadsWith, SendsBy, IsT
 use Rattle.nk_switches.proofs.Growing.{tag_set_kept}
 use Rattle.nk_switches.proofs.Printing.{some_member, one_set}
 
--- the rows of a later tag
-pub members_later : (ss : List (List ℕ)) (tags : List ℕ) (t : ℕ) → (t ≡ 0 → ⊥) → members_of ss tags t ≡ map (λ l. l + 1) (get_or ss (get_or tags (t - 1) 0) [])
-members_later ss tags zero h = absurd (h refl)
-members_later ss tags (suc t) h = let e : suc t - 1 ≡ t = omega arith in ap (λ i. map (λ l. l + 1) (set_of ss tags i)) (sym e)
-
 -- equal values that are there
 pub same_some : (a b : ℕ) → Some a ≡ Some b → a ≡ b
 same_some a b e = cc

@@ -186,12 +186,6 @@ best_equal seen b r tied is same = (
   equal [] seen r b is.0 (sym same) (λ x i. let le = is.1 x i in omega (arith, le, same)),
 )
 
--- and what is known at the end
-pub best_is : (seen : List Row) (best : Option Row) (tied : Bool) → IsBest seen best tied → (if tied then None else best) ≡ highest [] seen
-best_is seen None true is = ap (highest []) (sym is)
-best_is seen None false is = ap (highest []) (sym is)
-best_is seen (Some b) tied is = sym is.2
-
 -- one more row that matches
 pub one_more : (test : Row → Bool) (rows : List Row) (i : ℕ) (r : Row) → i < length rows → r ≡ get_or rows i r → test r ≡ true →
     filter test (take (i + 1) rows) ≡ filter test (take i rows) ++ r ∷ []

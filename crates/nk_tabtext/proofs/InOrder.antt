@@ -44,7 +44,3 @@ table_in_order fields t h = record {
   matches = matches_in_order fields t.groups t.rows h.rows;
   targets = targets_in_order fields t.groups t.rows h.rows;
 }
-
-pub printable_in_order : (t : Tables) → IsPrintable t → AreInOrder t
-printable_in_order t h =
-    all_from_members IsTableInOrder t.tables (λ u i. table_in_order t.fields u (members_from_all (IsTableOf t.fields) t.tables h.tables u i))
