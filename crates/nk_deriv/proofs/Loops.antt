@@ -9,14 +9,14 @@ use Rattle.nk_policy.specs.Policy.{Policy, Policies, test, assign, sum_of, seq_o
 use Rattle.nk_policy.specs.Tree.{tree_of, trees_of}
 use Rattle.nk_policy.specs.Meaning.{Gives}
 use Rattle.nk_policy.specs.After.{id_policy, has_dup, some_has_dup, after, after_some, after_all}
-use Rattle.nk_policy.specs.Distinct.{HasDistinct, AllDistinct}
+use Rattle.nk_policy.specs.Distinct.{AllDistinct}
 use Rattle.nk_policy.proofs.Tests.{or_left, or_right}
 use Rattle.nk_policy.proofs.Steps.{left_is}
 use Rattle.nk_policy.proofs.Remade.{numbers_are}
 use Rattle.nk_policy.proofs.DupsOfRuns.{rest_dups}
 use Rattle.nk_policy.proofs.Uses.{rest_uses}
 use Rattle.nk_deriv.specs.declared.values.Part.{Part}
-use Rattle.nk_deriv.specs.Part.{NegatesPredicates, AllNegatePredicates, IsMadeOf, IsRowOf, IsWithin, RowsGive, IsPart}
+use Rattle.nk_deriv.specs.Part.{AllNegatePredicates, IsMadeOf, IsRowOf, IsWithin, RowsGive, IsPart}
 use Rattle.nk_deriv.specs.Turns.{IsIn, ArePartsOf, IsContinued, IsFollowed, AreRests}
 use Rattle.nk_deriv.proofs.Silent.{none_ends}
 use Rattle.nk_deriv.proofs.Steps.{made_id}

@@ -1,6 +1,6 @@
 -- One more part of a list that is rebuilt.
 use Rattle.std.proofs.Common.{◌≡◌, ℕ, ◌+◌, ◌<◌, List, [], ◌∷◌, ◌++◌, length, get_or, drop, suc, drop-cons, add-one, ap, sym, subst, ◌∙◌, arith}
-use Rattle.nk_policy.specs.Policy.{Policy, Policies, part, dups_of, dups_of_all, marked_from, all_marked_from, without_links, all_without_links, MarksBelow, AllMarksBelow}
+use Rattle.nk_policy.specs.Policy.{Policy, Policies, part, dups_of, dups_of_all, marked_from, all_marked_from, without_links, all_without_links, AllMarksBelow}
 use Rattle.nk_policy.specs.Tree.{tree_of, trees_of}
 use Rattle.nk_policy.specs.declared.policy.Pol.{Pol}
 use Rattle.nk_policy.proofs.Trees.{joined, joined_push}

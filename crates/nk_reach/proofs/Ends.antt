@@ -106,3 +106,11 @@ round_last old oss st st1 st2 ss nss rows set start bad now met last again ls le
 -- the rounds end
 pub falls : (n h a b : ℕ) → a ≡ h + 1 → b ≡ a + 1 → h + 1 ≤ n → n + 1 - b < n + 1 - a
 falls n h a b e f l = omega arith
+
+-- levels that are those made, and broken as was said
+pub levels_said :
+    (old new : Held) (ss : List (List ℕ)) (rows : List ℕ) (set start : ℕ) (bad : List ℕ → List ℕ → List Out)
+    (ls all : List (List (ℕ × ℕ))) (b said : Bool) → ls ≡ all → b ≡ said
+    → AreLevels old new ss rows set start bad all said → AreLevels old new ss rows set start bad ls b
+levels_said old new ss rows set start bad ls all b said e f k =
+    subst (λ l. AreLevels old new ss rows set start bad l b) (sym e) (subst (λ x. AreLevels old new ss rows set start bad all x) (sym f) k)

@@ -44,17 +44,11 @@ pub fn levels<G: Goal>(
     loop {
         let last = all.len() - 1;
         if any_bad(st, ss, all.at(last), g)? {
-            return Ok(Levels {
-                levels: all,
-                broken: true,
-            });
+            return Ok(Levels::new(all, true));
         }
         let level = next_level(st, ss, rows, &met, all.at(last))?;
         if level.len() == 0 {
-            return Ok(Levels {
-                levels: all,
-                broken: false,
-            });
+            return Ok(Levels::new(all, false));
         }
         merge(st, &mut met, &level)?;
         all.push(level)?;

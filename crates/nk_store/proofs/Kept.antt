@@ -9,7 +9,7 @@ use Rattle.nk_store.specs.declared.operation.Operation.TheVariants.{Union, Both,
 use Rattle.nk_store.specs.declared.operation.Key.{Key}
 use Rattle.nk_store.specs.contracts.operation.OperationPartialEq.TheImpl.{ghosts}
 use Rattle.nk_store.specs.declared.node.Out.{Out}
-use Rattle.nk_store.specs.Held.{Held, IsId, look, Grows, HasLeaves}
+use Rattle.nk_store.specs.Held.{Held, look, Grows}
 use Rattle.nk_store.specs.Operations.{made}
 use Rattle.nk_store.specs.Rows.{IsAnswer, key_eq, AreAnswers, IsKeptLeaf}
 

@@ -1,6 +1,6 @@
 -- The tables that are made of the diagrams of tags are those of the tags' rows.
-use Rattle.std.proofs.Common.{◌≡◌, ℕ, zero, suc, ◌+◌, ◌<◌, ◌≤◌, ◌↔◌, Option, Some, List, [], ◌∷◌, length, get_or, take, refl, sym, ap, subst, ◌∙◌, arith}
-use Rattle.std.specs.Prelude.{All, map, Contains, slice_index}
+use Rattle.std.proofs.Common.{ℕ, zero, suc, ◌<◌, ◌≤◌, ◌↔◌, Option, List, [], length, take, sym, ap, subst, ◌∙◌}
+use Rattle.std.specs.Prelude.{All}
 use Rattle.nk_field.proofs.Lists.{In, in_mapped}
 use Rattle.nk_field.proofs.Ascending.{all_from_members, members_from_all}
 use Rattle.nk_store.specs.Nodes.{InRange}
@@ -8,7 +8,6 @@ use Rattle.nk_store.specs.Diagram.{IsReduced, leaf_at}
 use Rattle.nk_store.specs.Held.{Held, IsPacket, Grows, AreTidy}
 use Rattle.nk_algebra.specs.Unions.{AreIds}
 use Rattle.nk_determ.specs.Sets.{SetsGrow, Differ, Ascend}
-use Rattle.nk_determ.specs.States.{RowLeads}
 use Rattle.nk_table.specs.declared.Table.{Table}
 use Rattle.nk_extract.specs.Buckets.{AreBuckets}
 use Rattle.nk_group.specs.Groups.{groups_of, rows_after}
@@ -16,9 +15,9 @@ use Rattle.nk_switches.specs.declared.stop.Stop.{Stop}
 use Rattle.nk_switches.specs.declared.stop.TagState.{TagState}
 use Rattle.nk_switches.specs.declared.stop.SwitchStates.{SwitchStates}
 use Rattle.nk_switches.specs.Matched.{Matched}
-use Rattle.nk_switches.specs.States.{IsStateAt, StayAt}
-use Rattle.nk_switches.specs.Tagged.{members_of, set_of, LeadsWith, SendsBy, IsTagTable}
-use Rattle.nk_switches.specs.Made.{TagTree, rows_of_trees, IsTagAt, IsStop, IsTagTree, IsTableAt, IsTagState, AreStatesAt, IsPrintableState, ArePrintableStates, IsTreeBy, IsTableBy, HasPlaces, HavePlaces}
+use Rattle.nk_switches.specs.States.{IsStateAt}
+use Rattle.nk_switches.specs.Tagged.{members_of, LeadsWith, SendsBy, IsTagTable}
+use Rattle.nk_switches.specs.Made.{TagTree, rows_of_trees, IsTagAt, IsStop, IsTagTree, IsTableAt, IsTagState, AreStatesAt, IsPrintableState, ArePrintableStates, IsTreeBy, IsTableBy, HavePlaces}
 use Rattle.nk_switches.proofs.Growing.{leads_grown, stay_grown, members_kept, sets_longer}
 use Rattle.nk_switches.proofs.Matching.{of_second, matched_maps, matched_with, matched_through}
 use Rattle.nk_switches.proofs.Printing.{state_printable}

@@ -1,20 +1,19 @@
 -- What rows and states do stays while the store and the sets grow.
-use Rattle.std.proofs.Common.{◌≡◌, ℕ, zero, suc, ◌+◌, ◌<◌, ◌≤◌, ◌↔◌, List, [], ◌∷◌, ◌++◌, length, length-append, append_assoc, refl, sym, ◌∙◌, ap, subst, arith, get_or, set}
+use Rattle.std.proofs.Common.{◌≡◌, ℕ, zero, suc, ◌+◌, ◌<◌, ◌≤◌, ◌↔◌, List, [], ◌++◌, length, length-append, append_assoc, refl, sym, ◌∙◌, ap, subst, arith, get_or, set}
 use Rattle.std.specs.Prelude.{All, map}
 use Rattle.std.specs.List.{Contains}
 use Rattle.std.proofs.lemmas.List.{get_or_append_left}
 use Rattle.nk_store.specs.Nodes.{InRange}
 use Rattle.nk_store.specs.Leaves.{Every}
-use Rattle.nk_store.specs.Held.{Held, IsId, IsPacket, look, Grows}
+use Rattle.nk_store.specs.Held.{Held, IsId, IsPacket, Grows}
 use Rattle.nk_algebra.specs.Unions.{AreIds}
-use Rattle.nk_determ.specs.Exact.{AreExact, IsExact, Sends}
+use Rattle.nk_determ.specs.Exact.{IsExact, Sends}
 use Rattle.nk_determ.specs.Sets.{SetsGrow}
-use Rattle.nk_determ.specs.States.{RowLeads, IsLedTo}
-use Rattle.nk_extract.specs.RowsOf.{IsPrintable}
+use Rattle.nk_determ.specs.States.{RowLeads}
 use Rattle.nk_switches.specs.declared.stop.TagState.{TagState}
 use Rattle.nk_switches.specs.States.{IsStateAt, StayAt}
 use Rattle.nk_switches.specs.Tagged.{set_of, members_of}
-use Rattle.nk_switches.specs.Made.{IsPrintableState, HavePlaces}
+use Rattle.nk_switches.specs.Made.{IsPrintableState}
 
 -- what holds of each element holds of a member
 pub all_member : {X : Type 0} (P : X → Type 0) (xs : List X) (x : X) → All P xs → Contains xs x → P x

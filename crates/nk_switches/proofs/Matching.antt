@@ -1,8 +1,7 @@
 -- Lists whose elements match one by one.
-use Rattle.std.proofs.Common.{◌≡◌, ℕ, zero, suc, ◌<◌, inl, inr, List, [], ◌∷◌, ◌++◌, length, get_or, refl, sym, ap, subst, ◌∙◌, arith}
-use Rattle.std.specs.Prelude.{All, map}
-use Rattle.nk_field.proofs.Lists.{In, in_from_contains}
-use Rattle.nk_field.proofs.Ascending.{members_from_all, all_from_members}
+use Rattle.std.proofs.Common.{◌≡◌, inl, inr, List, [], ◌∷◌, ◌++◌, refl, sym, ap, subst, ◌∙◌}
+use Rattle.std.specs.Prelude.{map}
+use Rattle.nk_field.proofs.Lists.{In}
 use Rattle.nk_switches.specs.Matched.{Matched}
 
 -- one more on either side

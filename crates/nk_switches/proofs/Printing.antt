@@ -1,12 +1,12 @@
 -- A state of rows that stay at the switch can be printed there.
-use Rattle.std.proofs.Common.{◌≡◌, ◌≢◌, ℕ, zero, suc, ◌+◌, ◌<◌, ◌≤◌, List, [], ◌∷◌, length, inl, inr, refl, sym, ap, subst, ◌∙◌, arith, get_or, get_or-set_other}
+use Rattle.std.proofs.Common.{◌≡◌, ◌≢◌, ℕ, zero, suc, ◌+◌, ◌<◌, ◌≤◌, List, [], ◌∷◌, length, refl, sym, ap, subst, ◌∙◌, arith, get_or, get_or-set_other}
 use Rattle.std.specs.Prelude.{slice_index, slice_set, Contains}
 use Rattle.std.proofs.lemmas.List.{set-set, set-get_or}
 use Rattle.nk_field.specs.Act.{applied}
-use Rattle.nk_field.proofs.Lists.{In, in_from_contains, contains_from_in}
+use Rattle.nk_field.proofs.Lists.{in_from_contains, contains_from_in}
 use Rattle.nk_field.proofs.Ascending.{rising_from, one_list}
 use Rattle.nk_store.specs.declared.node.Out.{Out}
-use Rattle.nk_store.specs.Leaves.{IsActFrom, Every, Suits}
+use Rattle.nk_store.specs.Leaves.{IsActFrom, Suits}
 use Rattle.nk_store.specs.Held.{Held, look, IsPacket, AreTidy}
 use Rattle.nk_store.proofs.Same.{set_in_range}
 use Rattle.nk_algebra.proofs.Members.{Has, contains_has, has_contains, every_has, strict_same}

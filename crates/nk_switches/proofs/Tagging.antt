@@ -1,13 +1,12 @@
 -- The tags of targets: one tag more in the table, and where a state sends by the table.
-use Rattle.std.proofs.Common.{◌≡◌, ◌≢◌, ℕ, zero, suc, ◌+◌, ◌-◌, ◌<◌, ◌≤◌, ◌⊎◌, ⊎_elim, inl, inr, Option, Some, None, List, [], ◌∷◌, ◌++◌, length, length-set, refl, sym, ap, subst, ◌∙◌, arith, get_or, set, get_or-set_same, get_or-set_other}
-use Rattle.std.specs.Prelude.{◌↔◌, map, slice_index, Contains, All}
+use Rattle.std.proofs.Common.{◌≡◌, ◌≢◌, ℕ, zero, suc, ◌+◌, ◌<◌, ◌≤◌, ◌⊎◌, ⊎_elim, inl, inr, Option, Some, None, List, [], length, refl, sym, ap, subst, ◌∙◌, arith, get_or, set, get_or-set_same, get_or-set_other}
+use Rattle.std.specs.Prelude.{slice_index, Contains, All}
 use Rattle.nk_field.proofs.Lists.{numbers_decided}
 use Rattle.nk_store.specs.Held.{Held, IsPacket}
 use Rattle.nk_determ.specs.Exact.{Sends}
 use Rattle.nk_determ.specs.Sets.{Differ, Ascend, SetsGrow}
-use Rattle.nk_determ.specs.States.{RowLeads, IsLedTo}
 use Rattle.nk_switches.specs.States.{IsStateAt}
-use Rattle.nk_switches.specs.Tagged.{set_of, members_of, LeadsWith, SendsBy, IsTagTable}
+use Rattle.nk_switches.specs.Tagged.{set_of, LeadsWith, SendsBy, IsTagTable}
 use Rattle.nk_switches.proofs.Growing.{tag_set_kept}
 use Rattle.nk_switches.proofs.Printing.{some_member, one_set}
 

@@ -1,23 +1,20 @@
 -- The rows of a diagram with the tags of a table, and of many diagrams in turn.
-use Rattle.std.proofs.Common.{◌≡◌, ℕ, ◌+◌, ◌<◌, ◌≤◌, ◌↔◌, inl, inr, Option, Some, None, List, [], ◌∷◌, ◌++◌, length, length-set, get_or, take, set, refl, sym, ap, subst, ◌∙◌, arith}
-use Rattle.std.specs.Prelude.{All, map, Contains, slice_index}
-use Rattle.std.specs.List.{flat_map}
+use Rattle.std.proofs.Common.{◌≡◌, ℕ, ◌+◌, ◌<◌, ◌≤◌, ◌↔◌, inl, inr, Option, Some, None, List, [], ◌∷◌, ◌++◌, length, length-set, get_or, take, set, refl, sym, ap, subst, ◌∙◌}
+use Rattle.std.specs.Prelude.{Contains}
 use Rattle.std.proofs.lemmas.List.{take_more, append-nil}
 use Rattle.std.proofs.lemmas.List.Concat.{flat_map-append}
-use Rattle.nk_field.specs.Act.{applied}
-use Rattle.nk_field.proofs.Lists.{In}
 use Rattle.nk_field.proofs.Ascending.{members_from_all}
 use Rattle.nk_store.specs.declared.node.Out.{Out}
 use Rattle.nk_store.specs.Nodes.{InRange}
 use Rattle.nk_store.specs.Diagram.{IsReduced, leaf_at}
-use Rattle.nk_store.specs.Held.{Held, IsId, IsPacket, look, Grows, HasLeaves}
+use Rattle.nk_store.specs.Held.{Held, IsPacket, look, Grows, HasLeaves}
 use Rattle.nk_algebra.proofs.Members.{Has, contains_has, has_contains, gathered_has, has_gathered}
 use Rattle.nk_determ.specs.Exact.{Sends}
 use Rattle.nk_determ.specs.Targets.{option_out, out_by_table, retargeted}
 use Rattle.nk_table.specs.declared.Bucket.{Bucket}
 use Rattle.nk_table.specs.declared.Plain.{Plain}
 use Rattle.nk_table.specs.declared.Table.{Table}
-use Rattle.nk_extract.specs.Buckets.{AreBuckets, bucket_of}
+use Rattle.nk_extract.specs.Buckets.{AreBuckets}
 use Rattle.nk_extract.specs.RowsOf.{IsPrintable, AreRowsOf, IsFrame}
 use Rattle.nk_extract.specs.RuleTree.{rows_for}
 use Rattle.nk_group.specs.Groups.{groups_of, rows_after}

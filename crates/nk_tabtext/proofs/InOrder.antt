@@ -8,11 +8,10 @@ use Rattle.nk_table.specs.declared.Bucket.{Bucket}
 use Rattle.nk_table.specs.declared.Group.{Group}
 use Rattle.nk_table.specs.declared.Row.{Row}
 use Rattle.nk_table.specs.declared.Table.{Table}
-use Rattle.nk_table.specs.declared.Tables.{Tables}
 use Rattle.nk_table.specs.declared.Target.{Target}
 use Rattle.nk_table.specs.declared.Target.TheVariants as does
-use Rattle.nk_tabtext.specs.InOrder.{IsTargetInOrder, IsTableInOrder, AreInOrder}
-use Rattle.nk_tabtext.specs.ReadBack.{IsBucketOf, IsGroupOf, IsTargetOf, IsRowOf, IsTableOf, IsPrintable}
+use Rattle.nk_tabtext.specs.InOrder.{IsTargetInOrder, IsTableInOrder}
+use Rattle.nk_tabtext.specs.ReadBack.{IsBucketOf, IsGroupOf, IsTargetOf, IsRowOf, IsTableOf}
 
 pub target_in_order : (fields : FieldTable) (groups : List Group) (target : Target) → IsTargetOf fields groups target → IsTargetInOrder target
 target_in_order fields groups (does.Bucket b) h = h.ascend

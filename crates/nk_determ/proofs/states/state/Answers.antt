@@ -1,5 +1,5 @@
-use Rattle.std.proofs.Common.{◌≡◌, ℕ, ◌<◌, ◌∙◌, List, [], length, ap, subst, sym, get_or}
-use Rattle.std.specs.Prelude.{All, map}
+use Rattle.std.proofs.Common.{◌≡◌, ℕ, ◌∙◌, List, [], ap, get_or}
+use Rattle.std.specs.Prelude.{map}
 use Rattle.nk_determ.specs.States.{SomeSends, SomeLeads, RowSends, RowLeads}
 use Rattle.nk_determ.proofs.Rows.{rows_ids, sends_rows, leads_rows, met_same}
 use Rattle.nk_determ.proofs.states.state.Goals as goal

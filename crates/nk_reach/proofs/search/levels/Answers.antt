@@ -1,4 +1,4 @@
-use Rattle.std.proofs.Common.{◌≡◌, ◌<◌, ◌≤◌, ◌+◌, [], ◌∷◌, ◌++◌, length, get_or, refl, sym, ◌∙◌, ap, subst, arith, length-append}
+use Rattle.std.proofs.Common.{true, false, ◌≡◌, ◌<◌, ◌≤◌, ◌+◌, [], ◌∷◌, ◌++◌, length, get_or, refl, sym, ◌∙◌, ap, subst, arith, length-append}
 use Rattle.nk_store.proofs.Stores.{grows_on}
 use Rattle.nk_reach.specs.Pairs.{ArePairs}
 use Rattle.nk_reach.specs.Goals.{MeetsBad}
@@ -7,7 +7,7 @@ use Rattle.nk_reach.proofs.Growing.{sets_refl, packets_of, pairs_on, rows_grow}
 use Rattle.nk_determ.proofs.Interned.{sets_on}
 use Rattle.nk_reach.proofs.Going.{Going, room}
 use Rattle.nk_reach.proofs.Round.{going_start}
-use Rattle.nk_reach.proofs.Ends.{levels_broken, last_is, pairs_more, round_done, round_last, falls}
+use Rattle.nk_reach.proofs.Ends.{levels_broken, levels_said, last_is, pairs_more, round_done, round_last, falls}
 use Rattle.nk_reach.proofs.search.levels.Goals as goal
 
 pub loop-all-init : goal.loop-all-init
@@ -41,10 +41,11 @@ returns-then-branch-clause-ok g c =
     let go = c.loop-all.invariant.going.1 in
     let at = last_is c.loop-all.all h c.len-last.result c.at.result.now go.count c.len-last.ensures c.at.ensures in
     let now = g.G.Goal.bad_of c.loop-all.g c.loop-all.st in
-    levels_broken c.args.st.now c.args.ss.now c.loop-all.st c.any_bad.new.st c.loop-all.ss c.args.rows.now c.args.s c.args.start (g.G.Goal.bad_of c.args.g.now c.args.st.now) now c.loop-all.met.entries c.loop-all.all h
+    levels_said c.args.st.now c.any_bad.new.st c.loop-all.ss c.args.rows.now c.args.s c.args.start (g.G.Goal.bad_of c.args.g.now c.args.st.now) c.new.result.levels c.loop-all.all c.new.result.broken true c.new.ensures.levels c.new.ensures.broken
+    (levels_broken c.args.st.now c.args.ss.now c.loop-all.st c.any_bad.new.st c.loop-all.ss c.args.rows.now c.args.s c.args.start (g.G.Goal.bad_of c.args.g.now c.args.st.now) now c.loop-all.met.entries c.loop-all.all h
     c.requires.set go c.any_bad.ensures.grows
     (λ n p. c.loop-all.invariant.same c.loop-all.st n.0 n.1 ∙ g.met.G.Goal.bad_on c.args.g.now c.args.st.now c.loop-all.st n.0 n.1 c.requires.fits go.grows (λ j d m. omega (arith, p j d m, c.requires.labels)))
-    (subst (λ q. MeetsBad c.loop-all.st c.loop-all.ss q now) (sym at) (c.in_ok-any_bad.ensures.yes c.if-branch.true))
+    (subst (λ q. MeetsBad c.loop-all.st c.loop-all.ss q now) (sym at) (c.in_ok-any_bad.ensures.yes c.if-branch.true)))
 
 pub next_level-requires-clause-met : goal.next_level-requires-clause-met
 next_level-requires-clause-met g c =
@@ -81,11 +82,12 @@ returns-then-len-eq0-clause-ok g c =
     let at = last_is c.loop-all.all h c.len-last.result c.at.result.now go.count c.len-last.ensures c.at.ensures in
     let again = last_is c.loop-all.all h c.len-last.result c.at-in-loop-all.result.now go.count c.len-last.ensures c.at-in-loop-all.ensures in
     let now = g.G.Goal.bad_of c.loop-all.g c.loop-all.st in
-    round_last c.args.st.now c.args.ss.now c.loop-all.st c.any_bad.new.st c.next_level.new.st c.loop-all.ss c.next_level.new.ss c.args.rows.now c.args.s c.args.start (g.G.Goal.bad_of c.args.g.now c.args.st.now) now
+    levels_said c.args.st.now c.next_level.new.st c.next_level.new.ss c.args.rows.now c.args.s c.args.start (g.G.Goal.bad_of c.args.g.now c.args.st.now) c.new-then-len-eq0.result.levels c.loop-all.all c.new-then-len-eq0.result.broken false c.new-then-len-eq0.ensures.levels c.new-then-len-eq0.ensures.broken
+    (round_last c.args.st.now c.args.ss.now c.loop-all.st c.any_bad.new.st c.next_level.new.st c.loop-all.ss c.next_level.new.ss c.args.rows.now c.args.s c.args.start (g.G.Goal.bad_of c.args.g.now c.args.st.now) now
     c.loop-all.met.entries c.at.result.now c.at-in-loop-all.result.now c.loop-all.all c.in_ok-level.level h
     c.requires.set c.requires.rows go c.any_bad.ensures.grows
     (λ n p. c.loop-all.invariant.same c.loop-all.st n.0 n.1 ∙ g.met.G.Goal.bad_on c.args.g.now c.args.st.now c.loop-all.st n.0 n.1 c.requires.fits go.grows (λ j d m. omega (arith, p j d m, c.requires.labels)))
-    at (c.in_ok-any_bad.ensures.no c.if-branch.false) again c.in_ok-level.ensures.ok c.next_level.ensures.grows c.next_level.ensures.sets (sym c.len.ensures ∙ c.if-len-eq0.true)
+    at (c.in_ok-any_bad.ensures.no c.if-branch.false) again c.in_ok-level.ensures.ok c.next_level.ensures.grows c.next_level.ensures.sets (sym c.len.ensures ∙ c.if-len-eq0.true))
 
 pub merge-requires-clause-met : goal.merge-requires-clause-met
 merge-requires-clause-met g c =

@@ -1,4 +1,3 @@
-use Rattle.std.proofs.Common.{◌+◌, ◌∙◌, sym, subst, ap, length, get_or, take}
 use Rattle.nk_store.proofs.Stores.{grows_on}
 use Rattle.nk_switches.proofs.Growing.{sets_grow_on, known_kept}
 use Rattle.nk_switches.proofs.Stating.{ids_kept, all_more}

@@ -1,5 +1,4 @@
-use Rattle.std.proofs.Common.{◌+◌, ◌<◌, ◌∙◌, sym, subst, ap, length, get_or, take}
-use Rattle.std.specs.Prelude.{All}
+use Rattle.std.proofs.Common.{◌<◌, sym, subst, length, get_or}
 use Rattle.std.proofs.lemmas.List.{get_or_default}
 use Rattle.nk_store.proofs.Stores.{grows_on}
 use Rattle.nk_switches.specs.Made.{HasPlaces}

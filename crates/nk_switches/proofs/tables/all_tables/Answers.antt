@@ -1,4 +1,4 @@
-use Rattle.std.proofs.Common.{◌+◌, ◌∙◌, refl, sym, subst, ap, length, get_or, take}
+use Rattle.std.proofs.Common.{◌∙◌, refl, sym}
 use Rattle.nk_store.proofs.Stores.{grows_on}
 use Rattle.nk_switches.specs.Made.{ArePrintableStates}
 use Rattle.nk_switches.proofs.Growing.{all_at}

@@ -1,4 +1,4 @@
-use Rattle.std.proofs.Common.{◌+◌, ◌∙◌, sym, subst, ap, length, get_or, take}
+use Rattle.std.proofs.Common.{◌∙◌, sym}
 use Rattle.nk_store.proofs.Stores.{grows_on}
 use Rattle.nk_switches.proofs.Growing.{printable_grown, all_at}
 use Rattle.nk_switches.specs.Made.{IsPrintableState}

@@ -2,7 +2,7 @@ use Rattle.std.proofs.Common.{◌≡◌, suc, ◌+◌, ◌-◌, ◌≤◌, lengt
 use Rattle.nk_tag.specs.Numbers.{later_level, AreLaterSets}
 use Rattle.nk_tag.specs.Steps.{IsAdded, AreBelow}
 use Rattle.nk_determ.proofs.Naming.{named_within}
-use Rattle.nk_tag.proofs.Below.{none_below, below_more, all_below}
+use Rattle.nk_tag.proofs.Below.{below_more, all_below}
 use Rattle.nk_tag.proofs.numbers.later_sets.Goals as goal
 
 pub loop-i-preserved : goal.loop-i-preserved
