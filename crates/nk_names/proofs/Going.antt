@@ -1,5 +1,5 @@
 -- From declaration to declaration: what is said after all of them, and what stays true of the policies.
-use Rattle.std.proofs.Common.{◌≡◌, ℕ, zero, suc, ◌+◌, ◌<◌, ◌≤◌, Some, None, Ok, List, [], ◌∷◌, ◌++◌, length, get_or, drop, map, refl, sym, ap, subst, ◌∙◌, arith, length-append}
+use Rattle.std.proofs.Common.{◌≡◌, ℕ, zero, suc, ◌+◌, ◌<◌, ◌≤◌, None, Ok, List, [], ◌∷◌, ◌++◌, length, get_or, drop, map, refl, sym, ap, subst, ◌∙◌, arith, length-append}
 use Rattle.std.specs.declared.result.Result.{Result}
 use Rattle.std.specs.Prelude.{slice_index, All}
 use Rattle.std.proofs.lemmas.List.{get_or_append_left}
@@ -13,11 +13,16 @@ use Rattle.nk_grammar.specs.declared.decl.Decl.{Decl}
 use Rattle.nk_grammar.specs.Tree.{Tree}
 use Rattle.nk_grammar.specs.File.{Declaration, field, tag, switch, declared_link, definition, declaration_of, IsWritten}
 use Rattle.nk_names.specs.declared.fault.NamesError.{NamesError}
-use Rattle.nk_names.specs.Meant.{Lets, MaybeFault, lets_of, policy_for}
-use Rattle.nk_names.specs.ProgramOf.{Said, unless, going_on, said_with, said_after, let_fault, field_fault, tag_fault, switch_fault, link_fault}
+use Rattle.nk_names.specs.declared.fault.NamesError.TheVariants.{Fault, NoMemory}
+use Rattle.nk_names.specs.Meant.{Lets, lets_of, policy_for}
+use Rattle.nk_names.specs.ProgramOf.{Said, declared_part, going_on, said_with, said_after, nothing_said, IsFault, let_fault}
 use Rattle.nk_names.specs.ProgramValue.{IsLet}
 use Rattle.nk_policy.specs.Ranges.{IsOver}
 use Rattle.nk_names.specs.Complements.{NegatesPredicates}
+use Rattle.nk_declare.specs.Declarations.{DeclaredValue, declared_with}
+use Rattle.nk_declare.specs.Declarations as declare
+use Rattle.nk_declare.proofs.Kept.{unless_ok}
+use Rattle.nk_names.proofs.Beside.{beside, beside_is}
 use Rattle.nk_names.proofs.Finding.{rest_is}
 use Rattle.nk_names.proofs.Places.{image_at}
 use Rattle.nk_names.proofs.Good.{marked_again, size_marked, depth_marked, over_marked, over_in_range, negates_marked, over_more}
@@ -91,38 +96,40 @@ let_is fields lets w t line table none known =
       complements = negates_marked p 1 (negates_meant fields lets (all_kept (λ l. IsLet fields l.1) (λ l. NegatesPredicates l.1) lets (λ l h. h.complements) known) t f.placed);
     }
 
--- without a fault what is said is what is said
-said_is : (o : MaybeFault) (said s : Said) → unless o said ≡ Ok s → said ≡ s
-said_is None said s h = cc
-said_is (Some e) said s h = absurd cc
-
--- and there is no fault
-no_fault : (o : MaybeFault) (said s : Said) → unless o said ≡ Ok s → o ≡ None
-no_fault None said s h = refl
-no_fault (Some e) said s h = absurd cc
-
 -- one more declaration keeps that
-pub lets_kept : (s s' : Said) (d : Declaration) → IsFieldTable s.fields → IsWritten d → said_with s d ≡ Ok s' → HasLets s → HasLets s'
-lets_kept s s' (field w n) table written h good =
-    subst HasLets (said_is (field_fault s.fields w) _ s' h) (record {
+pub lets_kept : (s t : Said) (d : Declaration) → IsFieldTable s.fields → IsWritten d → said_with s d ≡ Ok t → HasLets s → HasLets t
+lets_kept s t (field w n) table written h good =
+    let r = beside_is s.lets (declared_with (declared_part s) (declare.field w n)) t h in
+    let u = unless_ok _ _ r.0 r.1 in
+    subst HasLets r.2
+    (subst (λ (d : DeclaredValue). HasLets (beside s.lets d)) u.1 (record {
       maxima = All-push (λ m. m ≤ 281474976710655) s.fields.maxima n.value good.maxima written.1;
       policies = all_kept (λ l. IsLet s.fields l.1) (λ l. IsLet (with_field s.fields w.text n.value) l.1) s.lets (λ l g. more_fields s.fields (with_field s.fields w.text n.value) (one_wider s.fields w.text n.value) l.1 g) good.policies;
-    })
-lets_kept s s' (tag w) table written h good =
+    }))
+lets_kept s t (tag w) table written h good =
     let more : FieldTable = record s.fields { tag = field_named s.fields w.text } in
-    subst HasLets (said_is (tag_fault s.fields w) _ s' h) (record {
+    let r = beside_is s.lets (declared_with (declared_part s) (declare.tag w)) t h in
+    let u = unless_ok _ _ r.0 r.1 in
+    subst HasLets r.2
+    (subst (λ (d : DeclaredValue). HasLets (beside s.lets d)) u.1 (record {
       maxima = good.maxima;
       policies = all_kept (λ l. IsLet s.fields l.1) (λ l. IsLet more l.1) s.lets (λ l g. more_fields s.fields more (λ f v x. x) l.1 g) good.policies;
-    })
-lets_kept s s' (switch n ps) table written h good =
-    subst HasLets (said_is (switch_fault s.topo n ps) _ s' h) (record { maxima = good.maxima; policies = good.policies })
-lets_kept s s' (declared_link a m b n) table written h good =
-    subst HasLets (said_is (link_fault s.topo a m b n) _ s' h) (record { maxima = good.maxima; policies = good.policies })
-lets_kept s s' (definition w t line) table written h good =
-    let none = no_fault (let_fault s.fields s.lets w t line) _ s' h in
-    subst HasLets (said_is (let_fault s.fields s.lets w t line) _ s' h) (record {
+    }))
+lets_kept s t (switch n ps) table written h good =
+    let r = beside_is s.lets (declared_with (declared_part s) (declare.switch n ps)) t h in
+    let u = unless_ok _ _ r.0 r.1 in
+    subst HasLets r.2
+    (subst (λ (d : DeclaredValue). HasLets (beside s.lets d)) u.1 (record { maxima = good.maxima; policies = good.policies }))
+lets_kept s t (declared_link a m b n) table written h good =
+    let r = beside_is s.lets (declared_with (declared_part s) (declare.link a m b n)) t h in
+    let u = unless_ok _ _ r.0 r.1 in
+    subst HasLets r.2
+    (subst (λ (d : DeclaredValue). HasLets (beside s.lets d)) u.1 (record { maxima = good.maxima; policies = good.policies }))
+lets_kept s t (definition w p line) table written h good =
+    let u = unless_ok (let_fault s.fields s.lets w p line) _ t h in
+    subst HasLets u.1 (record {
       maxima = good.maxima;
-      policies = All-push (λ l. IsLet s.fields l.1) s.lets (w.text, marked_from (policy_for s.fields s.lets t) 1) good.policies (let_is s.fields s.lets w t line table none good.policies);
+      policies = All-push (λ l. IsLet s.fields l.1) s.lets (w.text, marked_from (policy_for s.fields s.lets p) 1) good.policies (let_is s.fields s.lets w p line table u.0 good.policies);
     })
 
 -- what holds of the policies that are said holds of those in memory

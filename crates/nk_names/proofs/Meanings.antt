@@ -15,7 +15,8 @@ use Rattle.nk_names.specs.Meant.{Lets, policy_among, no_value, place_in, most_in
 use Rattle.nk_policy.specs.Ranges.{IsOver}
 use Rattle.nk_names.specs.Complements.{NegatesPredicates, AllNegatePredicates}
 use Rattle.nk_names.proofs.Good.{AreOver}
-use Rattle.nk_names.proofs.Declarations.{none_both, not_wrong, in_bound}
+use Rattle.nk_declare.proofs.Checks.{none_both}
+use Rattle.nk_names.proofs.Declarations.{not_wrong, in_bound}
 
 -- what holds of the first of a list
 pub all_head : {X : Type 0} (P : X → Type 0) (x : X) (xs : List X) → All P (x ∷ xs) → P x

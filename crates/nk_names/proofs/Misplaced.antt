@@ -6,11 +6,11 @@ use Rattle.nk_policy.specs.Policy.{is_predicate, are_predicates}
 use Rattle.nk_policy.proofs.Tests.{both_true}
 use Rattle.nk_grammar.specs.Tree.{Tree, Trees, name_of, test, assign, sum_of, seq_of, not_of, star_of, dup, link, no_part, part}
 use Rattle.nk_names.specs.declared.fault.FaultKind.TheVariants as kind
-use Rattle.nk_names.specs.Meant.{Lets, fault_if, first_of, policy_for, policies_for, misplaced_in, misplaced_among}
+use Rattle.nk_names.specs.Meant.{Lets, MaybeFault, fault_if, first_of, policy_for, policies_for, misplaced_in, misplaced_among}
 
 module _ (fields : FieldTable) (lets : Lets) where
   -- two that are none have no first
-  none_first : (a b : _) → a ≡ None → b ≡ None → first_of a b ≡ None
+  none_first : (a b : MaybeFault) → a ≡ None → b ≡ None → first_of a b ≡ None
   none_first a b e f = ap (λ o. option_or o b) e ∙ f
 
   mutual

@@ -10,7 +10,8 @@ use Rattle.nk_policy.specs.declared.policy.Pol.{Pol}
 use Rattle.nk_names.specs.Meant.{Lets, lets_of, policy_for, unknown_in, misplaced_in}
 use Rattle.nk_names.specs.ProgramOf.{predicate_fault}
 use Rattle.nk_names.specs.ProgramValue.{IsRowPolicy}
-use Rattle.nk_names.proofs.Declarations.{none_both, not_wrong, at_most}
+use Rattle.nk_declare.proofs.Checks.{none_both}
+use Rattle.nk_names.proofs.Declarations.{not_wrong, at_most}
 use Rattle.nk_names.proofs.Good.{depth_marked, over_marked, over_in_range, negates_marked}
 use Rattle.nk_names.proofs.Meanings.{over_meant, negates_meant, of_not}
 use Rattle.nk_names.proofs.Misplaced.{none_misplaced}

@@ -1,7 +1,6 @@
 -- What a policy as it is written stands for, once each name in it is written out as the policy above that has it; and
 -- what may be wrong with it.
-use Rattle.std.specs.Prelude.{ℕ, Bool, not, nat_lt, Option, Some, None, is_none, if◌then◌else◌, unwrap_or, map, min, List, [], ◌∷◌, slice_index}
-use Rattle.std.specs.Option.{option_or}
+use Rattle.std.specs.Prelude.{ℕ, Bool, not, nat_lt, Option, Some, None, is_none, if◌then◌else◌, unwrap_or, map, min, List, [], ◌∷◌}
 use Rattle.std.specs.Str.{bytes_eq}
 use Rattle.nk_field.specs.Packet.{FieldTable, field_named}
 use Rattle.nk_policy.specs.Policy.{Policy, Policies, is_predicate}
@@ -10,6 +9,7 @@ use Rattle.nk_policy.specs.Tree.{tree_of}
 use Rattle.nk_policy.specs.declared.policy.Pol.{Pol}
 use Rattle.nk_grammar.specs.declared.ast.Word.{Word}
 use Rattle.nk_grammar.specs.declared.ast.Number.{Number}
+pub use Rattle.nk_declare.specs.Declarations.{first_of, place_in, most_in}
 use Rattle.nk_grammar.specs.Tree.{Tree, Trees, name_of, test, assign, sum_of, seq_of, not_of, star_of, dup, link, no_part, part}
 use Rattle.nk_names.specs.declared.fault.FaultKind.{FaultKind}
 use Rattle.nk_names.specs.declared.fault.FaultKind.TheVariants as kind
@@ -37,10 +37,6 @@ MaybeFault = Option NamesError
 abbrev pub fault_if : Bool → FaultKind → ℕ → MaybeFault
 fault_if wrong k line = if wrong then Some (Fault k line) else None
 
--- the first fault, else the second
-abbrev pub first_of : MaybeFault → MaybeFault → MaybeFault
-first_of first second = option_or first second
-
 -- a number above a bound
 abbrev pub above : ℕ → Number → MaybeFault
 above most n = fault_if (nat_lt most n.value) kind.ValueOutOfRange n.line
@@ -48,13 +44,6 @@ above most n = fault_if (nat_lt most n.value) kind.ValueOutOfRange n.line
 -- the four numbers of a link, which are a switch and a port, twice
 abbrev pub links_ends : Number → Number → Number → Number → MaybeFault
 links_ends a m b n = first_of (first_of (first_of (above 65535 a) (above 65535 m)) (above 65535 b)) (above 65535 n)
-
--- the place of a field, and its largest value
-abbrev pub place_in : FieldTable → Word → ℕ
-place_in fields w = unwrap_or (field_named fields w.text) 0
-
-abbrev pub most_in : FieldTable → Word → ℕ
-most_in fields w = slice_index fields.maxima (place_in fields w)
 
 -- Each name is written out as its policy. A name of no policy or of no field and a number out of range are at fault; here
 -- they count as `drop`, as the first field and as the largest number. The dups are numbered later.

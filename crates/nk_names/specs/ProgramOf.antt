@@ -1,21 +1,27 @@
 -- The program of a text: what its declarations make one after the other, in the order of the text, or the first fault.
 -- A name means what stands above it.
-use Rattle.std.specs.Prelude.{◌≡◌, ℕ, ◌==◌, not, nat_lt, nat_le, Bool, false, ⊤, Option, Some, None, Ok, Err, is_some, List, [], ◌∷◌, ◌++◌, length, map}
+use Rattle.std.specs.Prelude.{◌≡◌, ℕ, not, nat_lt, ⊤, Ok, Err, is_some, List, [], ◌∷◌, ◌++◌}
 use Rattle.std.specs.declared.result.Result.{Result}
-use Rattle.std.specs.List.{list_any}
-use Rattle.nk_field.specs.Packet.{FieldTable, built_in, field_named, with_field}
-use Rattle.nk_topo.specs.Topology.{Topology, Link, no_topology, is_switch, is_port, is_target, link_from, with_switch, with_link}
+use Rattle.nk_field.specs.Packet.{FieldTable, built_in}
+use Rattle.nk_topo.specs.Topology.{Topology, no_topology}
 use Rattle.nk_policy.specs.Policy.{Policy, depth_of, size_of, is_predicate, marked_from}
 use Rattle.nk_grammar.specs.declared.ast.Word.{Word}
-use Rattle.nk_grammar.specs.declared.ast.Number.{Number}
+use Rattle.nk_declare.specs.declared.fault.DeclareFault.{DeclareFault}
+use Rattle.nk_declare.specs.declared.fault.DeclareFault.TheVariants as wrong
+use Rattle.nk_declare.specs.declared.fault.DeclareError.{DeclareError}
+use Rattle.nk_declare.specs.declared.fault.DeclareError.TheVariants as refused
+pub use Rattle.nk_declare.specs.Declarations.{unless}
+use Rattle.nk_declare.specs.Declarations.{DeclaredValue, declared_with}
+use Rattle.nk_declare.specs.Declarations as declare
 use Rattle.nk_grammar.specs.File.{Declaration, field, tag, switch, declared_link, definition}
 use Rattle.nk_grammar.specs.Tree.{Tree}
 use Rattle.nk_names.specs.declared.names.Names.{Names}
 use Rattle.nk_names.specs.declared.Program.{Program}
+use Rattle.nk_names.specs.declared.fault.FaultKind.{FaultKind}
 use Rattle.nk_names.specs.declared.fault.FaultKind.TheVariants as kind
 use Rattle.nk_names.specs.declared.fault.NamesError.{NamesError}
 use Rattle.nk_names.specs.declared.fault.NamesError.TheVariants.{Fault, NoMemory}
-use Rattle.nk_names.specs.Meant.{Lets, lets_of, policy_among, MaybeFault, fault_if, first_of, above, links_ends, policy_for, unknown_in, misplaced_in}
+use Rattle.nk_names.specs.Meant.{Lets, lets_of, policy_among, MaybeFault, fault_if, first_of, policy_for, unknown_in, misplaced_in}
 
 -- what a program says: its fields, its topology, and the policies of its names
 pub record Said : Type 0 where
@@ -26,54 +32,6 @@ pub record Said : Type 0 where
 -- before the first declaration
 abbrev pub nothing_said : Said
 nothing_said = record { fields = built_in; topo = no_topology; lets = [] }
-
--- a place behind the switch and the port
-abbrev pub is_past_port : Option ℕ → Bool
-is_past_port None = false
-is_past_port (Some f) = nat_le 2 f
-
--- a field: its name is new, and there is room for it
-abbrev pub field_fault : FieldTable → Word → MaybeFault
-field_fault fields w =
-    first_of
-    (fault_if (is_some (field_named fields w.text)) kind.FieldTwice w.line)
-    (fault_if (nat_le 18 (length fields.maxima)) kind.TooManyFields w.line)
-
--- the tag: there is none so far, and it is a declared field
-abbrev pub tag_fault : FieldTable → Word → MaybeFault
-tag_fault fields w =
-    first_of
-    (fault_if (is_some fields.tag) kind.TagTwice w.line)
-    (fault_if (not (is_past_port (field_named fields w.text))) kind.TagUnknown w.line)
-
--- ports: each in range, and none twice
-abbrev pub ports_fault : (before : List ℕ) → List Number → MaybeFault
-ports_fault before [] = None
-ports_fault before (p ∷ ps) =
-    first_of
-    (first_of (above 65535 p) (fault_if (list_any (λ q. p.value == q) before) kind.PortTwice p.line))
-    (ports_fault (before ++ p.value ∷ []) ps)
-
--- a switch: in range and new, then its ports
-abbrev pub switch_fault : Topology → Number → List Number → MaybeFault
-switch_fault topo n ps =
-    first_of
-    (first_of (above 65535 n) (fault_if (is_switch topo n.value) kind.SwitchTwice n.line))
-    (ports_fault [] ps)
-
--- a link from port m of switch a to port n of switch b: its numbers are in range, its ends are ports, no other link has
--- its source, and none has its target
-abbrev pub link_fault : Topology → Number → Number → Number → Number → MaybeFault
-link_fault topo a m b n =
-    first_of
-    (links_ends a m b n)
-    (first_of
-    (first_of
-    (fault_if (not (is_port topo a.value m.value)) kind.NoSuchPort m.line)
-    (fault_if (not (is_port topo b.value n.value)) kind.NoSuchPort n.line))
-    (first_of
-    (fault_if (is_some (link_from topo a.value m.value)) kind.SourceTwice m.line)
-    (fault_if (is_target topo b.value n.value) kind.TargetTwice n.line)))
 
 -- a policy: its name is new; then its names and numbers, then its complements, then its depth, then its size
 abbrev pub let_fault : FieldTable → Lets → Word → Tree → (line : ℕ) → MaybeFault
@@ -98,27 +56,43 @@ predicate_fault fields lets t line =
     (fault_if (not (is_predicate (policy_for fields lets t))) kind.NotAPredicate line)
     (fault_if (nat_lt 256 (depth_of (policy_for fields lets t))) kind.TooDeep line))
 
--- what is said, unless there is a fault
-abbrev pub unless : {X : Type 0} → MaybeFault → X → Result X NamesError
-unless None said = Ok said
-unless (Some e) said = Err e
-
 -- the policy of a row, where no name of a policy is known
 abbrev pub row_policy : FieldTable → Tree → (line : ℕ) → Result Policy NamesError
 row_policy fields t line = unless (predicate_fault fields [] t line) (marked_from (policy_for fields [] t) 1)
 
--- the link with these four numbers
-abbrev pub link_with : Number → Number → Number → Number → Link
-link_with a m b n = record { from_switch = a.value; from_port = m.value; to_switch = b.value; to_port = n.value }
+-- what is wrong with a declaration, as a program's fault
+abbrev pub kind_of : DeclareFault → FaultKind
+kind_of wrong.FieldTwice = kind.FieldTwice
+kind_of wrong.TooManyFields = kind.TooManyFields
+kind_of wrong.TagTwice = kind.TagTwice
+kind_of wrong.TagUnknown = kind.TagUnknown
+kind_of wrong.SwitchTwice = kind.SwitchTwice
+kind_of wrong.PortTwice = kind.PortTwice
+kind_of wrong.NoSuchPort = kind.NoSuchPort
+kind_of wrong.SourceTwice = kind.SourceTwice
+kind_of wrong.TargetTwice = kind.TargetTwice
+kind_of wrong.ValueOutOfRange = kind.ValueOutOfRange
 
--- what is said after one more declaration
+-- a declaration's fault as a program's
+abbrev pub fault_of : DeclareError → NamesError
+fault_of refused.NoMemory = NoMemory
+fault_of (refused.Fault k line) = Fault (kind_of k) line
+
+-- the fields and the topology
+abbrev pub declared_part : Said → DeclaredValue
+declared_part s = record { fields = s.fields; topo = s.topo }
+
+-- what is declared beside these policies, or the declaration's fault
+abbrev pub said_beside : Lets → Result DeclaredValue DeclareError → Result Said NamesError
+said_beside lets (Ok d) = Ok (record { fields = d.fields; topo = d.topo; lets = lets })
+said_beside lets (Err e) = Err (fault_of e)
+
+-- what is said after one more declaration: fields, the tag, switches and links are declared as in any text
 abbrev pub said_with : Said → Declaration → Result Said NamesError
-said_with s (field w n) = unless (field_fault s.fields w) (record s { fields = with_field s.fields w.text n.value })
-said_with s (tag w) =
-    unless (tag_fault s.fields w) (record s { fields = record s.fields { tag = field_named s.fields w.text } })
-said_with s (switch n ps) =
-    unless (switch_fault s.topo n ps) (record s { topo = with_switch s.topo n.value (map (λ p. p.value) ps) })
-said_with s (declared_link a m b n) = unless (link_fault s.topo a m b n) (record s { topo = with_link s.topo (link_with a m b n) })
+said_with s (field w n) = said_beside s.lets (declared_with (declared_part s) (declare.field w n))
+said_with s (tag w) = said_beside s.lets (declared_with (declared_part s) (declare.tag w))
+said_with s (switch n ps) = said_beside s.lets (declared_with (declared_part s) (declare.switch n ps))
+said_with s (declared_link a m b n) = said_beside s.lets (declared_with (declared_part s) (declare.link a m b n))
 said_with s (definition w t line) =
     unless
     (let_fault s.fields s.lets w t line)
@@ -140,16 +114,11 @@ program_of ds = said_after ds nothing_said
 
 -- what is said so far by the parts in memory
 abbrev pub said_in : Names → Said
-said_in names = record { fields = names.fields; topo = names.topo; lets = lets_of names.lets.entries.items }
+said_in names = record { fields = names.declared.fields; topo = names.declared.topo; lets = lets_of names.lets.entries.items }
 
 -- what a program in memory says
 abbrev pub said_by : Program → Said
 said_by p = record { fields = p.fields; topo = p.topo; lets = lets_of p.lets }
-
--- this is the first fault; want of memory may come at any
-abbrev pub IsFirst : NamesError → MaybeFault → Type 0
-IsFirst NoMemory fault = ⊤
-IsFirst (Fault k line) fault = fault ≡ Some (Fault k line)
 
 -- a text has this fault; want of memory may come at any
 abbrev pub IsFault : {X : Type 0} → NamesError → Result X NamesError → Type 0

@@ -1,10 +1,11 @@
--- What a printed policy is read back as: that policy, its dups numbered anew from 1.
-use Rattle.std.specs.Prelude.{◌≡◌, ℕ, ◌≤◌, true, List, [], ◌∷◌, ◌++◌, None, Ok, All, codes}
-use Rattle.nk_field.specs.Packet.{FieldTable, IsFieldTable, built_in}
+-- What a printed policy is read back as: that policy, its dups numbered anew from 1, over fields that a text can write.
+use Rattle.std.specs.Prelude.{◌≡◌, ℕ, ◌≤◌, true, List, [], ◌∷◌, ◌++◌, None, Ok, codes}
+use Rattle.nk_field.specs.Packet.{FieldTable, built_in}
 use Rattle.nk_lex.specs.declared.token.Token.{Token}
 use Rattle.nk_lex.specs.Lex.{tokens_of}
 use Rattle.nk_lex.specs.Spelling.{IsName, text_of}
 use Rattle.nk_grammar.specs.declared.ast.Word.{Word}
+pub use Rattle.nk_declare.specs.Kept.{IsWritable}
 use Rattle.nk_grammar.specs.Tree.{Tree}
 use Rattle.nk_grammar.specs.Grammar.{Pol, pol_tree}
 use Rattle.nk_grammar.specs.Moved.{tree_moved}
@@ -18,13 +19,6 @@ use Rattle.nk_policy.specs.Text.{pol_bytes}
 use Rattle.nk_names.specs.Complements.{NegatesPredicates}
 use Rattle.nk_names.specs.Meant.{Lets, policy_among, policy_for, unknown_in, misplaced_in}
 use Rattle.nk_names.specs.ProgramOf.{Said, said_with, program_of, row_policy}
-
--- What the fields of a text's program are: a field table, with maxima that a text can write, each name one by the lexical
--- rules and no keyword.
-pub record IsWritable (fields : FieldTable) : Type 0 where
-  pub table : IsFieldTable fields
-  pub maxima : All (λ m. m ≤ 281474976710655) fields.maxima
-  pub names : All IsName fields.names
 
 -- the fields of each text's program are writable
 abbrev pub DeclaresWritable : Type 0

@@ -7,7 +7,7 @@ ghost use Rattle.nk_names.specs.Meant.{lets_of, place_in, policy_for, policies_f
 
 use crate::check::LARGEST_PLACE;
 use crate::lets::Lets;
-use crate::names::field_with;
+use nk_declare::field_with;
 use nk_field::{Fid, Fields};
 use nk_grammar::{Ast, Number, Word};
 use nk_policy::{Pol, Pols, dups, marked};

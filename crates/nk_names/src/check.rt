@@ -6,7 +6,7 @@ ghost use Rattle.nk_names.specs.Meant.{lets_of, fault_if, above, no_value, links
 
 use crate::fault::{FaultKind, NamesError};
 use crate::lets::Lets;
-use crate::names::field_with;
+use nk_declare::field_with;
 use nk_field::Fields;
 use nk_grammar::{Ast, Number, Word};
 
@@ -28,14 +28,14 @@ pub(crate) fn fault_if(wrong: bool, kind: FaultKind, line: u64) -> Option<NamesE
 }
 
 /// The fault of a number above `most`.
-pub(crate) fn above(most: u64, n: Number) -> Option<NamesError>
+fn above(most: u64, n: Number) -> Option<NamesError>
     ensures { result ≡ above most n }
 {
     fault_if(most < n.value, FaultKind::ValueOutOfRange, n.line)
 }
 
 /// The first number of a link that no switch and no port has.
-pub(crate) fn first_above(a: Number, m: Number, b: Number, n: Number) -> Option<NamesError>
+fn first_above(a: Number, m: Number, b: Number, n: Number) -> Option<NamesError>
     ensures { result ≡ links_ends a m b n }
 {
     above(LARGEST_PLACE, a)

@@ -2,7 +2,7 @@
 ghost use Rattle.std.specs.Prelude.{◌≡◌};
 ghost use Rattle.nk_names.specs.declared.fault.NamesError.TheVariants.{NoMemory};
 
-use std::alloc::{AllocError, AllocFailed};
+use std::alloc::AllocError;
 use thiserror::Error;
 
 /// What is wrong with a declaration.
@@ -78,14 +78,6 @@ impl From<AllocError> for NamesError {
     ghost from_gives = { λ _ e. e ≡ NoMemory };
 
     fn from(_: AllocError) -> Self {
-        NamesError::NoMemory
-    }
-}
-
-impl From<AllocFailed<u16>> for NamesError {
-    ghost from_gives = { λ _ e. e ≡ NoMemory };
-
-    fn from(_: AllocFailed<u16>) -> Self {
         NamesError::NoMemory
     }
 }

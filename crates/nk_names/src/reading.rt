@@ -7,6 +7,7 @@ use crate::Program;
 use crate::declare::{no_names, with_decl};
 use crate::fault::NamesError;
 use crate::names::Names;
+use nk_declare::Declared;
 use nk_grammar::File;
 use std::alloc::Global;
 
@@ -21,11 +22,14 @@ pub fn program(alloc: Global, f: &File) -> Result<Program, NamesError>
 {
     let mut names = no_names(alloc)?;
     for decl in f.decls.as_slice() {
+        let _table = names.declared.fields.declared();
         names = with_decl(alloc, names, decl)?;
     }
-    let Names { fields, topo, lets } = names;
+    let Names { declared, lets } = names;
+    let Declared { fields, topo } = declared;
     let topo = topo.finish()?;
     let _switches = topo.switches();
+    let _table = fields.declared();
     Ok(Program {
         fields,
         topo,

@@ -254,7 +254,7 @@ tag_more t w h none =
 -- ---- switches
 
 -- one more number that isn't there
-double_push : (xs : List ℕ) (p : ℕ) → has_double xs ≡ false → list_any (λ q. p == q) xs ≡ false → has_double (xs ++ p ∷ []) ≡ false
+pub double_push : (xs : List ℕ) (p : ℕ) → has_double xs ≡ false → list_any (λ q. p == q) xs ≡ false → has_double (xs ++ p ∷ []) ≡ false
 double_push [] p h n = refl
 double_push (x ∷ xs) p h n =
     let a = neither (list_any (λ m. m == x) xs) (has_double xs) h in

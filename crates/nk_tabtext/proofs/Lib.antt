@@ -1,3 +1,4 @@
+mod Alike
 pub mod Answering
 pub mod Completing
 pub mod Fields

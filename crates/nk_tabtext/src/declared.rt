@@ -1,6 +1,7 @@
 //! What is declared after one more declaration.
-ghost use Rattle.std.specs.Prelude.{◌≡◌, [], ◌∷◌, ◌++◌, None, MatchResult, IfOk, All, map};
+ghost use Rattle.std.specs.Prelude.{◌≡◌, [], ◌∷◌, ◌++◌, None, MatchResult, false, IfOk, All, map};
 ghost use Rattle.std.specs.Str.{IsUtf8};
+ghost use Rattle.nk_topo.specs.Topology.{has_double};
 ghost use Rattle.nk_tabtext.specs.declared.written.Declaration.TheVariants as declared;
 ghost use Rattle.nk_tabtext.specs.Machine.{Returns};
 ghost use Rattle.nk_tabtext.specs.Said.{said_in};
@@ -21,13 +22,14 @@ use crate::names::Names;
 use crate::values::{field_with, refuse_if, small};
 use crate::written::{Declaration, Number, ReadError, Word};
 use nk_field::{Fields, FieldsError, List};
-use nk_topo::{LinkEnd, Topo, TopoError};
+use nk_topo::{LinkEnd, TopoBuilder, TopoError};
 use std::alloc::{AllocError, Global};
 use std::collections::HashSet;
 
 /// The numbers of ports, each in range and none twice.
 fn ports(alloc: Global, all: &[Number]) -> Result<Vec<u16>, ReadError>
-    ensures { Returns (λ v. v.items) result (ports_read [] all.now) }
+    ensures numbers { Returns (λ v. v.items) result (ports_read [] all.now) }
+    ensures once { IfOk result (λ v. has_double v.items ≡ false) }
 {
     let mut seen = HashSet::new(alloc);
     let mut numbers = Vec::new(alloc);
@@ -66,7 +68,7 @@ fn nothing_declared(alloc: Global) -> Result<Names, AllocError>
     ensures { IfOk result (λ n. said_in n ≡ nothing_said) }
 {
     let fields = Fields::new(alloc)?;
-    let topo = Topo::new(alloc)?;
+    let topo = TopoBuilder::new(alloc);
     Ok(Names { fields, topo })
 }
 
@@ -119,8 +121,14 @@ fn with_switch(
     let mut topo = topo;
     match topo.add_switch(number, numbers.as_slice()) {
         Ok(()) => Ok(Names { fields, topo }),
-        // The switch is new, and no port stands twice.
-        Err(_) => Err(ReadError::NoMemory),
+        Err(TopoError::NoMemory) => Err(ReadError::NoMemory),
+        Err(
+            TopoError::SwitchTwice
+            | TopoError::PortTwice
+            | TopoError::NoSuchPort(_)
+            | TopoError::SourceTwice
+            | TopoError::TargetTwice,
+        ) => unreachable!(),
     }
 }
 

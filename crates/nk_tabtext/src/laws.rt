@@ -1,4 +1,5 @@
 //! What reading token by token has to do with the grammar of table texts, and what reading has to do with printing.
+ghost use Rattle.nk_tabtext.specs.Alike.{DeclaresAlike};
 ghost use Rattle.nk_tabtext.specs.Answer.{AnswersTexts, IsUnique, ReadsTexts};
 ghost use Rattle.nk_tabtext.specs.ReadBack.{AnswersPrintable, ReadsPrinted};
 
@@ -27,4 +28,10 @@ pub fn printed_tables_are_read()
 /// What is read of any text are such tables.
 pub fn read_tables_are_printable()
     ensures { AnswersPrintable }
+{}
+
+/// A table text's declarations have a fault exactly where the same declarations of any text, and so of a program, have one, at the
+/// same line; without a fault they say the same.
+pub fn table_texts_declare_as_programs_do()
+    ensures { DeclaresAlike }
 {}

@@ -22,8 +22,8 @@ mod written;
 
 use itoa::Buffer;
 pub use laws::{
-    a_text_has_one_reading, printed_tables_are_read, read_tables_are_printable, texts_are_answered,
-    texts_are_read,
+    a_text_has_one_reading, printed_tables_are_read, read_tables_are_printable,
+    table_texts_declare_as_programs_do, texts_are_answered, texts_are_read,
 };
 use nk_table::Tables;
 pub use reading::read_tables;

@@ -2,12 +2,12 @@
 ghost use Rattle.nk_field.specs.Packet.{IsFieldTable};
 
 use nk_field::Fields;
-use nk_topo::Topo;
+use nk_topo::TopoBuilder;
 
 /// The fields and the topology declared so far.
 #[derive(Drop)]
 pub(crate) struct Names {
     pub(crate) fields: Fields,
-    pub(crate) topo: Topo,
+    pub(crate) topo: TopoBuilder,
     ghost table: { IsFieldTable fields },
 }

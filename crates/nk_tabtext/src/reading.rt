@@ -3,17 +3,18 @@ ghost use Rattle.std.specs.Prelude.{◌≡◌, All, IfOk, IsUtf8};
 ghost use Rattle.nk_lex.specs.Lex.{tokens_of};
 ghost use Rattle.nk_tabtext.specs.Machine.{Returns, written_of};
 ghost use Rattle.nk_tabtext.specs.ReadBack.{IsPrintable};
-ghost use Rattle.nk_tabtext.specs.Values.{IsNamed, last_line, lexed, tables_from, tables_of};
+ghost use Rattle.nk_tabtext.specs.Said.{said_in};
+ghost use Rattle.nk_tabtext.specs.Values.{IsNamed, last_line, lexed, tables_from, tables_of, whole};
 
 use crate::declared::declare;
 use crate::names::Names;
 use crate::reader::read_text;
-use crate::tables::{each, tables};
+use crate::tables::{Tabled, each, tables};
 use crate::values::refuse_if;
 use crate::written::{ReadError, WrittenTables};
 use nk_lex::{LexError, Token, tokens};
 use nk_table::Tables;
-use std::alloc::Global;
+use std::alloc::{AllocError, Global};
 
 /// The tokens of a text, or its first lexical fault.
 fn lex(alloc: Global, text: &[u8]) -> Result<Vec<Token>, ReadError>
@@ -51,8 +52,22 @@ fn last_line(tokens: &[Token]) -> u64
     line
 }
 
-/// The tables that are written, where `line` is that of the last token.
+/// The tables of all declared switches, where these are written.
 #[tactic(auto, using(crate::proofs::Numbers::numbers_rise))]
+fn whole(alloc: Global, names: Names, read: Tabled) -> Result<Tables, AllocError>
+    ensures { IfOk result (λ t. t ≡ whole (said_in names) read.entries) }
+{
+    let Names { fields, topo } = names;
+    let topo = topo.finish()?;
+    let tables = each(alloc, topo.switches(), read)?;
+    Ok(Tables {
+        fields,
+        topo,
+        tables,
+    })
+}
+
+/// The tables that are written, where `line` is that of the last token.
 fn tables_from(alloc: Global, line: u64, text: &WrittenTables) -> Result<Tables, ReadError>
     requires { All IsNamed text.now.declarations }
     ensures { Returns (λ t. t) result (tables_from line text.now) }
@@ -61,13 +76,7 @@ fn tables_from(alloc: Global, line: u64, text: &WrittenTables) -> Result<Tables,
     let names = declare(alloc, text.declarations.as_slice())?;
     let read = tables(alloc, &names, text.tables.as_slice())?;
     refuse_if(names.fields.tag().is_none(), line)?;
-    let tables = each(alloc, names.topo.switches(), read)?;
-    let Names { fields, topo } = names;
-    Ok(Tables {
-        fields,
-        topo,
-        tables,
-    })
+    Ok(whole(alloc, names, read)?)
 }
 
 /// The tables of a text, or its first fault with its line, in this order: a byte that begins no token or a number above

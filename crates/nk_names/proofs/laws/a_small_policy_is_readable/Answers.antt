@@ -3,7 +3,7 @@ use Rattle.std.proofs.lemmas.Fmt.{decimal_digit}
 use Rattle.nk_field.specs.Packet.{built_in}
 use Rattle.nk_policy.specs.Text.{pol_bytes}
 use Rattle.nk_names.specs.ReadBack.{IsReadable, small_policy}
-use Rattle.nk_names.proofs.Writable.{built_in_writable}
+use Rattle.nk_declare.proofs.Kept.{built_in_writable}
 use Rattle.nk_names.proofs.laws.a_small_policy_is_readable.Goals as goal
 
 readable : IsReadable built_in small_policy

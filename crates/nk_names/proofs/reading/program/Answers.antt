@@ -26,15 +26,15 @@ loop-decl-preserved c =
     let written = written_at c.args.f.now.decls c.loop-decl.decl-index c.decl-item.result c.requires within is in
     record {
       said = said_more c.args.f.now.decls c.loop-decl.decl-index c.decl-item.result (said_in c.loop-decl.names) (said_in c.in_ok-names-2.names) _ within is c.in_ok-names-2.ensures c.loop-decl.invariant.said;
-      lets = lets_kept (said_in c.loop-decl.names) (said_in c.in_ok-names-2.names) (declaration_of c.decl-item.result) c.loop-decl.names.table written c.in_ok-names-2.ensures c.loop-decl.invariant.lets;
+      lets = lets_kept (said_in c.loop-decl.names) (said_in c.in_ok-names-2.names) (declaration_of c.decl-item.result) c.declared-table.ensures.is written c.in_ok-names-2.ensures c.loop-decl.invariant.lets;
     }
 
 pub invariant_of-result : goal.invariant_of-result
 invariant_of-result c = record {
-  table = c.loop-decl.names.table;
+  table = c.declared-table-2.ensures.is;
   maxima = c.loop-decl.invariant.lets.maxima;
   topology = c.switches-switches.ensures.is;
   policies =
-      subst (λ ls. All (λ l. IsLet c.loop-decl.names.fields (tree_of l.1)) ls) (sym c.into_list.ensures)
-      (lets_in_memory c.loop-decl.names.fields c.loop-decl.names.lets.entries.items c.loop-decl.invariant.lets.policies);
+      subst (λ ls. All (λ l. IsLet c.loop-decl.names.declared.fields (tree_of l.1)) ls) (sym c.into_list.ensures)
+      (lets_in_memory c.loop-decl.names.declared.fields c.loop-decl.names.lets.entries.items c.loop-decl.invariant.lets.policies);
 }

@@ -1,7 +1,7 @@
 use Rattle.std.proofs.Common.{◌≡◌, drop}
 use Rattle.std.specs.List.{position_from}
 use Rattle.std.specs.Str.{bytes_eq}
-use Rattle.nk_names.proofs.names.field_with.Given as goal
+use Rattle.nk_declare.proofs.names.field_with.Given as goal
 
 -- the name is none of the fields so far
 abbrev pub invariant-loop-place : goal.invariant-loop-place

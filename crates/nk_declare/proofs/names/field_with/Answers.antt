@@ -2,8 +2,8 @@ use Rattle.std.proofs.Common.{◌≡◌, ◌<◌, true, false, Some, length, get
 use Rattle.std.proofs.lemmas.List.{drop_all}
 use Rattle.std.specs.List.{position_from}
 use Rattle.std.specs.Str.{bytes_eq}
-use Rattle.nk_names.proofs.Places.{passes_here, fails_here, from_front}
-use Rattle.nk_names.proofs.names.field_with.Goals as goal
+use Rattle.nk_declare.proofs.Places.{passes_here, fails_here, from_front}
+use Rattle.nk_declare.proofs.names.field_with.Goals as goal
 
 pub returns-then-eq-clause-is : goal.returns-then-eq-clause-is
 returns-then-eq-clause-is c =

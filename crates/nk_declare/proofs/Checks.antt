@@ -1,0 +1,86 @@
+-- What the checks of a declaration leave known.
+use Rattle.std.proofs.Common.{◌≡◌, ℕ, ◌≤◌, Bool, true, false, Option, Some, None, Ok, Err, not, List, [], ◌∷◌, ◌++◌, ◌||◌, refl, sym, ap, subst, ◌∙◌, arith}
+use Rattle.std.specs.declared.result.Result.{Result}
+use Rattle.std.specs.Prelude.{nat_lt, nat_eq, ◌==◌, IsErrAnd, MatchResult}
+use Rattle.std.specs.List.{list_any}
+use Rattle.std.proofs.lemmas.List.Folds.{list_any-append}
+use Rattle.nk_topo.specs.Topology.{has_double}
+use Rattle.nk_grammar.specs.declared.ast.Number.{Number}
+use Rattle.nk_declare.specs.declared.fault.DeclareFault.{DeclareFault}
+use Rattle.nk_declare.specs.declared.fault.DeclareFault.TheVariants as fault
+use Rattle.nk_declare.specs.declared.fault.DeclareError.{DeclareError}
+use Rattle.nk_declare.specs.declared.fault.DeclareError.TheVariants.{Fault, NoMemory}
+use Rattle.nk_declare.specs.Declarations.{MaybeFault, fault_if, first_of, above, ports_fault, IsFirst}
+
+-- of faults that have no first there is none
+pub none_both : {E : Type 0} (a b : Option E) → first_of a b ≡ None → (a ≡ None) × (b ≡ None)
+none_both None b h = (refl, h)
+none_both (Some e) b h = absurd cc
+
+-- a fault that isn't there is no fault
+pub not_wrong : (b : Bool) (k : DeclareFault) (line : ℕ) → fault_if b k line ≡ None → b ≡ false
+not_wrong true k line h = absurd cc
+not_wrong false k line h = refl
+
+-- a number that isn't above a bound is at most it
+pub in_bound : (most : ℕ) (n : Number) → above most n ≡ None → n.value ≤ most
+in_bound most n h = at_most most n.value (not_wrong (nat_lt most n.value) fault.ValueOutOfRange n.line h)
+  where
+    at_most : (m k : ℕ) → nat_lt m k ≡ false → k ≤ m
+    at_most m k h = grind (arith, h)
+
+-- the fault that is there is the first one
+pub is_first : (e : DeclareError) (o : MaybeFault) → o ≡ Some e → IsFirst e o
+is_first NoMemory o h = tt
+is_first (Fault k line) o h = h
+
+-- a test that fails twice over
+not_not : (b : Bool) → not (not b) ≡ b
+not_not true = refl
+not_not false = refl
+
+-- a port that stands before is the first fault
+pub port_twice : (before : List ℕ) (p : Number) (ps : List Number) (b : Bool) (e : DeclareError)
+    → above 65535 p ≡ None → b ≡ list_any (λ q. p.value == q) before → fault_if b fault.PortTwice p.line ≡ Some e
+    → ports_fault before (p ∷ ps) ≡ Some e
+port_twice before p ps b e in_range is h =
+    ap (λ a. first_of (first_of a (fault_if (list_any (λ q. p.value == q) before) fault.PortTwice p.line)) (ports_fault (before ++ p.value ∷ []) ps)) in_range
+    ∙ ap (λ c. first_of (fault_if c fault.PortTwice p.line) (ports_fault (before ++ p.value ∷ []) ps)) (sym is)
+    ∙ ap (λ a. first_of a (ports_fault (before ++ p.value ∷ []) ps)) h
+
+-- after a port without fault the first fault is among the others
+pub port_fits : (before : List ℕ) (p : Number) (ps : List Number) (b : Bool)
+    → above 65535 p ≡ None → b ≡ list_any (λ q. p.value == q) before → fault_if b fault.PortTwice p.line ≡ None
+    → ports_fault before (p ∷ ps) ≡ ports_fault (before ++ p.value ∷ []) ps
+port_fits before p ps b in_range is h =
+    ap (λ a. first_of (first_of a (fault_if (list_any (λ q. p.value == q) before) fault.PortTwice p.line)) (ports_fault (before ++ p.value ∷ []) ps)) in_range
+    ∙ ap (λ c. first_of (fault_if c fault.PortTwice p.line) (ports_fault (before ++ p.value ∷ []) ps)) (sym is)
+    ∙ ap (λ a. first_of a (ports_fault (before ++ p.value ∷ []) ps)) h
+
+-- whether a port stands before, by what was seen
+pub stands_before : (new : Bool) (v n : ℕ) (seen : ℕ → Bool) (before : List ℕ)
+    → new ≡ not (seen n) → ((q : ℕ) → seen q ≡ list_any (nat_eq q) before) → n ≡ v
+    → not new ≡ list_any (λ q. v == q) before
+stands_before new v n seen before added same is =
+    ap not added ∙ not_not (seen n) ∙ same n ∙ ap (λ k. list_any (nat_eq k) before) is
+
+-- one more number that doesn't stand before
+pub once_more : (xs : List ℕ) (p : ℕ) → has_double xs ≡ false → list_any (λ q. p == q) xs ≡ false → has_double (xs ++ p ∷ []) ≡ false
+once_more [] p h n = refl
+once_more (x ∷ xs) p h n =
+    let a = neither (list_any (λ m. m == x) xs) (has_double xs) h in
+    let b = neither (p == x) (list_any (λ q. p == q) xs) n in
+    ap (λ c. c || has_double (xs ++ p ∷ [])) (list_any-append (λ m. m == x) xs (p ∷ []))
+    ∙ ap (λ c. (c || ((p == x) || false)) || has_double (xs ++ p ∷ [])) a.0
+    ∙ ap (λ c. (c || false) || has_double (xs ++ p ∷ [])) b.0
+    ∙ once_more xs p a.1 b.1
+  where
+    neither : (a b : Bool) → (a || b) ≡ false → (a ≡ false) × (b ≡ false)
+    neither true b e = absurd cc
+    neither false b e = (refl, e)
+
+-- what a refusal answers
+pub refused_with : {X : Type 0} (r : Result X DeclareError) (e : DeclareError) (P : X → Type 0) (Q : DeclareError → Type 0)
+    → IsErrAnd r (λ x. x ≡ e) → Q e → MatchResult r P Q
+refused_with (Ok x) e P Q h q = absurd h
+refused_with (Err d) e P Q h q = subst Q (sym h) q

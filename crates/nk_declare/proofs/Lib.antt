@@ -1,0 +1,3 @@
+pub mod Checks
+pub mod Kept
+pub mod Places

@@ -1,0 +1,77 @@
+-- What is declared beside policies, and what all declarations keep.
+use Rattle.std.proofs.Common.{◌≡◌, Ok, Err, List, [], ◌∷◌, map, refl, sym, ap, subst, ◌∙◌}
+use Rattle.std.specs.List.{AllByRecursion}
+use Rattle.std.specs.declared.result.Result.{Result}
+use Rattle.nk_declare.specs.declared.fault.DeclareError.{DeclareError}
+use Rattle.nk_declare.specs.declared.fault.DeclareError.TheVariants as refused
+use Rattle.nk_declare.specs.Declarations.{DeclaredValue, and_then, declared_with, declared_after}
+use Rattle.nk_declare.specs.Declarations as declare
+use Rattle.nk_grammar.specs.File.{Declaration}
+use Rattle.nk_names.specs.declared.fault.NamesError.{NamesError}
+use Rattle.nk_names.specs.Alike.{in_program, SaysDeclared}
+use Rattle.nk_names.specs.Meant.{Lets}
+use Rattle.nk_names.specs.ProgramOf.{Said, nothing_said, declared_part, fault_of, said_beside, said_with, said_after, going_on, IsFault}
+
+-- what is declared with these policies
+abbrev pub beside : Lets → DeclaredValue → Said
+beside lets d = record { fields = d.fields; topo = d.topo; lets = lets }
+
+-- what is declared is said
+pub is_said : (lets : Lets) (r : Result DeclaredValue DeclareError) (d : DeclaredValue) → r ≡ Ok d → said_beside lets r ≡ Ok (beside lets d)
+is_said lets r d h = ap (said_beside lets) h
+
+-- a declaration's fault is the program's
+pub is_refused : (lets : Lets) (r : Result DeclaredValue DeclareError) (e : DeclareError) (f : NamesError)
+    → declare.IsFault e r → f ≡ fault_of e → IsFault f (said_beside lets r)
+is_refused lets r refused.NoMemory f h is = subst (λ x. IsFault x (said_beside lets r)) (sym is) tt
+is_refused lets r (refused.Fault k line) f h is = subst (λ x. IsFault x (said_beside lets r)) (sym is) (ap (said_beside lets) h)
+
+not_ok : (e : NamesError) (s : Said) → ◌≡◌ {A = Result Said NamesError} (Err e) (Ok s) → ⊥
+not_ok e s h = cc
+
+ok_is : (s t : Said) → ◌≡◌ {A = Result Said NamesError} (Ok s) (Ok t) → s ≡ t
+ok_is s t h = cc
+
+-- what is said was declared, without fault
+pub beside_is : (lets : Lets) (r : Result DeclaredValue DeclareError) (s : Said) → said_beside lets r ≡ Ok s
+    → (d : DeclaredValue) × (r ≡ Ok d) × (beside lets d ≡ s)
+beside_is lets (Ok d) s h = (d, refl, ok_is (beside lets d) s h)
+beside_is lets (Err e) s h = absurd (not_ok (fault_of e) s h)
+
+-- going on, both steps are without fault
+both_said : (r : Result Said NamesError) (rest : Said → Result Said NamesError) (t : Said) → going_on r rest ≡ Ok t
+    → (s : Said) × (r ≡ Ok s) × (rest s ≡ Ok t)
+both_said (Ok s) rest t h = (s, refl, h)
+both_said (Err e) rest t h = absurd (not_ok e t h)
+
+-- what each declaration keeps, all of them keep
+pub all_said : (P : Said → Type 0) (Q : Declaration → Type 0)
+    → ((s t : Said) (d : Declaration) → P s → Q d → said_with s d ≡ Ok t → P t)
+    → (ds : List Declaration) (s t : Said) → P s → AllByRecursion Q ds → said_after ds s ≡ Ok t → P t
+all_said P Q one [] s t h are e = subst P (ok_is s t e) h
+all_said P Q one (d ∷ ds) s t h are e =
+    let r = both_said (said_with s d) (said_after ds) t e in
+    all_said P Q one ds r.0 t (one s r.0 d h are.0 r.1) are.1 r.2
+
+-- one declaration says in a program what it declares
+one_alike : (s : Said) (d : declare.Declaration) → said_with s (in_program d) ≡ said_beside s.lets (declared_with (declared_part s) d)
+one_alike s (declare.field w n) = refl
+one_alike s (declare.tag w) = refl
+one_alike s (declare.switch n ps) = refl
+one_alike s (declare.link a m b n) = refl
+
+-- and so do all
+after_alike : (ds : List declare.Declaration) (s : Said) → said_after (map in_program ds) s ≡ said_beside s.lets (declared_after ds (declared_part s))
+after_alike [] s = refl
+after_alike (d ∷ ds) s =
+    ap (λ r. going_on r (said_after (map in_program ds))) (one_alike s d)
+    ∙ by (declared_with (declared_part s) d) (λ x. after_alike ds (beside s.lets x))
+  where
+    by : (r : Result DeclaredValue DeclareError)
+        → ((x : DeclaredValue) → said_after (map in_program ds) (beside s.lets x) ≡ said_beside s.lets (declared_after ds x))
+        → going_on (said_beside s.lets r) (said_after (map in_program ds)) ≡ said_beside s.lets (and_then r (declared_after ds))
+    by (Ok x) h = h x
+    by (Err e) h = refl
+
+pub says_declared : SaysDeclared
+says_declared ds = after_alike ds nothing_said
