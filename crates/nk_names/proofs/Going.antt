@@ -13,9 +13,8 @@ use Rattle.nk_grammar.specs.declared.decl.Decl.{Decl}
 use Rattle.nk_grammar.specs.Tree.{Tree}
 use Rattle.nk_grammar.specs.File.{Declaration, field, tag, switch, declared_link, definition, declaration_of, IsWritten}
 use Rattle.nk_names.specs.declared.fault.NamesError.{NamesError}
-use Rattle.nk_names.specs.declared.fault.NamesError.TheVariants.{Fault, NoMemory}
 use Rattle.nk_names.specs.Meant.{Lets, lets_of, policy_for}
-use Rattle.nk_names.specs.ProgramOf.{Said, declared_part, going_on, said_with, said_after, nothing_said, IsFault, let_fault}
+use Rattle.nk_names.specs.ProgramOf.{Said, declared_part, going_on, said_with, said_after, let_fault}
 use Rattle.nk_names.specs.ProgramValue.{IsLet}
 use Rattle.nk_policy.specs.Ranges.{IsOver}
 use Rattle.nk_names.specs.Complements.{NegatesPredicates}
