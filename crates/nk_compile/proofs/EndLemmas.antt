@@ -4,7 +4,7 @@ use Rattle.std.specs.Prelude.{◌==◌, if◌then◌else◌, is_none}
 use Rattle.std.proofs.lemmas.List.{drop_more}
 use Rattle.std.proofs.lemmas.Bool.Decides.{nat_tests}
 use Rattle.nk_field.proofs.Lists.{numbers_decided}
-use Rattle.nk_policy.specs.Policy.{Policy, Policies, link, no_part, part}
+use Rattle.nk_policy.specs.Policy.{Policy, Policies, link, part}
 use Rattle.nk_policy.specs.Tree.{tree_of, trees_of}
 use Rattle.nk_policy.specs.declared.policy.Pol.{Pol}
 use Rattle.nk_compile.specs.WholeTable.{or_else, link_end, link_end_among}

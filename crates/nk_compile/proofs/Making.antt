@@ -10,7 +10,7 @@ use Rattle.nk_policy.specs.Labels.{IsTagSet, AtLeast}
 use Rattle.nk_names.specs.Accepted.{IsStart, IsCompilable, is_link_outside, most_tags}
 use Rattle.nk_store.specs.Held.{Held}
 use Rattle.nk_tag.specs.Numbers.{IsAtOdd}
-use Rattle.nk_compile.specs.Refusals.{seen_with, seen_for, seen, found_from, IsReason}
+use Rattle.nk_compile.specs.Refusals.{seen_with, seen_for, seen, found_from}
 use Rattle.nk_compile.specs.Answers.{IsError}
 use Rattle.nk_compile.specs.Levelled.{IsLeastOff, IsOffFault, IsTagFault}
 use Rattle.nk_compile.specs.OffEdge.{EndsOffEdge, EndsOnEdges}
