@@ -1,9 +1,8 @@
 -- Flights through tables that carry a policy.
-use Rattle.std.proofs.Common.{◌≡◌, ℕ, ◌+◌, Some, List, refl, sym, ap, subst}
+use Rattle.std.proofs.Common.{◌≡◌, ℕ, ◌+◌, Some, List, refl, sym, subst}
 use Rattle.std.specs.Prelude.{◌==◌, slice_get, Contains}
 use Rattle.nk_field.proofs.Lists.{In, in_from_contains, contains_from_in, in_mapped, from_mapped}
 use Rattle.nk_policy.specs.Policy.{Policy}
-use Rattle.nk_policy.specs.Meaning.{Gives}
 use Rattle.nk_names.specs.declared.Program.{Program}
 use Rattle.nk_names.specs.Accepted.{IsStart}
 use Rattle.nk_table.specs.declared.Tables.{Tables}
@@ -11,7 +10,7 @@ use Rattle.nk_table.specs.Hops.{Copy, left_after}
 use Rattle.nk_compile.specs.Carries.{Carries}
 use Rattle.nk_flight.specs.Flights.{Event, nothing_in_flight, after_events}
 use Rattle.nk_flight.specs.Owed.{flying_from, crossings, left_from, with_crossings, erased_copy}
-use Rattle.nk_flight.specs.Once.{all_erased, IsEachOnce, LeaveOnce}
+use Rattle.nk_flight.specs.Once.{all_erased, LeaveOnce}
 use Rattle.nk_flight.proofs.Clauses.{once_in_flight, none_left_twice, in_kept}
 use Rattle.nk_flight.proofs.Owing.{eq_true}
 use Rattle.nk_schedules.specs.Schedules.{IsOf, IsEachOnceOf, IsNoOther}

@@ -4,7 +4,7 @@ use Rattle.std.specs.Prelude.{Ok}
 use Rattle.nk_field.specs.Order.{Found}
 use Rattle.nk_field.specs.Packet.{FieldTable, IsFieldTable}
 use Rattle.nk_policy.specs.After.{drop_policy}
-use Rattle.nk_policy.specs.Policy.{Policy, marked_from, dups_of}
+use Rattle.nk_policy.specs.Policy.{marked_from, dups_of}
 use Rattle.nk_names.specs.declared.Program.{Program}
 use Rattle.nk_names.specs.ProgramOf.{said_by}
 use Rattle.nk_cert.specs.Certificates.{CertificateValue}

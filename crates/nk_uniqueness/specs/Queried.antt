@@ -1,5 +1,4 @@
 -- What asking a query tells, as a plain value.
-use Rattle.std.specs.Prelude.{◌≡◌}
 use Rattle.nk_field.specs.Order.{Found}
 use Rattle.nk_field.specs.Packet.{FieldTable}
 use Rattle.nk_policy.specs.After.{drop_policy}
