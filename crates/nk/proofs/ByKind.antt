@@ -20,7 +20,7 @@ use Rattle.nk_cert.specs.Certificates.{CertificateValue, IsCertificate}
 use Rattle.nk_cert.specs.Equality.{AreSame}
 use Rattle.nk_cert.specs.Verdicts.{RowPart, valid, invalid, IsFinding}
 use Rattle.nk_cert.proofs.Findings.{one_finding}
-use Rattle.nk_query.specs.Asked.{Asked, apart, waypoint, NoneBreaks}
+use Rattle.nk_query.specs.Asked.{Asked, NoneBreaks}
 use Rattle.nk_query.specs.Answers.{asked_policy}
 use Rattle.nk_compile.proofs.ReasonByName.{never_refused}
 use Rattle.nk_cert.proofs.OneAlone.{no_difference}

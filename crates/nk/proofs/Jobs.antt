@@ -1,6 +1,6 @@
 -- The job over a text: its steps, and what they come to.
-use Rattle.std.proofs.Common.{◌≡◌, ◌++◌, ℕ, List, length, refl, sym, ap, inl, inr}
-use Rattle.std.specs.Prelude.{Some, codes}
+use Rattle.std.proofs.Common.{◌≡◌, ◌++◌, ℕ, List, length, refl, ap, inl, inr}
+use Rattle.std.specs.Prelude.{codes}
 use Rattle.nk_policy.specs.Policy.{Policy}
 use Rattle.nk_names.specs.declared.Program.{Program}
 use Rattle.nk_names.specs.ProgramOf.{said_by}

@@ -1,5 +1,5 @@
 -- What the bytes of a text say is one, and a text that says something has no fault.
-use Rattle.std.proofs.Common.{◌≡◌, ℕ, List, refl, sym, ap, subst, ◌∙◌}
+use Rattle.std.proofs.Common.{◌≡◌, ℕ, List, sym, ap, subst, ◌∙◌}
 use Rattle.std.specs.Prelude.{Ok, Err}
 use Rattle.std.specs.declared.result.Result.{Result}
 use Rattle.nk_lex.specs.declared.token.Token.{Token}
@@ -20,7 +20,7 @@ use Rattle.nk_certtext.specs.declared.error.CertError.{CertError}
 use Rattle.nk_certtext.specs.declared.error.CertError.TheVariants as rows
 use Rattle.nk_certtext.specs.Rows.{certificate_of}
 use Rattle.nk.specs.ProgramText.{Declares, HasFault, TellsGrammar, TellsLexical, TellsNames, IsFaultOfNames, IsFaultOfTokens, IsFaultOfBytes}
-use Rattle.nk.specs.CertifiedText.{HoldsCertificate, HasCertifiedFault, TellsRows, IsFaultOfRows, IsFaultOfSaid, IsFaultOfCertified, IsFaultOfCertifiedTokens, IsFaultOfCertifiedBytes}
+use Rattle.nk.specs.CertifiedText.{HoldsCertificate, HasCertifiedFault, TellsRows, IsFaultOfRows, IsFaultOfSaid, IsFaultOfCertifiedTokens, IsFaultOfCertifiedBytes}
 
 pub ok_is : {X E : Type 0} (x y : X) → ◌≡◌ {A = Result X E} (Ok x) (Ok y) → x ≡ y
 ok_is x y e = cc

@@ -16,7 +16,7 @@ use Rattle.nk_compile.specs.Counted.{HasTagCount}
 use Rattle.nk_compile.specs.Headline.{IsCompiled}
 use Rattle.nk.specs.Comparing.{AreNamed, IsEqualAnswer}
 use Rattle.nk.specs.Compiling.{IsCompileAnswer}
-use Rattle.nk.specs.Outcome.{Outcome, done, differs, text_refused, policy_refused}
+use Rattle.nk.specs.Outcome.{Outcome, done}
 use Rattle.nk.specs.ProgramText.{Declares}
 
 -- the answer of `gen SIZE SEED`
