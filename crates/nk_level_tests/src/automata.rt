@@ -139,12 +139,7 @@ impl Goal for NothingBad {
 }
 
 /// The levels of some rows from the start at some packets, all of them: nothing is bad.
-fn levels_of(
-    st: &mut Store,
-    ss: &mut Sets,
-    rows: &[Id],
-    start: Id,
-) -> Result<Levels, AllocError>
+fn levels_of(st: &mut Store, ss: &mut Sets, rows: &[Id], start: Id) -> Result<Levels, AllocError>
     requires rows { AreRows st.old rows.now }
     requires some { 0 < length rows.now }
     requires packets { IsSet st.old start }
