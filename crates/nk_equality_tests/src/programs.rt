@@ -7,28 +7,24 @@ use nk_field::{Fields, history_text, packet_text};
 use nk_grammar::file;
 use nk_lex::{Token, tokens};
 use nk_names::reading::program;
-use nk_names::{NamesError, Program};
+use nk_names::Program;
 use nk_reach::{Found, Side};
 use std::alloc::{AllocError, Global};
 use std::test::Fail;
 
 /// The program of the tokens of a text.
-fn declared_by(alloc: Global, tokens: &[Token]) -> Result<Program, NamesError>
+fn declared_by(alloc: Global, tokens: &[Token]) -> Result<Program, Fail>
     requires texts { All (λ t. IsUtf8 t.text) tokens.now }
     requires small { All (λ t. t.value ≤ largest) tokens.now }
 {
-    match file(alloc, tokens) {
-        Ok(file) => program(alloc, &file),
-        Err(_) => Err(NamesError::NoMemory),
-    }
+    let tree = file(alloc, tokens)?;
+    Ok(program(alloc, &tree)?)
 }
 
-/// The program of a text; a text that is none counts as want of memory.
-pub fn declared(alloc: Global, text: &[u8]) -> Result<Program, NamesError> {
-    match tokens(alloc, text) {
-        Ok(tokens) => declared_by(alloc, &tokens),
-        Err(_) => Err(NamesError::NoMemory),
-    }
+/// The program of a text; of a text that is none the test fails with its fault.
+pub fn declared(alloc: Global, text: &[u8]) -> Result<Program, Fail> {
+    let read = tokens(alloc, text)?;
+    declared_by(alloc, &read)
 }
 
 /// The program with two policies, and one that is the first of them in other words.

@@ -10,7 +10,7 @@ use nk_field::{Fid, Packet};
 use nk_grammar::file;
 use nk_lex::{Token, tokens};
 use nk_names::reading::program;
-use nk_names::{NamesError, Program};
+use nk_names::Program;
 use nk_policy::{Pol, histories, is_predicate};
 use nk_sim::emit;
 use nk_table::Tables;
@@ -205,14 +205,12 @@ const DECLARATIONS: &[u8] =
     b"field a 2 field b 2 field vlan 1 tag vlan switch 1 ports 1,2 let p = ";
 
 /// The program of the tokens of a text.
-pub(super) fn declared_by(alloc: Global, tokens: &[Token]) -> Result<Program, NamesError>
+pub(super) fn declared_by(alloc: Global, tokens: &[Token]) -> Result<Program, Fail>
     requires texts { All (λ t. IsUtf8 t.text) tokens.now }
     requires small { All (λ t. t.value ≤ largest) tokens.now }
 {
-    match file(alloc, tokens) {
-        Ok(file) => program(alloc, &file),
-        Err(_) => Err(NamesError::NoMemory),
-    }
+    let tree = file(alloc, tokens)?;
+    Ok(program(alloc, &tree)?)
 }
 
 /// Whether the tables of a policy's text send each packet exactly to where the policy ends.
