@@ -2,8 +2,6 @@
 #![tactic(auto)]
 
 mod drawn;
-#[cfg(test)]
-mod generated;
 mod network;
 mod program;
 mod text;
