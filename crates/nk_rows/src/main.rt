@@ -49,7 +49,7 @@ use std::alloc::AllocError;
 use std::{fs, io};
 
 /// The files, in the order in which they are told. One that isn't named here isn't run.
-const FILES: [&str; 13] = [
+const FILES: [&str; 14] = [
     "words.rows",
     "texts.rows",
     "refused.rows",
@@ -63,6 +63,7 @@ const FILES: [&str; 13] = [
     "certificates.rows",
     "queries.rows",
     "faults.rows",
+    "guide.rows",
 ];
 
 fn main(rt: HostRuntime) -> io::Result<()> {
