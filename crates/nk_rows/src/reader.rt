@@ -160,7 +160,7 @@ fn say(alloc: Global, row: &mut Row, line: &str) -> Result<Place, Fault> {
         None => (line, ""),
     };
     match (word.as_bytes(), rest.as_bytes()) {
-        (b"at", _) => say_cuts(row, numbers_of(alloc, rest)?)?,
+        (b"at", _) => say_cuts(alloc, row, numbers_of(alloc, rest)?.as_slice())?,
         (b"status", _) | (b"out" | b"err", b"") => {
             return match row.cuts.last_mut() {
                 Some(cut) => say_wanted(alloc, cut, word, rest),
@@ -212,18 +212,16 @@ fn say_wanted(alloc: Global, wanted: &mut Wanted, word: &str, rest: &str) -> Res
 }
 
 /// Takes the lengths of cuts of which something is said below. Of no cut it is said twice.
-fn say_cuts(row: &mut Row, lengths: Vec<u64>) -> Result<(), Fault> {
-    let mut above = lengths.as_slice();
-    while let [length, rest @ ..] = above {
+fn say_cuts(alloc: Global, row: &mut Row, lengths: &[u64]) -> Result<(), Fault> {
+    let mut cuts = Wanted::new(Vec::new(alloc));
+    for length in lengths {
         let is_told = row.cuts.iter().any(|cut| cut.lengths.contains(length));
-        if is_told || rest.contains(length) {
+        if is_told || cuts.lengths.contains(length) {
             return Err(Fault::Malformed);
         }
-        above = rest;
+        cuts.lengths.push(*length)?;
     }
-    row.cuts
-        .push(Wanted::new(lengths))
-        .map_err(|_| Fault::NoMemory)
+    row.cuts.push(cuts).map_err(|_| Fault::NoMemory)
 }
 
 /// Takes the numbers of the calls that fail, each at least 1.

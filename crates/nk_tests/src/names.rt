@@ -21,7 +21,11 @@ fn a_predicate_is_resolved(rt: HostRuntime) -> Result<(), Fail> {
     };
     let test = Ast::Test(field, Number { value: 7, line: 4 });
     let policy = resolve(alloc, &program, &test, 3)?;
-    assert!(rt; matches!(&policy, Pol::Test(Fid::PORT, 7)));
+    let tests_the_port = match policy {
+        Pol::Test(field, value) => field == Fid::PORT && value == 7,
+        _ => false,
+    };
+    assert!(rt; tests_the_port);
     let refused = resolve(alloc, &program, &Ast::Dup, 3).err();
     let fault = NamesError::Fault {
         kind: FaultKind::NotAPredicate,
