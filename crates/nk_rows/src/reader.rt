@@ -219,7 +219,7 @@ fn say_cuts(alloc: Global, row: &mut Row, lengths: &[u64]) -> Result<(), Fault> 
         if is_told || cuts.lengths.contains(length) {
             return Err(Fault::Malformed);
         }
-        cuts.lengths.push(*length)?;
+        cuts.lengths.push(*length).map_err(|_| Fault::NoMemory)?;
     }
     row.cuts.push(cuts).map_err(|_| Fault::NoMemory)
 }
