@@ -8,8 +8,8 @@
 //!     |WORDS            the words and a line feed
 //!     .WORDS            the words alone
 //!     $NAME             the text of that name, from above
-//!     *TIMES WORDS      the words, so often
-//!     @FIRST LAST STEP WORDS     the words for each number from FIRST up to LAST, by steps
+//!     *TIMES WORDS      the words, so often, at least once
+//!     @FIRST LAST STEP WORDS     the words for each number from FIRST up to LAST, not below it, by steps of at least 1
 //!
 //! In words `\n`, `\r`, `\t` and `\s` are a line feed, a return, a tab and a space, `\\` is a backslash, and behind `@` `\i` is
 //! the number and `\p` the one before. Every other line begins with its word:
@@ -29,12 +29,20 @@
 //!     each call fails   it is also run with each of these calls of the source failing, and `out` at its first: that has to end
 //!                       with status 5, nothing on `out` and `read fault` on `err`. And with each of these calls of `out` failing,
 //!                       and `err` at its first: status 6, the pieces before on `out`, and no call of `err`
-//!     cut               it is also run with the input cut off after each byte. With no further word of a cut it may end in any
-//!                       way but for want of memory
-//!     else NUMBER       how each cut has to end of which no line `at` speaks
+//!     cut               it is also run with the input cut off after each byte. With no further word of a cut it has to end in the
+//!                       shape of an answer: with status 0 or 1 `out` took something and `err` nothing, with any other but 7, want
+//!                       of memory, `err` took something and `out` nothing
+//!     else NUMBER       how each cut has to end of which no line `at` speaks: in that shape with this status
+//!     ends N*TIMES ..   the same by lengths: of the first cuts, from the empty one on, so many with status N, and so on to the last
 //!     at NUMBER ..      so many bytes of the input; `status`, `out` and `err` behind it are of these cuts
 //!
-//! A row without `words` or a status is malformed, and so is any other line.
+//! A number is digits alone. Of one row or cut each is said once, with one of `else` and `ends`, and of a length by one `at`; behind `at`
+//! stand `at`, `status`, `out` and `err` alone. No two texts of a file have a name, and no two rows. A row without `words` or a
+//! status is malformed, one with `each call fails` and no `calls`, one that speaks of a cut that isn't made, or, by `ends`, not of
+//! each; and so is any other line. Of a file with malformed lines no row is run: each such line is told, and then the line of each
+//! malformed row.
+//!
+//! The rows of wrong.rows are such as don't hold, and the lines of malformed.rows that say so are malformed: both show that it is told.
 #![tactic(auto)]
 
 mod reader;
@@ -42,14 +50,13 @@ mod row;
 mod text;
 mod trial;
 
-use crate::reader::rows_of;
-use crate::row::{Fault, Row};
+use crate::reader::said_of;
+use crate::row::Row;
 use crate::trial::tried;
-use std::alloc::AllocError;
 use std::{fs, io};
 
 /// The files, in the order in which they are told. One that isn't named here isn't run.
-const FILES: [&str; 14] = [
+const FILES: [&str; 16] = [
     "words.rows",
     "texts.rows",
     "refused.rows",
@@ -64,15 +71,19 @@ const FILES: [&str; 14] = [
     "queries.rows",
     "faults.rows",
     "guide.rows",
+    "wrong.rows",
+    "malformed.rows",
 ];
 
 fn main(rt: HostRuntime) -> io::Result<()> {
     for file in FILES {
         let text = fs::read_to_string(&rt, file)?;
-        match rows_of(rt.alloc(), text.as_str()) {
-            Ok(rows) => tell(&rt, file, rows.as_slice())?,
-            Err((line, Fault::Malformed)) => println!(rt; "{file}: line {line} is malformed")?,
-            Err((_, Fault::NoMemory)) => return Err(AllocError.into()),
+        let said = said_of(rt.alloc(), text.as_str())?;
+        if said.malformed.is_empty() {
+            tell(&rt, file, said.rows.as_slice())?;
+        }
+        for line in said.malformed {
+            println!(rt; "{file}: line {line} is malformed")?;
         }
     }
     Ok(())

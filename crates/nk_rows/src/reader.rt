@@ -1,7 +1,7 @@
 //! Reads the rows of a file, a line at a time.
 use crate::row::{Calls, Fault, Pieces, Row, Wanted};
 use crate::text::{Named, number_of, piece_of, put_word};
-use std::alloc::Global;
+use std::alloc::{AllocError, Global};
 
 /// Where the lines of a text go.
 #[derive(Clone, Copy, PartialEq, Eq)]
@@ -22,27 +22,41 @@ struct Reader {
     place: Place,
 }
 
-/// The rows of a file; or a line of it that is malformed, or at which memory ran out, from 1.
-pub(crate) fn rows_of(alloc: Global, file: &str) -> Result<Vec<Row>, (u64, Fault)> {
+/// What a file says.
+#[derive(Drop)]
+pub(crate) struct Said {
+    pub(crate) rows: Vec<Row>,
+    /// The lines that are malformed, from 1, each passed over; then those at which a row begins that is malformed as a whole.
+    pub(crate) malformed: Vec<u64>,
+}
+
+/// What a file says, unless memory runs out.
+pub(crate) fn said_of(alloc: Global, file: &str) -> Result<Said, AllocError> {
     let mut reader = Reader {
         alloc,
         texts: Vec::new(alloc),
         rows: Vec::new(alloc),
         place: Place::Nowhere,
     };
+    let mut malformed = Vec::new(alloc);
     let mut number = 0u64;
     for line in file.lines() {
         number = number.saturating_add(1);
-        if let Err(fault) = reader.take(line, number) {
-            return Err((number, fault));
+        match reader.take(line, number) {
+            Ok(()) => {}
+            Err(Fault::Malformed) => malformed.push(number)?,
+            Err(Fault::NoMemory) => return Err(AllocError),
         }
     }
     for row in reader.rows.iter() {
         if !row.is_formed() {
-            return Err((row.line, Fault::Malformed));
+            malformed.push(row.line)?;
         }
     }
-    Ok(reader.rows)
+    Ok(Said {
+        rows: reader.rows,
+        malformed,
+    })
 }
 
 impl Reader {
@@ -59,8 +73,7 @@ impl Reader {
             return self.begin_text(name);
         }
         if let Some(name) = line.strip_prefix("row ") {
-            let row = Row::new(self.alloc, name, number)?;
-            return self.rows.push(row).map_err(|_| Fault::NoMemory);
+            return self.begin_row(name, number);
         }
         match self.rows.last_mut() {
             Some(row) => {
@@ -86,6 +99,17 @@ impl Reader {
         self.texts.push(named).map_err(|_| Fault::NoMemory)
     }
 
+    /// Begins a row. No row above has its name.
+    fn begin_row(&mut self, name: &str, number: u64) -> Result<(), Fault> {
+        for row in self.rows.iter() {
+            if row.name.as_str() == name {
+                return Err(Fault::Malformed);
+            }
+        }
+        let row = Row::new(self.alloc, name, number)?;
+        self.rows.push(row).map_err(|_| Fault::NoMemory)
+    }
+
     /// Puts bytes behind the text that is being read.
     fn put(&mut self, bytes: &[u8]) -> Result<(), Fault> {
         if self.place == Place::Named {
@@ -104,8 +128,7 @@ impl Reader {
 /// Puts bytes behind a text of the row.
 fn put_of_row(row: &mut Row, place: Place, bytes: &[u8]) -> Result<(), Fault> {
     if place == Place::Input {
-        row.input.extend_from_slice(bytes)?;
-        return Ok(());
+        return put_of_text(&mut row.input, bytes);
     }
     match row.cuts.last_mut() {
         Some(cut) => put_of_wanted(cut, place, bytes),
@@ -116,9 +139,17 @@ fn put_of_row(row: &mut Row, place: Place, bytes: &[u8]) -> Result<(), Fault> {
 /// Puts bytes behind a text that is wanted.
 fn put_of_wanted(wanted: &mut Wanted, place: Place, bytes: &[u8]) -> Result<(), Fault> {
     match place {
-        Place::Out => Ok(wanted.out.extend_from_slice(bytes)?),
-        Place::Err => Ok(wanted.err.extend_from_slice(bytes)?),
+        Place::Out => put_of_text(&mut wanted.out, bytes),
+        Place::Err => put_of_text(&mut wanted.err, bytes),
         _ => Err(Fault::Malformed),
+    }
+}
+
+/// Puts bytes behind a text that has begun.
+fn put_of_text(text: &mut Option<Vec<u8>>, bytes: &[u8]) -> Result<(), Fault> {
+    match text {
+        Some(text) => Ok(text.extend_from_slice(bytes)?),
+        None => Err(Fault::Malformed),
     }
 }
 
@@ -129,45 +160,86 @@ fn say(alloc: Global, row: &mut Row, line: &str) -> Result<Place, Fault> {
         None => (line, ""),
     };
     match (word.as_bytes(), rest.as_bytes()) {
-        (b"in", b"") if row.input.is_empty() => return Ok(Place::Input),
-        (b"out", b"") => return Ok(Place::Out),
-        (b"err", b"") => return Ok(Place::Err),
-        (b"words", _) if row.words.is_none() => row.words = Some(words_of(alloc, rest)?),
-        (b"status", _) => say_status(row, number_of(rest)?)?,
-        (b"at", _) => {
-            let cut = Wanted::new(alloc, numbers_of(alloc, rest)?);
-            row.cuts.push(cut).map_err(|_| Fault::NoMemory)?;
+        (b"at", _) => say_cuts(alloc, row, numbers_of(alloc, rest)?.as_slice())?,
+        (b"status", _) | (b"out" | b"err", b"") => {
+            return match row.cuts.last_mut() {
+                Some(cut) => say_wanted(alloc, cut, word, rest),
+                None => say_wanted(alloc, &mut row.whole, word, rest),
+            };
         }
-        (b"else", _) if row.elsewhere.is_none() => row.elsewhere = Some(number_of(rest)?),
-        (b"cut", b"") => row.is_cut = true,
-        (b"each", b"call fails") => row.fails_in_turn = true,
-        (b"pieces", _) => row.pieces = pieces_of(alloc, rest)?,
-        (b"calls", _) => row.calls = Some(calls_of(alloc, rest)?),
+        _ if !row.cuts.is_empty() => return Err(Fault::Malformed),
+        (b"in", b"") => {
+            say_once(&mut row.input, Vec::new(alloc))?;
+            return Ok(Place::Input);
+        }
+        (b"words", _) => say_once(&mut row.words, words_of(alloc, rest)?)?,
+        (b"pieces", _) => say_once(&mut row.pieces, pieces_of(alloc, rest)?)?,
+        (b"calls", _) => say_once(&mut row.calls, calls_of(alloc, rest)?)?,
+        (b"else", _) => say_once(&mut row.elsewhere, number_of(rest)?)?,
+        (b"ends", _) => say_once(&mut row.ends, ends_of(alloc, rest)?)?,
+        (b"cut", b"") if !row.is_cut => row.is_cut = true,
+        (b"each", b"call fails") if !row.fails_in_turn => row.fails_in_turn = true,
         _ => say_fails(alloc, row, word, rest)?,
     }
     Ok(Place::Nowhere)
 }
 
-/// Takes the status with which a run ends: the whole one, or that of the cuts that were named last.
-fn say_status(row: &mut Row, status: u64) -> Result<(), Fault> {
-    match row.cuts.last_mut() {
-        Some(cut) => cut.end_with(status),
-        None => row.whole.end_with(status),
+/// Takes what is said once.
+fn say_once<T: Drop>(said: &mut Option<T>, value: T) -> Result<(), Fault> {
+    if said.is_some() {
+        return Err(Fault::Malformed);
+    }
+    *said = Some(value);
+    Ok(())
+}
+
+/// Takes what has to come: a status, or that the text of `out` or `err` follows.
+fn say_wanted(alloc: Global, wanted: &mut Wanted, word: &str, rest: &str) -> Result<Place, Fault> {
+    match word.as_bytes() {
+        b"status" => {
+            say_once(&mut wanted.status, number_of(rest)?)?;
+            Ok(Place::Nowhere)
+        }
+        b"out" => {
+            say_once(&mut wanted.out, Vec::new(alloc))?;
+            Ok(Place::Out)
+        }
+        _ => {
+            say_once(&mut wanted.err, Vec::new(alloc))?;
+            Ok(Place::Err)
+        }
     }
 }
 
-/// Takes the numbers of the calls that fail.
+/// Takes the lengths of cuts of which something is said below. Of no cut it is said twice.
+fn say_cuts(alloc: Global, row: &mut Row, lengths: &[u64]) -> Result<(), Fault> {
+    let mut cuts = Wanted::new(Vec::new(alloc));
+    for length in lengths {
+        let is_told = row.cuts.iter().any(|cut| cut.lengths.contains(length));
+        if is_told || cuts.lengths.contains(length) {
+            return Err(Fault::Malformed);
+        }
+        cuts.lengths.push(*length).map_err(|_| Fault::NoMemory)?;
+    }
+    row.cuts.push(cuts).map_err(|_| Fault::NoMemory)
+}
+
+/// Takes the numbers of the calls that fail, each at least 1.
 fn say_fails(alloc: Global, row: &mut Row, word: &str, rest: &str) -> Result<(), Fault> {
     let Some(numbers) = rest.strip_prefix("fails ") else {
         return Err(Fault::Malformed);
     };
     let numbers = numbers_of(alloc, numbers)?;
-    match word.as_bytes() {
-        b"source" => row.fails.source = numbers,
-        b"out" => row.fails.out = numbers,
-        b"err" => row.fails.err = numbers,
+    let said = match word.as_bytes() {
+        b"source" => &mut row.fails.source,
+        b"out" => &mut row.fails.out,
+        b"err" => &mut row.fails.err,
         _ => return Err(Fault::Malformed),
+    };
+    if !said.is_empty() || numbers.contains(&0) {
+        return Err(Fault::Malformed);
     }
+    *said = numbers;
     Ok(())
 }
 
@@ -221,4 +293,23 @@ fn calls_of(alloc: Global, rest: &str) -> Result<Calls, Fault> {
         }),
         _ => Err(Fault::Malformed),
     }
+}
+
+/// The statuses of cuts by their length: of each piece its status, so often as it says.
+fn ends_of(alloc: Global, rest: &str) -> Result<Vec<u64>, Fault> {
+    let mut ends = Vec::new(alloc);
+    for piece in rest.split(' ') {
+        let Some((status, times)) = piece.split_once('*') else {
+            return Err(Fault::Malformed);
+        };
+        let status = number_of(status)?;
+        let times = number_of(times)?;
+        if times == 0 {
+            return Err(Fault::Malformed);
+        }
+        for _ in 0..times {
+            ends.push(status).map_err(|_| Fault::NoMemory)?;
+        }
+    }
+    Ok(ends)
 }

@@ -6,7 +6,7 @@ use std::alloc::{AllocError, Global};
 pub(crate) enum Fault {
     /// There is not enough memory.
     NoMemory,
-    /// The line, or the row that begins there, is none.
+    /// The line is none.
     Malformed,
 }
 
@@ -57,28 +57,27 @@ pub(crate) struct Wanted {
     /// The lengths of the cuts of which this is said; of the whole input no length is given.
     pub(crate) lengths: Vec<u64>,
     pub(crate) status: Option<u64>,
-    pub(crate) out: Vec<u8>,
-    pub(crate) err: Vec<u8>,
+    pub(crate) out: Option<Vec<u8>>,
+    pub(crate) err: Option<Vec<u8>>,
 }
 
 impl Wanted {
     /// Nothing is said yet of these cuts.
-    pub(crate) fn new(alloc: Global, lengths: Vec<u64>) -> Wanted {
+    pub(crate) fn new(lengths: Vec<u64>) -> Wanted {
         Wanted {
             lengths,
             status: None,
-            out: Vec::new(alloc),
-            err: Vec::new(alloc),
+            out: None,
+            err: None,
         }
     }
+}
 
-    /// Takes the status, which is said once.
-    pub(crate) fn end_with(&mut self, status: u64) -> Result<(), Fault> {
-        if self.status.is_some() {
-            return Err(Fault::Malformed);
-        }
-        self.status = Some(status);
-        Ok(())
+/// The bytes of a text of which nothing may be said; then it is empty.
+pub(crate) fn bytes_of(text: &Option<Vec<u8>>) -> &[u8] {
+    match text {
+        Some(bytes) => bytes.as_slice(),
+        None => &[],
     }
 }
 
@@ -89,8 +88,8 @@ pub(crate) struct Row {
     /// The line at which it begins, from 1.
     pub(crate) line: u64,
     pub(crate) words: Option<Vec<String>>,
-    pub(crate) input: Vec<u8>,
-    pub(crate) pieces: Pieces,
+    pub(crate) input: Option<Vec<u8>>,
+    pub(crate) pieces: Option<Pieces>,
     pub(crate) fails: Fails,
     pub(crate) whole: Wanted,
     pub(crate) calls: Option<Calls>,
@@ -100,45 +99,66 @@ pub(crate) struct Row {
     pub(crate) is_cut: bool,
     /// How each cut ends that isn't among those below.
     pub(crate) elsewhere: Option<u64>,
+    /// The same by the cut's length.
+    pub(crate) ends: Option<Vec<u64>>,
     pub(crate) cuts: Vec<Wanted>,
 }
 
 impl Row {
     /// A row of which nothing is said yet.
     pub(crate) fn new(alloc: Global, name: &str, line: u64) -> Result<Row, AllocError> {
-        let most = Pieces {
-            source: 1 << 20,
-            out: 1 << 20,
-            err: 1 << 20,
-        };
         Ok(Row {
             name: String::from_str(alloc, name)?,
             line,
             words: None,
-            input: Vec::new(alloc),
-            pieces: most,
+            input: None,
+            pieces: None,
             fails: Fails::new(alloc),
-            whole: Wanted::new(alloc, Vec::new(alloc)),
+            whole: Wanted::new(Vec::new(alloc)),
             calls: None,
             fails_in_turn: false,
             is_cut: false,
             elsewhere: None,
+            ends: None,
             cuts: Vec::new(alloc),
         })
     }
 
-    /// Whether all is said that has to be, and each cut of which something is said is made.
+    /// How many bytes each call takes at most.
+    pub(crate) fn pieces(&self) -> Pieces {
+        match self.pieces {
+            Some(pieces) => pieces,
+            None => Pieces {
+                source: 1 << 20,
+                out: 1 << 20,
+                err: 1 << 20,
+            },
+        }
+    }
+
+    /// Whether all is said that has to be, and what is said of cuts is of ones that are made.
     pub(crate) fn is_formed(&self) -> bool {
         self.words.is_some()
             && self.whole.status.is_some()
             && (self.calls.is_some() || !self.fails_in_turn)
-            && (self.is_cut || (self.cuts.is_empty() && self.elsewhere.is_none()))
+            && (self.is_cut
+                || (self.cuts.is_empty() && self.elsewhere.is_none() && self.ends.is_none()))
+            && (self.elsewhere.is_none() || self.ends.is_none())
+            && self.is_told_of_each()
             && self.cuts.iter().all(|cut| self.makes(cut))
+    }
+
+    /// Whether `ends`, if it is said, has a status for each cut.
+    fn is_told_of_each(&self) -> bool {
+        match &self.ends {
+            Some(ends) => ends.len() == bytes_of(&self.input).len(),
+            None => true,
+        }
     }
 
     /// Whether it is said how these cuts end, and the input is long enough for them.
     fn makes(&self, cut: &Wanted) -> bool {
-        let most = self.input.len() as u64;
+        let most = bytes_of(&self.input).len() as u64;
         cut.status.is_some()
             && !cut.lengths.is_empty()
             && cut.lengths.iter().all(|length| *length < most)

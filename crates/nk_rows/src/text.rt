@@ -114,6 +114,9 @@ fn put_repeated(alloc: Global, text: &mut Vec<u8>, rest: &str) -> Result<(), Fau
         return Err(Fault::Malformed);
     };
     let times = number_of(times)?;
+    if times == 0 {
+        return Err(Fault::Malformed);
+    }
     let mut bytes = Vec::new(alloc);
     put_words(alloc, &mut bytes, words, None)?;
     for _ in 0..times {
@@ -136,11 +139,11 @@ fn put_counted(alloc: Global, text: &mut Vec<u8>, rest: &str) -> Result<(), Faul
     let first = number_of(first)?;
     let last = number_of(last)?;
     let step = number_of(step)?;
+    if first > last || step == 0 {
+        return Err(Fault::Malformed);
+    }
     for number in first..=last {
-        if step == 0 {
-            return Err(Fault::Malformed);
-        }
-        if (number - first) % step == 0 {
+        if (number - first).checked_rem(step) == Some(0) {
             let before = number.saturating_sub(step);
             put_words(alloc, text, words, Some(Place { number, before }))?;
         }
@@ -148,8 +151,11 @@ fn put_counted(alloc: Global, text: &mut Vec<u8>, rest: &str) -> Result<(), Faul
     Ok(())
 }
 
-/// The number of a word of digits.
+/// The number of a word of digits alone.
 pub(crate) fn number_of(word: &str) -> Result<u64, Fault> {
+    if !word.as_bytes().iter().all(|byte| byte.is_ascii_digit()) {
+        return Err(Fault::Malformed);
+    }
     match word.parse::<u64>() {
         Ok(number) => Ok(number),
         Err(_) => Err(Fault::Malformed),

@@ -1,5 +1,5 @@
 //! Runs a row, and compares what comes with what has to.
-use crate::row::{Calls, Fails, Row, Wanted};
+use crate::row::{Calls, Fails, Row, Wanted, bytes_of};
 use nk::run;
 use nk_io::{MemSink, MemSource};
 use std::alloc::{AllocError, Global};
@@ -39,9 +39,9 @@ enum Due<'a> {
         err: &'a [u8],
         calls: Option<Calls>,
     },
-    /// The status alone.
+    /// The status, and the shape of an answer.
     Status(u64),
-    /// Any answer, which isn't one for want of memory.
+    /// The shape of an answer.
     Answer,
 }
 
@@ -80,7 +80,7 @@ pub(crate) fn tried(alloc: Global, row: &Row) -> Result<Outcome, AllocError> {
         tried: nothing,
     };
     let due = due_of(&row.whole, row.calls);
-    trial.judge(Which::Whole, row.input.as_slice(), &row.fails, due)?;
+    trial.judge(Which::Whole, bytes_of(&row.input), &row.fails, due)?;
     if let (true, Some(calls)) = (row.fails_in_turn, row.calls) {
         trial.reads(calls)?;
         trial.writes(calls)?;
@@ -102,7 +102,7 @@ impl Trial<'_> {
             let made = Calls {
                 source: call,
                 out: 0,
-                err: (err.len() as u64).div_ceil(self.row.pieces.err.max(1)),
+                err: (err.len() as u64).div_ceil(self.row.pieces().err.max(1)),
             };
             let due = Due::All {
                 status: READ_FAULT,
@@ -111,7 +111,7 @@ impl Trial<'_> {
                 calls: Some(made),
             };
             let row = self.row;
-            self.judge(Which::Read(call), row.input.as_slice(), &fails, due)?;
+            self.judge(Which::Read(call), bytes_of(&row.input), &fails, due)?;
         }
         Ok(())
     }
@@ -119,12 +119,12 @@ impl Trial<'_> {
     /// Each of these calls of `out` fails in turn.
     fn writes(&mut self, calls: Calls) -> Result<(), AllocError> {
         let row = self.row;
-        let answer = row.whole.out.as_slice();
+        let answer = bytes_of(&row.whole.out);
         for call in 1..=calls.out {
             let mut fails = Fails::new(self.alloc);
             fails.out.push(call)?;
             fails.err.push(1)?;
-            let before = (call - 1).saturating_mul(row.pieces.out) as usize;
+            let before = (call - 1).saturating_mul(row.pieces().out) as usize;
             let made = Calls {
                 source: calls.source,
                 out: call,
@@ -136,7 +136,7 @@ impl Trial<'_> {
                 err: b"",
                 calls: Some(made),
             };
-            self.judge(Which::Write(call), row.input.as_slice(), &fails, due)?;
+            self.judge(Which::Write(call), bytes_of(&row.input), &fails, due)?;
         }
         Ok(())
     }
@@ -144,7 +144,7 @@ impl Trial<'_> {
     /// The input is cut off after each byte.
     fn cuts(&mut self) -> Result<(), AllocError> {
         let row = self.row;
-        let input = row.input.as_slice();
+        let input = bytes_of(&row.input);
         for length in 0..input.len() {
             let due = due_of_cut(row, length as u64);
             self.judge(Which::Cut(length), &input[..length], &row.fails, due)?;
@@ -175,7 +175,7 @@ impl Trial<'_> {
     /// What comes of a run on this input, with these calls failing.
     fn came_of(&self, input: &[u8], fails: &Fails) -> Result<Came, AllocError> {
         let alloc = self.alloc;
-        let pieces = self.row.pieces;
+        let pieces = self.row.pieces();
         let input = Vec::from_slice(alloc, input)?;
         let source_fails = Vec::from_slice(alloc, fails.source.as_slice())?;
         let mut source = MemSource::new(input, pieces.source.max(1) as usize, source_fails);
@@ -210,8 +210,8 @@ fn due_of(wanted: &Wanted, calls: Option<Calls>) -> Due<'_> {
     match wanted.status {
         Some(status) => Due::All {
             status,
-            out: wanted.out.as_slice(),
-            err: wanted.err.as_slice(),
+            out: bytes_of(&wanted.out),
+            err: bytes_of(&wanted.err),
             calls,
         },
         None => Due::Answer,
@@ -225,7 +225,11 @@ fn due_of_cut(row: &Row, length: u64) -> Due<'_> {
             return due_of(cut, None);
         }
     }
-    match row.elsewhere {
+    let told = match &row.ends {
+        Some(ends) => ends.get(length as usize).copied(),
+        None => row.elsewhere,
+    };
+    match told {
         Some(status) => Due::Status(status),
         None => Due::Answer,
     }
@@ -245,8 +249,20 @@ fn meets(came: &Came, due: Due) -> bool {
                 && came.err.taken() == err
                 && calls.is_none_or(|calls| came.calls == calls)
         }
-        Due::Status(status) => came.status == status,
-        Due::Answer => came.status != NO_MEMORY,
+        Due::Status(status) => came.status == status && has_shape(came),
+        Due::Answer => has_shape(came),
+    }
+}
+
+/// Whether it has the shape of an answer: with status 0 or 1 `out` alone took something, with another one `err` alone. Want of
+/// memory is none.
+fn has_shape(came: &Came) -> bool {
+    let out = came.out.taken();
+    let err = came.err.taken();
+    match came.status {
+        0 | 1 => !out.is_empty() && err.is_empty(),
+        NO_MEMORY => false,
+        _ => out.is_empty() && !err.is_empty(),
     }
 }
 

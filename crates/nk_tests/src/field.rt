@@ -1,5 +1,5 @@
-//! Acts, a history of one, and how acts and lists compare.
-use nk_field::{Act, Fid, History, List, Packet, Short};
+//! Eighteen fields, a packet over them, acts, a history of one, and how acts and lists compare.
+use nk_field::{Act, Fid, Fields, FieldsError, History, List, Packet, Short, packet_text};
 use std::cmp::Ordering;
 use std::hash::{DefaultHasher, Hash, Hasher};
 use std::test::Fail;
@@ -21,6 +21,55 @@ fn order_of<T: Ord + Hash>(a: &T, b: &T) -> Option<Ordering> {
     } else {
         None
     }
+}
+
+#[test]
+fn a_packet_over_eighteen_fields(rt: HostRuntime) -> Result<(), Fail> {
+    let mut fields = Fields::new(rt.alloc())?;
+    let tag = fields.add("vlan", 4095)?;
+    fields.set_tag(tag);
+    assert_eq!(rt; fields.add("sw", 9), Err(FieldsError::FieldTwice));
+    for name in [
+        "a", "b", "c", "d", "e", "f", "g", "h", "i", "j", "k", "l", "m", "n", "o",
+    ] {
+        fields.add(name, 0)?;
+    }
+    assert_eq!(rt; fields.add("p", 9), Err(FieldsError::TooManyFields));
+    let copy = fields.copy()?;
+    let last = Fid::new(17);
+    assert_eq!(rt;
+        (copy.len(), copy.declared(), copy.tag()),
+        (18, 16, Some(tag))
+    );
+    assert_eq!(rt; (copy.find("o"), copy.find("p")), (Some(last), None));
+    assert_eq!(rt; copy.name(tag), "vlan");
+    assert_eq!(rt; (copy.max(last), copy.max(tag)), (0, 4095));
+
+    let mut packet = Packet::zero();
+    packet.set(&copy, tag, 4095);
+    packet.put(last, 5);
+    assert_eq!(rt; (packet.get(tag), packet.get(last)), (4095, 5));
+    packet.erase_tag(&copy);
+    assert_eq!(rt; (packet.get(tag), packet.get(last)), (0, 5));
+    Ok(())
+}
+
+#[test]
+fn a_packet_with_its_tag_and_without(rt: HostRuntime) -> Result<(), Fail> {
+    let alloc = rt.alloc();
+    let mut fields = Fields::new(alloc)?;
+    let dst = fields.add("dst", 3)?;
+    let tag = fields.add("vlan", 7)?;
+    fields.set_tag(tag);
+    let mut packet = Packet::zero();
+    for (field, value) in [(Fid::SWITCH, 1), (Fid::PORT, 2), (dst, 3), (tag, 5)] {
+        packet.put(field, value);
+    }
+    let text = packet_text(alloc, &fields, &packet, true)?;
+    assert_eq!(rt; text.as_slice(), b"sw=1,pt=2,dst=3,vlan=5".as_slice());
+    let text = packet_text(alloc, &fields, &packet, false)?;
+    assert_eq!(rt; text.as_slice(), b"sw=1,pt=2,dst=3".as_slice());
+    Ok(())
 }
 
 #[test]
