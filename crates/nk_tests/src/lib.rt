@@ -17,6 +17,4 @@ mod policy;
 #[cfg(test)]
 mod table;
 #[cfg(test)]
-mod tabtext;
-#[cfg(test)]
 mod topo;
