@@ -8,7 +8,7 @@ use Rattle.nk_topo.proofs.Members.{In, InOrder, order_from_pairs}
 use Rattle.nk_table.proofs.Crossing.{joined_mapped}
 use Rattle.nk_topo.specs.Inside.{link_of}
 use Rattle.nk_table.specs.declared.Tables.{Tables}
-use Rattle.nk_tabtext.specs.Text.{switch_text, link_text, topology_text, fields_text, tag_text, section_text, table_bytes}
+use Rattle.nk_tabtext.specs.Text.{switch_text, link_text, topology_text, fields_text, tag_text, section_text, version_of, version_text, table_bytes}
 
 -- a switch has the ports that its number has among switches that ascend
 own_ports : (ss : List SwitchPorts) (s : SwitchPorts) → InOrder (λ q r. q.switch < r.switch) ss → In ss s →
@@ -51,19 +51,20 @@ topology_lines t a b ls e f =
     ∙ ap (λ l. a ++ (flat_map switch_text t.switches ++ l)) (sym (joined_mapped link_of link_text ls) ∙ ap (flat_map link_text) f)
 
 -- the parts of the text, one behind the other
-pub whole : (t : Tables) (numbers a b d e f : List ℕ) → a ≡ codes "tables 1\n" → b ≡ a ++ fields_text t.fields →
+pub whole : (t : Tables) (numbers a b d e f : List ℕ) → a ≡ version_text (version_of t) → b ≡ a ++ fields_text t.fields →
     d ≡ b ++ tag_text t.fields → e ≡ d ++ topology_text t.topo →
     f ≡ e ++ flat_map (λ n. section_text t.fields t.tables n) numbers → numbers ≡ numbers_of t.topo → f ≡ table_bytes t
 whole t numbers a b d e f first second third fourth fifth same =
     let tables = flat_map (λ n. section_text t.fields t.tables n) numbers in
+    let first_line = version_text (version_of t) in
     let sections : flat_map (λ n. section_text t.fields t.tables n) numbers
     ≡ flat_map (λ s. section_text t.fields t.tables s.switch) t.topo.switches =
     ap (flat_map (λ n. section_text t.fields t.tables n)) same
     ∙ joined_mapped (λ (s : SwitchPorts). s.switch) (λ n. section_text t.fields t.tables n) t.topo.switches in
     fifth
     ∙ ap (λ l. l ++ tables) (fourth ∙ ap (λ l. l ++ topology_text t.topo) (third ∙ ap (λ l. l ++ tag_text t.fields) (second ∙ ap (λ l. l ++ fields_text t.fields) first)))
-    ∙ regroup (codes "tables 1\n") (fields_text t.fields) (tag_text t.fields) (topology_text t.topo) tables
-    ∙ ap (λ l. codes "tables 1\n" ++ fields_text t.fields ++ tag_text t.fields ++ topology_text t.topo ++ l) sections
+    ∙ regroup first_line (fields_text t.fields) (tag_text t.fields) (topology_text t.topo) tables
+    ∙ ap (λ l. first_line ++ fields_text t.fields ++ tag_text t.fields ++ topology_text t.topo ++ l) sections
   where
     regroup : (v w x y z : List ℕ) → (((v ++ w) ++ x) ++ y) ++ z ≡ v ++ w ++ x ++ y ++ z
     regroup v w x y z = simp append_assoc
