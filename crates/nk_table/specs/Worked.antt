@@ -119,8 +119,8 @@ GroupsCopy =
     × (sent_for grouped (packet 1 1 0 0) ≡ [])
     × (row_for grouped 1 (packet 1 1 0 0) ≡ Some (row 3 ((2, 0, 2) ∷ []) target.Discard))
 
--- A vlan has three digits. One of 4 or 5 goes to port 1, one of 6 or 7 to port 2, and the exact 7, twice among the
--- highest rows, is dropped: once its length is above the digits. Any packet of dst 3 goes back where no row is higher.
+-- A vlan has three digits. Where it is 4 or 5 a packet goes to port 1, and where it is 6 or 7 to port 2. Two higher rows
+-- match 7 alone, the second by a length above the digits. The lowest row matches each vlan, and of dst 3 alone.
 abbrev pub prefixes : Tables
 prefixes =
     one_table [] (
@@ -131,7 +131,7 @@ prefixes =
     ∷ row 1 ((3, 0, 0) ∷ (2, 3, 2) ∷ []) (target.Bucket (bucket [] Back))
     ∷ [])
 
--- a prefix matches the values with its first digits, and no others
+-- A prefix matches the values with its first digits, and no others. The two rows of 7 tie.
 abbrev pub PrefixesMatch : Type 0
 PrefixesMatch =
     (sent_for prefixes (packet 1 9 3 4) ≡ packet 1 1 3 4 ∷ [])
