@@ -30,8 +30,9 @@ use Rattle.nk_tabtext.proofs.HeadLines.{AreFieldsShown, lex_fields, written_fiel
 use Rattle.nk_tabtext.proofs.HeadValues.{FieldsFit, SwitchesFit, said_of, fields_back, with_switches, switches_back}
 use Rattle.nk_tabtext.proofs.Valued.{AreTablesGood, TablesFrom, table_entry, tables_back, each_is}
 use Rattle.nk_tabtext.proofs.Answering.{reads}
+use Rattle.nk_tabtext.proofs.Heads.{version_is}
 use Rattle.nk_tabtext.proofs.HeadBack.{two_first, has_one, fields_fit, fields_shown, tag_back, ports_from, IsSwitchFine, Below, switches_fit, switches_shown, AreLinkable, links_back, links_shown}
-use Rattle.nk_tabtext.proofs.TablesBack.{AreDeclarable, NumbersFit, numbers_fit, tables_good, tables_shown, tables_rise, sections, found_in_tables, found_over_numbers, over_numbers}
+use Rattle.nk_tabtext.proofs.TablesBack.{AreDeclarable, NumbersFit, numbers_fit, tables_good, tables_shown, tables_rise, sections, found_in_tables, over_numbers}
 
 -- one list of declarations and then another
 said_joined : (xs ys : List Declaration) (s : Said) → said_after (xs ++ ys) s ≡ and_then (said_after xs s) (said_after ys)
@@ -145,9 +146,6 @@ module _ (b : Bool) where
 
   version_known : (((if b then 2 else 1) == 1) || ((if b then 2 else 1) == 2)) ≡ true
   version_known = elim b as (λ v. (((if v then 2 else 1) == 1) || ((if v then 2 else 1) == 2)) ≡ true) [ true ↦ refl | false ↦ refl ]
-
-  version_two : b ≡ true → (if b then 2 else 1) ≡ 2
-  version_two e = ap (λ v. if v then 2 else 1) e
 
 -- whether some match is a prefix
 abbrev some_prefix : Tables → Bool
@@ -290,11 +288,9 @@ fits t f h e = record {
 
     only : list_any (λ u. have_prefix t.fields u.rows) t.tables ≡ true → version_of t ≡ 2
     only e =
-        version_two (some_prefix t)
-        (found_over_numbers (λ n. have_prefix t.fields (rows_of t.tables n)) t.topo.switches
-        ∙ ap (list_any (λ n. have_prefix t.fields (rows_of t.tables n))) (sym h.each)
-        ∙ found_in_tables (have_prefix t.fields) 0 [] t.tables tt (tables_rise t.topo 0 t.tables numbers)
-        ∙ e)
+        sym (version_is t (map (λ u. u.switch) t.tables) true
+        (sym (found_in_tables (have_prefix t.fields) 0 [] t.tables tt (tables_rise t.topo 0 t.tables numbers) ∙ e))
+        h.each)
 
     tables : AllByRecursion (IsTableOf t.fields) t.tables
     tables = recursion_from_All (IsTableOf t.fields) t.tables h.tables

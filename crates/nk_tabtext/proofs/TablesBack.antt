@@ -307,10 +307,6 @@ found_in_tables found low before (t ∷ ts) b h =
     ∙ ap (λ all. found t.rows || list_any (λ n. found (rows_of all n)) (map (λ u. u.switch) ts)) (sym (append_assoc before (t ∷ []) ts))
     ∙ ap (λ x. found t.rows || x) (found_in_tables found (t.switch + 1) (before ++ t ∷ []) ts (below_push (t.switch + 1) before t (below_more t.switch (t.switch + 1) before (omega arith) below) (omega arith)) h.1)
 
-pub found_over_numbers : (p : ℕ → Bool) (ss : List SwitchPorts) → list_any (λ s. p s.switch) ss ≡ list_any p (map (λ s. s.switch) ss)
-found_over_numbers p [] = refl
-found_over_numbers p (s ∷ ss) = ap (λ b. p s.switch || b) (found_over_numbers p ss)
-
 -- over the numbers of switches
 pub over_numbers : {X : Type 0} (f : ℕ → List X) (ss : List SwitchPorts) → flat_map (λ s. f s.switch) ss ≡ flat_map f (map (λ s. s.switch) ss)
 over_numbers f [] = refl

@@ -179,7 +179,7 @@ match_kept version fs is before m s e = by (field_named fs m.name.text) refl e
 put_ascends : (P : ℕ × ℕ × ℕ → Type 0) (low : ℕ) (before : List (ℕ × ℕ × ℕ)) (m : ℕ × ℕ × ℕ) → MatchesAscend low before → AllByRecursion P before
     → low ≤ m.0 → list_any (λ x. x.0 == m.0) before ≡ false → P m → MatchesAscend low (put_match m before) × AllByRecursion P (put_match m before)
 put_ascends P low [] m up all le new p = ((le, tt), (p, tt))
-put_ascends P low (x ∷ xs) m up all le new p = by (nat_lt x.0 m.0) refl
+put_ascends P low (x ∷ xs) m up all le new p = by (nat_lt x.0 m.0) refl (λ first n. put_ascends P (x.0 + 1) xs m up.1 all.1 first n p)
   where
     other : list_any (λ y. y.0 == m.0) (x ∷ xs) ≡ false → ((x.0 == m.0) ≡ false) × (list_any (λ y. y.0 == m.0) xs ≡ false)
     other e = neither (x.0 == m.0) (list_any (λ y. y.0 == m.0) xs) e
@@ -193,11 +193,13 @@ put_ascends P low (x ∷ xs) m up all le new p = by (nat_lt x.0 m.0) refl
     Kept : List (ℕ × ℕ × ℕ) → Type 0
     Kept l = MatchesAscend low l × AllByRecursion P l
 
-    by : (b : Bool) → nat_lt x.0 m.0 ≡ b → Kept (put_match m (x ∷ xs))
-    by true h =
-        let rest = put_ascends P (x.0 + 1) xs m up.1 all.1 (less x.0 m.0 h) (other new).1 p in
+    by : (b : Bool) → nat_lt x.0 m.0 ≡ b
+        → (x.0 + 1 ≤ m.0 → list_any (λ y. y.0 == m.0) xs ≡ false → MatchesAscend (x.0 + 1) (put_match m xs) × AllByRecursion P (put_match m xs))
+        → Kept (put_match m (x ∷ xs))
+    by true h go =
+        let rest = go (less x.0 m.0 h) (other new).1 in
         subst Kept (sym (placed_behind (λ z. nat_lt z.0 m.0) m x xs h)) ((up.0, rest.0), (all.0, rest.1))
-    by false h =
+    by false h go =
         subst Kept (sym (placed_front (λ z. nat_lt z.0 m.0) m x xs h)) ((le, (more x.0 m.0 h (other new).0, up.1)), (p, all))
 
 -- matches that ascend, each one of the field table

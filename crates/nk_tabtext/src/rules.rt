@@ -21,10 +21,11 @@ fn is_the_tag(fs: &Fields, f: Fid) -> bool
 }
 
 /// Whether all digits of the field count in a match.
-fn is_exact(fs: &Fields, m: (Fid, u64, u8)) -> bool
-    ensures { result ≡ text.is_exact fs.now m }
+fn is_exact(fs: &Fields, m: &(Fid, u64, u8)) -> bool
+    ensures { result ≡ text.is_exact fs.now m.now }
 {
-    m.2 == digits_at(fs, m.0)
+    let (f, _, length) = *m;
+    length == digits_at(fs, f)
 }
 
 /// Whether some of these matches is a prefix.
@@ -32,7 +33,7 @@ fn some_prefix(fs: &Fields, ms: &[(Fid, u64, u8)]) -> bool
     ensures { result ≡ list_any (λ m. not (text.is_exact fs.now m)) ms.now }
 {
     for m in ms {
-        if !is_exact(fs, *m) {
+        if !is_exact(fs, m) {
             return true;
         }
     }
@@ -75,23 +76,25 @@ pub(crate) fn version(t: &Tables) -> u64
 }
 
 /// How many digits of a match's value count, unless all do.
-fn length(out: &mut Vec<u8>, fs: &Fields, m: (Fid, u64, u8)) -> Result<(), AllocError>
-    ensures { OnOk result (out.new.items ≡ out.old.items ++ length_text fs.now m) }
+fn length(out: &mut Vec<u8>, fs: &Fields, m: &(Fid, u64, u8)) -> Result<(), AllocError>
+    ensures { OnOk result (out.new.items ≡ out.old.items ++ length_text fs.now m.now) }
 {
     if is_exact(fs, m) {
         return Ok(());
     }
+    let (_, _, length) = *m;
     out.extend_from_slice(b"/")?;
-    number(out, m.2 as u64)
+    number(out, length as u64)
 }
 
 /// A match, with a space behind it.
-fn one_match(out: &mut Vec<u8>, fs: &Fields, m: (Fid, u64, u8)) -> Result<(), AllocError>
-    ensures { OnOk result (out.new.items ≡ out.old.items ++ match_text fs.now m) }
+fn one_match(out: &mut Vec<u8>, fs: &Fields, m: &(Fid, u64, u8)) -> Result<(), AllocError>
+    ensures { OnOk result (out.new.items ≡ out.old.items ++ match_text fs.now m.now) }
 {
-    out.extend_from_slice(fs.name(m.0).as_bytes())?;
+    let (f, value, _) = *m;
+    out.extend_from_slice(fs.name(f).as_bytes())?;
     out.extend_from_slice(b"=")?;
-    number(out, m.1)?;
+    number(out, value)?;
     length(out, fs, m)?;
     out.extend_from_slice(b" ")?;
     Ok(())
@@ -118,16 +121,17 @@ fn some_matches(
     ensures { OnOk result (out.new.items ≡ out.old.items ++ matches_text fs.now tag ms.now) }
 {
     for m in ms {
-        match_if(out, fs, *m, tag)?;
+        match_if(out, fs, m, tag)?;
     }
     Ok(())
 }
 
 /// A match, where it is of the tag or not as is asked.
-fn match_if(out: &mut Vec<u8>, fs: &Fields, m: (Fid, u64, u8), tag: bool) -> Result<(), AllocError>
-    ensures { OnOk result (out.new.items ≡ out.old.items ++ where_same (is_tag fs.now m.0) tag (match_text fs.now m)) }
+fn match_if(out: &mut Vec<u8>, fs: &Fields, m: &(Fid, u64, u8), tag: bool) -> Result<(), AllocError>
+    ensures { OnOk result (out.new.items ≡ out.old.items ++ where_same (is_tag fs.now m.now.0) tag (match_text fs.now m.now)) }
 {
-    if is_the_tag(fs, m.0) == tag {
+    let (f, _, _) = *m;
+    if is_the_tag(fs, f) == tag {
         one_match(out, fs, m)
     } else {
         Ok(())

@@ -1,5 +1,5 @@
 //! Matches, buckets, groups and rows as they are written, and what they mean.
-ghost use Rattle.std.specs.Prelude.{◌≡◌, ◌≤◌, ◌<◌, ◌-◌, ◌%◌, ◌^◌, [], ◌∷◌, Ok, not, map, length, nat_lt, IfOk, IfSome, MatchResult};
+ghost use Rattle.std.specs.Prelude.{◌≡◌, ◌≤◌, ◌<◌, ◌-◌, ◌%◌, ◌^◌, [], ◌∷◌, Ok, not, map, length, nat_lt, IfOk, IfSome, OnOk, MatchResult};
 ghost use Rattle.std.specs.Prelude.{◌==◌};
 ghost use Rattle.std.specs.List.{list_any, prefix_len};
 ghost use Rattle.nk_field.specs.Packet.{field_named};
@@ -19,6 +19,7 @@ ghost use Rattle.nk_tabtext.specs.Values.{
   ones_fault,
   pair_read,
   pairs_read,
+  put_match,
   row_read,
   rows_read,
   target_read,
@@ -34,7 +35,7 @@ use crate::written::{
 use nk_field::{Act, Fid, Fields, List};
 use nk_prefix::digits_of;
 use nk_table::{Bucket, Exit, Group, Row, Target};
-use std::alloc::Global;
+use std::alloc::{AllocError, Global};
 use std::collections::BTreeMap;
 
 /// The largest number of a switch and of a port, and the largest priority.
@@ -213,6 +214,15 @@ fn place_of(matches: &[(Fid, u64, u8)], field: Fid) -> usize
     place
 }
 
+/// Puts a match behind those of lower fields.
+fn put(before: &mut Vec<(Fid, u64, u8)>, m: (Fid, u64, u8)) -> Result<(), AllocError>
+    ensures { OnOk result (before.new.items ≡ put_match m before.old.items) }
+{
+    let place = place_of(before.as_slice(), m.0);
+    before.insert(place, m)?;
+    Ok(())
+}
+
 /// Matches of fields but the switch, each field once.
 fn matches(
     alloc: Global,
@@ -225,8 +235,7 @@ fn matches(
     let mut before = Vec::new(alloc);
     for m in all {
         let m = matched(version, fields, before.as_slice(), m)?;
-        let place = place_of(before.as_slice(), m.0);
-        before.insert(place, m)?;
+        put(&mut before, m)?;
     }
     Ok(List::from_vec(before))
 }
