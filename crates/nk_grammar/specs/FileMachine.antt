@@ -55,13 +55,13 @@ is_comma (outside comma) = true
 is_comma t = false
 
 -- by the name, or the other
-abbrev pub in_word : {A : Type 0} → Option Word → A → (Word → A) → A
-in_word (Some w) other f = f w
-in_word None other f = other
+abbrev pub by_name : {A : Type 0} → Option Word → A → (Word → A) → A
+by_name (Some w) other f = f w
+by_name None other f = other
 
 -- a name may come
 abbrev pub with_name : {A : Type 0} → Terminal → A → (Word → A) → A
-with_name t other f = in_word (name_in t) other f
+with_name t other f = by_name (name_in t) other f
 
 -- a declaration begins
 abbrev pub begin_declaration : List Declaration → Terminal → Option Reading

@@ -3,8 +3,8 @@
 use Rattle.std.specs.Prelude.{◌≡◌, ℕ, List, [], ◌∷◌, ◌++◌}
 use Rattle.nk_grammar.specs.declared.ast.Word.{Word}
 use Rattle.nk_grammar.specs.declared.ast.Number.{Number}
-use Rattle.nk_grammar.specs.Terminal.{Terminal, name, number, tilde, opening, closing, plus_sign, semicolon, star_sign, equal, becomes, colon, fat_arrow, id_word, drop_word, dup_word}
-use Rattle.nk_grammar.specs.Tree.{Tree, Trees, name_of, test, assign, sum_of, seq_of, not_of, star_of, dup, link, no_part, part, with_part, sum_from, seq_from}
+use Rattle.nk_grammar.specs.Terminal.{Terminal, name, number, tilde, opening, closing, plus_sign, semicolon, star_sign, equal, becomes, colon, fat_arrow, id_word, drop_word, dup_word, in_word, dots}
+use Rattle.nk_grammar.specs.Tree.{Tree, Trees, name_of, test, range, assign, sum_of, seq_of, not_of, star_of, dup, link, no_part, part, with_part, sum_from, seq_from}
 
 mutual
   -- pol : term { + term }
@@ -22,8 +22,8 @@ mutual
     plain : Atom → Factor
     starred : Factor → Factor
 
-  -- atom : ~ atom | id | drop | dup | NAME | NAME = NUMBER | NAME := NUMBER
-  --      | NUMBER : NUMBER => NUMBER : NUMBER | ( pol )
+  -- atom : ~ atom | id | drop | dup | NAME | NAME = NUMBER | NAME in NUMBER .. NUMBER
+  --      | NAME := NUMBER | NUMBER : NUMBER => NUMBER : NUMBER | ( pol )
   pub data Atom : Type 0 where
     written_not : (line : ℕ) → Atom → Atom
     written_id : Atom
@@ -31,6 +31,7 @@ mutual
     written_dup : Atom
     written_name : Word → Atom
     written_test : Word → Number → Atom
+    written_range : Word → (low high : Number) → Atom
     written_set : Word → Number → Atom
     written_link : Number → Number → Number → Number → Atom
     paren : Pol → Atom
@@ -56,6 +57,7 @@ abbrev mutual
   spell_atom written_dup = dup_word ∷ []
   spell_atom (written_name w) = name w ∷ []
   spell_atom (written_test w n) = name w ∷ equal ∷ number n ∷ []
+  spell_atom (written_range w a b) = name w ∷ in_word ∷ number a ∷ dots ∷ number b ∷ []
   spell_atom (written_set w n) = name w ∷ becomes ∷ number n ∷ []
   spell_atom (written_link a m b n) = number a ∷ colon ∷ number m ∷ fat_arrow ∷ number b ∷ colon ∷ number n ∷ []
   spell_atom (paren p) = opening ∷ spell_pol p ++ closing ∷ []
@@ -84,6 +86,7 @@ abbrev mutual
   atom_tree written_dup = dup
   atom_tree (written_name w) = name_of w
   atom_tree (written_test w n) = test w n
+  atom_tree (written_range w a b) = range w a b
   atom_tree (written_set w n) = assign w n
   atom_tree (written_link a m b n) = link a m b n
   atom_tree (paren p) = sum_from (terms_of p)

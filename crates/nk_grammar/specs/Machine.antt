@@ -7,9 +7,9 @@ use Rattle.nk_grammar.specs.declared.place.QuadNext.{QuadNext}
 use Rattle.nk_grammar.specs.declared.place.QuadNext.TheVariants as next
 use Rattle.nk_grammar.specs.declared.place.Place.{Place}
 use Rattle.nk_grammar.specs.declared.place.Place.TheVariants as place
-use Rattle.nk_grammar.specs.Terminal.{Terminal, name, number, tilde, opening, closing, plus_sign, semicolon, star_sign, id_word, drop_word, dup_word, is_equal, is_becomes, is_colon, is_between}
+use Rattle.nk_grammar.specs.Terminal.{Terminal, name, number, tilde, opening, closing, plus_sign, semicolon, star_sign, id_word, drop_word, dup_word, is_equal, is_in, is_dots, is_becomes, is_colon, is_between}
 use Rattle.nk_grammar.specs.Grammar.{HasTree, PolicyGoesOn}
-use Rattle.nk_grammar.specs.Tree.{Tree, Trees, name_of, test, assign, sum_of, seq_of, not_of, dup, link, no_part, with_part, sum_from, seq_from, with_star}
+use Rattle.nk_grammar.specs.Tree.{Tree, Trees, name_of, test, range, assign, sum_of, seq_of, not_of, dup, link, no_part, with_part, sum_from, seq_from, with_star}
 
 -- what is open: a parenthesis with the terms and factors before it, or a `~` with its line
 pub data Open : Type 0 where
@@ -115,9 +115,13 @@ abbrev pub step_at : Place → List Open → Trees → Trees → Terminal → Op
 step_at place.Want fs ts us t = begin fs ts us t
 step_at (place.Named w) fs ts us t =
     if is_equal t then Some (state (place.Tested w) fs ts us)
+    else if is_in t then Some (state (place.Ranged w) fs ts us)
     else if is_becomes t then Some (state (place.Assigned w) fs ts us)
     else step_done (atom_ended (name_of w) fs ts us) t
 step_at (place.Tested w) fs ts us t = with_number t None (λ n. Some (atom_ended (test w n) fs ts us))
+step_at (place.Ranged w) fs ts us t = with_number t None (λ a. Some (state (place.RangedFrom w a) fs ts us))
+step_at (place.RangedFrom w a) fs ts us t = if is_dots t then Some (state (place.RangedTo w a) fs ts us) else None
+step_at (place.RangedTo w a) fs ts us t = with_number t None (λ b. Some (atom_ended (range w a b) fs ts us))
 step_at (place.Assigned w) fs ts us t = with_number t None (λ n. Some (atom_ended (assign w n) fs ts us))
 step_at (place.Linked q) fs ts us t = linked fs ts us (quad_step true q t)
 step_at (place.After starred) fs ts us t = go_on starred fs ts us t

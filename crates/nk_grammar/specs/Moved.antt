@@ -7,7 +7,7 @@ use Rattle.nk_lex.specs.Spans.{line_feeds}
 use Rattle.nk_grammar.specs.declared.ast.Word.{Word}
 use Rattle.nk_grammar.specs.declared.ast.Number.{Number}
 use Rattle.nk_grammar.specs.Terminal.{outside, certificate_word}
-use Rattle.nk_grammar.specs.Tree.{Tree, Trees, name_of, test, assign, sum_of, seq_of, not_of, star_of, dup, link, no_part, part}
+use Rattle.nk_grammar.specs.Tree.{Tree, Trees, name_of, test, range, assign, sum_of, seq_of, not_of, star_of, dup, link, no_part, part}
 use Rattle.nk_grammar.specs.Grammar.{Pol}
 use Rattle.nk_grammar.specs.Nesting.{nesting_of_pol}
 use Rattle.nk_grammar.specs.File.{Declaration}
@@ -29,6 +29,7 @@ abbrev mutual
   pub tree_moved : ℕ → Tree → Tree
   tree_moved lines (name_of w) = name_of (word_moved lines w)
   tree_moved lines (test w n) = test (word_moved lines w) (number_moved lines n)
+  tree_moved lines (range w a b) = range (word_moved lines w) (number_moved lines a) (number_moved lines b)
   tree_moved lines (assign w n) = assign (word_moved lines w) (number_moved lines n)
   tree_moved lines (sum_of ts) = sum_of (trees_moved lines ts)
   tree_moved lines (seq_of ts) = seq_of (trees_moved lines ts)

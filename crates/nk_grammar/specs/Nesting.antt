@@ -2,7 +2,7 @@
 use Rattle.std.specs.Prelude.{◌≡◌, ◌≤◌, ◌+◌, ℕ, max, List, [], ◌∷◌, Ok}
 use Rattle.nk_lex.specs.declared.token.Token.{Token}
 use Rattle.nk_grammar.specs.declared.ast.Word.{Word}
-use Rattle.nk_grammar.specs.Grammar.{Pol, Term, Factor, Atom, one_term, plus, one_factor, semi, plain, starred, written_not, written_id, written_drop, written_dup, written_name, written_test, written_set, written_link, paren, pol_tree}
+use Rattle.nk_grammar.specs.Grammar.{Pol, Term, Factor, Atom, one_term, plus, one_factor, semi, plain, starred, written_not, written_id, written_drop, written_dup, written_name, written_test, written_range, written_set, written_link, paren, pol_tree}
 use Rattle.nk_grammar.specs.File.{definition, written_let, spell_declaration}
 use Rattle.nk_grammar.specs.FileMachine.{file_of}
 use Rattle.nk_grammar.specs.Answer.{terminals}
@@ -28,6 +28,7 @@ abbrev mutual
   nesting_of_atom written_dup = 0
   nesting_of_atom (written_name w) = 0
   nesting_of_atom (written_test w n) = 0
+  nesting_of_atom (written_range w a b) = 0
   nesting_of_atom (written_set w n) = 0
   nesting_of_atom (written_link a m b n) = 0
   nesting_of_atom (paren p) = 1 + nesting_of_pol p

@@ -38,6 +38,8 @@ pub data Terminal : Type 0 where
   id_word : Terminal
   drop_word : Terminal
   dup_word : Terminal
+  in_word : Terminal
+  dots : Terminal
   outside : Outside → Terminal
 
 -- the terminal of a kind, with the token's line, value and text
@@ -57,6 +59,8 @@ terminal_from kind.FatArrow line value text = fat_arrow
 terminal_from kind.Id line value text = id_word
 terminal_from kind.Drop line value text = drop_word
 terminal_from kind.Dup line value text = dup_word
+terminal_from kind.In line value text = in_word
+terminal_from kind.DotDot line value text = dots
 terminal_from kind.Field line value text = outside field_word
 terminal_from kind.Tag line value text = outside tag_word
 terminal_from kind.Switch line value text = outside switch_word
@@ -83,6 +87,16 @@ is_equal t = false
 abbrev pub is_becomes : Terminal → Bool
 is_becomes becomes = true
 is_becomes t = false
+
+-- the word `in`
+abbrev pub is_in : Terminal → Bool
+is_in in_word = true
+is_in t = false
+
+-- the sign `..`
+abbrev pub is_dots : Terminal → Bool
+is_dots dots = true
+is_dots t = false
 
 -- a colon
 abbrev pub is_colon : Terminal → Bool

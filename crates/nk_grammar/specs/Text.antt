@@ -1,12 +1,12 @@
--- The text of a policy as it is written: ` + ` between terms, `;` between factors, and nothing else between tokens; and that
--- of a `let`, on one line.
+-- The text of a policy as it is written: ` + ` between terms, `;` between factors, ` in ` in a range, and nothing else between
+-- tokens; and that of a `let`, on one line.
 use Rattle.std.specs.Prelude.{◌≡◌, ◌≤◌, ℕ, List, [], ◌∷◌, ◌++◌, Ok, codes, ⊤}
 use Rattle.nk_lex.specs.declared.token.Token.{Token}
 use Rattle.nk_lex.specs.Lex.{largest, tokens_of}
 use Rattle.nk_lex.specs.Spelling.{Sign, Lexeme, IsName, text_of}
 use Rattle.nk_grammar.specs.declared.ast.Word.{Word}
 use Rattle.nk_grammar.specs.declared.ast.Number.{Number}
-use Rattle.nk_grammar.specs.Grammar.{Pol, Term, Factor, Atom, one_term, plus, one_factor, semi, plain, starred, written_not, written_id, written_drop, written_dup, written_name, written_test, written_set, written_link, paren, pol_tree}
+use Rattle.nk_grammar.specs.Grammar.{Pol, Term, Factor, Atom, one_term, plus, one_factor, semi, plain, starred, written_not, written_id, written_drop, written_dup, written_name, written_test, written_range, written_set, written_link, paren, pol_tree}
 use Rattle.nk_grammar.specs.File.{definition}
 use Rattle.nk_grammar.specs.FileMachine.{file_of}
 use Rattle.nk_grammar.specs.Nesting.{nesting_of_pol}
@@ -33,6 +33,9 @@ abbrev mutual
   lexemes_of_atom written_dup = Lexeme.word (codes "dup") ∷ []
   lexemes_of_atom (written_name w) = Lexeme.word w.text ∷ []
   lexemes_of_atom (written_test w n) = Lexeme.word w.text ∷ Lexeme.sign Sign.equal ∷ Lexeme.numeral n.value ∷ []
+  lexemes_of_atom (written_range w a b) =
+      Lexeme.word w.text ∷ Lexeme.space ∷ Lexeme.word (codes "in") ∷ Lexeme.space ∷ Lexeme.numeral a.value
+      ∷ Lexeme.sign Sign.dots ∷ Lexeme.numeral b.value ∷ []
   lexemes_of_atom (written_set w n) = Lexeme.word w.text ∷ Lexeme.sign Sign.becomes ∷ Lexeme.numeral n.value ∷ []
   lexemes_of_atom (written_link a m b n) =
       Lexeme.numeral a.value ∷ Lexeme.sign Sign.colon ∷ Lexeme.numeral m.value ∷ Lexeme.sign Sign.fat_arrow
@@ -75,6 +78,7 @@ abbrev mutual
   IsAtomOn line written_dup = ⊤
   IsAtomOn line (written_name w) = IsWordOn line w
   IsAtomOn line (written_test w n) = IsWordOn line w × IsNumberOn line n
+  IsAtomOn line (written_range w a b) = IsWordOn line w × IsNumberOn line a × IsNumberOn line b
   IsAtomOn line (written_set w n) = IsWordOn line w × IsNumberOn line n
   IsAtomOn line (written_link a m b n) = IsNumberOn line a × IsNumberOn line m × IsNumberOn line b × IsNumberOn line n
   IsAtomOn line (paren p) = IsPolOn line p

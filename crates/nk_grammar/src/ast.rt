@@ -37,6 +37,8 @@ pub enum Ast {
     Name(Word),
     /// `NAME = NUMBER`.
     Test(Word, Number),
+    /// `NAME in NUMBER .. NUMBER`: the name, the first value and the last.
+    Range(Word, Number, Number),
     /// `NAME := NUMBER`.
     Set(Word, Number),
     /// Several terms, or none, which is `drop`.

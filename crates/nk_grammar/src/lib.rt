@@ -13,8 +13,8 @@
 //! pol     : term { + term }
 //! term    : factor { ; factor }
 //! factor  : atom { * }
-//! atom    : ~ atom | id | drop | dup | NAME | NAME = NUMBER | NAME := NUMBER
-//!         | NUMBER : NUMBER => NUMBER : NUMBER | ( pol )
+//! atom    : ~ atom | id | drop | dup | NAME | NAME = NUMBER | NAME in NUMBER .. NUMBER
+//!         | NAME := NUMBER | NUMBER : NUMBER => NUMBER : NUMBER | ( pol )
 //! ```
 //!
 //! `file` reads texts without a certificate, `file_with_certificate` those with one.

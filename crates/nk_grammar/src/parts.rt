@@ -2,7 +2,7 @@
 ghost use Rattle.std.specs.Prelude.{◌≡◌, IfOk};
 ghost use Rattle.nk_grammar.specs.FileMachine.{name_in};
 ghost use Rattle.nk_grammar.specs.Machine.{number_in, quad_step};
-ghost use Rattle.nk_grammar.specs.Terminal.{is_between, is_colon, terminal_of};
+ghost use Rattle.nk_grammar.specs.Terminal.{is_between, is_colon, is_dots, terminal_of};
 
 use crate::ast::{Number, Word};
 use crate::place::{Quad, QuadNext};
@@ -30,6 +30,16 @@ pub fn word_of(alloc: Global, token: &Token) -> Result<Word, AllocError>
         text: Bytes::of(alloc, token.text.as_slice())?,
         line: token.line,
     })
+}
+
+/// The sign `..`.
+pub fn is_dots_token(token: &Token) -> bool
+    ensures { result ≡ is_dots (terminal_of token.now) }
+{
+    match token.kind {
+        Kind::DotDot => true,
+        _ => false,
+    }
 }
 
 fn is_colon_token(token: &Token) -> bool

@@ -36,10 +36,16 @@ pub enum QuadNext {
 pub enum Place {
     /// An atom is wanted.
     Want,
-    /// A name, which `=` or `:=` may follow.
+    /// A name, which `=`, `in` or `:=` may follow.
     Named(Word),
     /// A name and `=`.
     Tested(Word),
+    /// A name and `in`.
+    Ranged(Word),
+    /// A name, `in` and the first value.
+    RangedFrom(Word, Number),
+    /// A name, `in`, the first value and `..`.
+    RangedTo(Word, Number),
     /// A name and `:=`.
     Assigned(Word),
     /// A part of a link literal.

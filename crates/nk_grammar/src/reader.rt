@@ -44,7 +44,7 @@ ghost use Rattle.nk_grammar.specs.Tree.{tree_of, trees_of};
 use crate::ast::{Ast, Number, Word};
 use crate::build::{join, push, sequence, star_on_last, sum};
 use crate::frame::{Frame, Took, pop_negation};
-use crate::parts::{number_of, quad_after, word_of};
+use crate::parts::{is_dots_token, number_of, quad_after, word_of};
 use crate::place::{Place, Quad, QuadNext};
 use nk_lex::{Kind, Token};
 use std::alloc::{AllocError, Global};
@@ -227,6 +227,10 @@ impl PolicyReader {
                 self.place = Place::Tested(word);
                 Ok(Took::Taken)
             }
+            Kind::In => {
+                self.place = Place::Ranged(word);
+                Ok(Took::Taken)
+            }
             Kind::Assign => {
                 self.place = Place::Assigned(word);
                 Ok(Took::Taken)
@@ -271,6 +275,25 @@ impl PolicyReader {
                 Some(number) => self.take_atom(alloc, Ast::Test(word, number)),
                 None => Ok(Took::Refused),
             },
+            Place::Ranged(word) => match number_of(token) {
+                Some(low) => {
+                    self.place = Place::RangedFrom(word, low);
+                    Ok(Took::Taken)
+                }
+                None => Ok(Took::Refused),
+            },
+            Place::RangedFrom(word, low) => {
+                if is_dots_token(token) {
+                    self.place = Place::RangedTo(word, low);
+                    Ok(Took::Taken)
+                } else {
+                    Ok(Took::Refused)
+                }
+            }
+            Place::RangedTo(word, low) => match number_of(token) {
+                Some(high) => self.take_atom(alloc, Ast::Range(word, low, high)),
+                None => Ok(Took::Refused),
+            },
             Place::Assigned(word) => match number_of(token) {
                 Some(number) => self.take_atom(alloc, Ast::Set(word, number)),
                 None => Ok(Took::Refused),
@@ -307,6 +330,9 @@ impl PolicyReader {
             Place::After(_) => self.policy(alloc),
             Place::Want => Ok(None),
             Place::Tested(_) => Ok(None),
+            Place::Ranged(_) => Ok(None),
+            Place::RangedFrom(..) => Ok(None),
+            Place::RangedTo(..) => Ok(None),
             Place::Assigned(_) => Ok(None),
             Place::Linked(_) => Ok(None),
         }

@@ -40,6 +40,8 @@ pub enum Kind {
     Arrow,
     Colon,
     Comma,
+    Slash,
+    DotDot,
     OpenBracket,
     CloseBracket,
 }
