@@ -13,7 +13,7 @@ use Rattle.nk_lex.specs.declared.front.Front.TheVariants as front
 use Rattle.nk_lex.specs.Classes.{is_digit, is_name_byte, is_name_start, is_white}
 use Rattle.nk_lex.specs.Kinds.{kind_of_name}
 use Rattle.nk_lex.specs.Lex.{cut, front_of, go_on, largest, line_after, number_of, scan, token, value_of, with_length, with_token, tokens_of, answer}
-use Rattle.nk_lex.specs.Spelling.{Sign, plus, semicolon, star, tilde, open_parenthesis, close_parenthesis, equal, becomes, fat_arrow, arrow, colon, comma, open_bracket, close_bracket, sign_bytes, sign_kind, Lexeme, space, line_feed, word, numeral, sign, text_of, tokens_from, IsWord, is_colon, begins_with_equal, IsApart, AreApart}
+use Rattle.nk_lex.specs.Spelling.{Sign, plus, semicolon, star, tilde, open_parenthesis, close_parenthesis, equal, becomes, fat_arrow, arrow, colon, comma, slash, dots, open_bracket, close_bracket, sign_bytes, sign_kind, Lexeme, space, line_feed, word, numeral, sign, text_of, tokens_from, IsWord, is_colon, begins_with_equal, IsApart, AreApart}
 use Rattle.nk_lex.proofs.Steps.{skipped}
 use Rattle.nk_lex.proofs.Digits.{StopsAt, run_is, Digits, digits_of}
 
@@ -159,6 +159,8 @@ sign_cut colon (b ∷ r) line at s =
     one_cut 58 [] (b ∷ r) line at (token_of_sign colon line at)
     (ap (λ t. cut (cond t (front.Symbol 2 kind.Assign) (front.Symbol 1 kind.Colon)) line at (58 ∷ b ∷ r)) s)
 sign_cut comma r line at s = one_cut 44 [] r line at (token_of_sign comma line at) refl
+sign_cut slash r line at s = one_cut 47 [] r line at (token_of_sign slash line at) refl
+sign_cut dots r line at s = one_cut 46 (46 ∷ []) r line at (token_of_sign dots line at) refl
 sign_cut open_bracket r line at s = one_cut 91 [] r line at (token_of_sign open_bracket line at) refl
 sign_cut close_bracket r line at s = one_cut 93 [] r line at (token_of_sign close_bracket line at) refl
 
@@ -187,6 +189,8 @@ leads fat_arrow = record { first = 61; rest = 62 ∷ []; are = refl; no_name = r
 leads arrow = record { first = 45; rest = 62 ∷ []; are = refl; no_name = refl; no_digit = refl; no_greater = refl; no_equal = refl }
 leads colon = record { first = 58; rest = []; are = refl; no_name = refl; no_digit = refl; no_greater = refl; no_equal = refl }
 leads comma = record { first = 44; rest = []; are = refl; no_name = refl; no_digit = refl; no_greater = refl; no_equal = refl }
+leads slash = record { first = 47; rest = []; are = refl; no_name = refl; no_digit = refl; no_greater = refl; no_equal = refl }
+leads dots = record { first = 46; rest = 46 ∷ []; are = refl; no_name = refl; no_digit = refl; no_greater = refl; no_equal = refl }
 leads open_bracket = record { first = 91; rest = []; are = refl; no_name = refl; no_digit = refl; no_greater = refl; no_equal = refl }
 leads close_bracket = record { first = 93; rest = []; are = refl; no_name = refl; no_digit = refl; no_greater = refl; no_equal = refl }
 
@@ -209,6 +213,8 @@ not_longer fat_arrow b h k = refl
 not_longer arrow b h k = refl
 not_longer colon b h k = k
 not_longer comma b h k = refl
+not_longer slash b h k = refl
+not_longer dots b h k = refl
 not_longer open_bracket b h k = refl
 not_longer close_bracket b h k = refl
 
@@ -226,6 +232,8 @@ sign_apart fat_arrow b t h k m = refl
 sign_apart arrow b t h k m = refl
 sign_apart colon b t h k m = k ∙ m
 sign_apart comma b t h k m = refl
+sign_apart slash b t h k m = refl
+sign_apart dots b t h k m = refl
 sign_apart open_bracket b t h k m = refl
 sign_apart close_bracket b t h k m = refl
 

@@ -109,6 +109,7 @@ front_same b xs c =
       run_of is_digit refl xs c,
       starts_same 62 refl xs c,
       starts_same 61 refl xs c,
+      starts_same 46 refl xs c,
     ) refl
 
 -- and is cut as before

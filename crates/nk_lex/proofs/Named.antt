@@ -59,7 +59,8 @@ symbol_word bytes b rest =
     of_both (HasWord bytes) (b == 61) _ _ (of_both (HasWord bytes) (starts_with_byte 62 rest) _ _ tt tt)
     (of_both (HasWord bytes) (b == 58) _ _ (of_both (HasWord bytes) (starts_with_byte 61 rest) _ _ tt tt)
     (of_both (HasWord bytes) (b == 45) _ _ (of_both (HasWord bytes) (starts_with_byte 62 rest) _ _ tt tt)
-    (single (single_of b))))
+    (of_both (HasWord bytes) (b == 46) _ _ (of_both (HasWord bytes) (starts_with_byte 46 rest) _ _ tt tt)
+    (single (single_of b)))))
   where
     single : (o : _) → HasWord bytes (one_byte o)
     single (Some k) = tt

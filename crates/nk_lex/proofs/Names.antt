@@ -70,7 +70,8 @@ front_names b rest =
     (of_both P (b == 61) _ _ (of_both P (starts_with_byte 62 rest) _ _ tt tt)
     (of_both P (b == 58) _ _ (of_both P (starts_with_byte 61 rest) _ _ tt tt)
     (of_both P (b == 45) _ _ (of_both P (starts_with_byte 62 rest) _ _ tt tt)
-    (one_byte_names (b ∷ rest) (single_of b))))))))
+    (of_both P (b == 46) _ _ (of_both P (starts_with_byte 46 rest) _ _ tt tt)
+    (one_byte_names (b ∷ rest) (single_of b)))))))))
   where
     P : Front → Type 0
     P f = IsNameFront (b ∷ rest) f

@@ -148,9 +148,10 @@ single_inside b rest =
     (of_both (λ o. Inside (one_byte o) rest) (b == 40) _ _ (one kind.OpenParen ((λ e. cc), (λ e. cc)))
     (of_both (λ o. Inside (one_byte o) rest) (b == 41) _ _ (one kind.CloseParen ((λ e. cc), (λ e. cc)))
     (of_both (λ o. Inside (one_byte o) rest) (b == 44) _ _ (one kind.Comma ((λ e. cc), (λ e. cc)))
+    (of_both (λ o. Inside (one_byte o) rest) (b == 47) _ _ (one kind.Slash ((λ e. cc), (λ e. cc)))
     (of_both (λ o. Inside (one_byte o) rest) (b == 91) _ _ (one kind.OpenBracket ((λ e. cc), (λ e. cc)))
     (of_both (λ o. Inside (one_byte o) rest) (b == 93) _ _ (one kind.CloseBracket ((λ e. cc), (λ e. cc)))
-    (one_inside front.Bad rest refl tt)))))))))
+    (one_inside front.Bad rest refl tt))))))))))
   where
     one : (k : Kind) → (k ≡ kind.Name → ⊥) × (k ≡ kind.Number → ⊥) → Inside (front.Symbol 1 k) rest
     one k s = one_inside (front.Symbol 1 k) rest refl s
@@ -165,7 +166,9 @@ symbol_inside b rest =
     (one kind.Colon ((λ e. cc), (λ e. cc))))
     (of_both (λ f. Inside f rest) (b == 45) _ _
     (two_inside 62 rest kind.Arrow front.Bad refl ((λ e. cc), (λ e. cc)) (one_inside front.Bad rest refl tt))
-    (single_inside b rest)))
+    (of_both (λ f. Inside f rest) (b == 46) _ _
+    (two_inside 46 rest kind.DotDot front.Bad refl ((λ e. cc), (λ e. cc)) (one_inside front.Bad rest refl tt))
+    (single_inside b rest))))
   where
     one : (k : Kind) → (k ≡ kind.Name → ⊥) × (k ≡ kind.Number → ⊥) → Inside (front.Symbol 1 k) rest
     one k s = one_inside (front.Symbol 1 k) rest refl s

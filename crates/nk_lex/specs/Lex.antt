@@ -25,6 +25,7 @@ single_of b = if b == 43 then Some kind.Plus
     else if b == 40 then Some kind.OpenParen
     else if b == 41 then Some kind.CloseParen
     else if b == 44 then Some kind.Comma
+    else if b == 47 then Some kind.Slash
     else if b == 91 then Some kind.OpenBracket
     else if b == 93 then Some kind.CloseBracket
     else None
@@ -39,6 +40,7 @@ symbol_of b rest =
     if b == 61 then (if starts_with_byte 62 rest then front.Symbol 2 kind.FatArrow else front.Symbol 1 kind.Equal)
     else if b == 58 then (if starts_with_byte 61 rest then front.Symbol 2 kind.Assign else front.Symbol 1 kind.Colon)
     else if b == 45 then (if starts_with_byte 62 rest then front.Symbol 2 kind.Arrow else front.Bad)
+    else if b == 46 then (if starts_with_byte 46 rest then front.Symbol 2 kind.DotDot else front.Bad)
     else one_byte (single_of b)
 
 -- what stands at the front of a text that isn't empty, and how many bytes it has

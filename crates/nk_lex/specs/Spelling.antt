@@ -23,6 +23,8 @@ pub data Sign : Type 0 where
   arrow : Sign
   colon : Sign
   comma : Sign
+  slash : Sign
+  dots : Sign
   open_bracket : Sign
   close_bracket : Sign
 
@@ -40,6 +42,8 @@ sign_bytes fat_arrow = codes "=>"
 sign_bytes arrow = codes "->"
 sign_bytes colon = codes ":"
 sign_bytes comma = codes ","
+sign_bytes slash = codes "/"
+sign_bytes dots = codes ".."
 sign_bytes open_bracket = codes "["
 sign_bytes close_bracket = codes "]"
 
@@ -57,6 +61,8 @@ sign_kind fat_arrow = kind.FatArrow
 sign_kind arrow = kind.Arrow
 sign_kind colon = kind.Colon
 sign_kind comma = kind.Comma
+sign_kind slash = kind.Slash
+sign_kind dots = kind.DotDot
 sign_kind open_bracket = kind.OpenBracket
 sign_kind close_bracket = kind.CloseBracket
 

@@ -46,6 +46,8 @@ fn symbol(first: u8, rest: &[u8]) -> Front
         b':' => Front::Symbol(1, Kind::Colon),
         b'-' if starts_with(b'>', rest) => Front::Symbol(2, Kind::Arrow),
         b'-' => Front::Bad,
+        b'.' if starts_with(b'.', rest) => Front::Symbol(2, Kind::DotDot),
+        b'.' => Front::Bad,
         _ => match single(first) {
             Some(kind) => Front::Symbol(1, kind),
             None => Front::Bad,
@@ -65,6 +67,7 @@ pub fn single(byte: u8) -> Option<Kind>
         b'(' => Some(Kind::OpenParen),
         b')' => Some(Kind::CloseParen),
         b',' => Some(Kind::Comma),
+        b'/' => Some(Kind::Slash),
         b'[' => Some(Kind::OpenBracket),
         b']' => Some(Kind::CloseBracket),
         _ => None,
