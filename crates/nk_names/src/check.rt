@@ -181,11 +181,8 @@ pub(crate) fn depth(fields: &Fields, lets: &Lets, ast: &Ast) -> u64
         },
         Ast::Sum(ps) | Ast::Seq(ps) => deepest(fields, lets, ps.as_slice()).saturating_add(1),
         Ast::Not(q, _) | Ast::Star(q) => depth(fields, lets, q).saturating_add(1),
-        Ast::Test(_, _)
-        | Ast::Range(_, _, _)
-        | Ast::Set(_, _)
-        | Ast::Dup
-        | Ast::Link(_, _, _, _) => 1,
+        Ast::Test(_, _) | Ast::Range(_, _, _) | Ast::Set(_, _) | Ast::Dup | Ast::Link(_, _, _, _) =>
+            1,
     }
 }
 
@@ -217,11 +214,8 @@ pub(crate) fn size(fields: &Fields, lets: &Lets, ast: &Ast) -> u64
         },
         Ast::Sum(ps) | Ast::Seq(ps) => total_size(fields, lets, ps.as_slice()).saturating_add(1),
         Ast::Not(q, _) | Ast::Star(q) => size(fields, lets, q).saturating_add(1),
-        Ast::Test(_, _)
-        | Ast::Range(_, _, _)
-        | Ast::Set(_, _)
-        | Ast::Dup
-        | Ast::Link(_, _, _, _) => 1,
+        Ast::Test(_, _) | Ast::Range(_, _, _) | Ast::Set(_, _) | Ast::Dup | Ast::Link(_, _, _, _) =>
+            1,
     }
 }
 
