@@ -8,7 +8,7 @@ use Rattle.nk_lex.specs.Joined.{token_moved}
 use Rattle.nk_grammar.specs.declared.ast.Number.{Number}
 use Rattle.nk_grammar.specs.declared.decl.GrammarError.{GrammarError}
 use Rattle.nk_grammar.specs.declared.decl.GrammarError.TheVariants as error
-use Rattle.nk_grammar.specs.Terminal.{Terminal, name, number, tilde, opening, closing, plus_sign, semicolon, star_sign, equal, becomes, colon, fat_arrow, id_word, drop_word, dup_word, outside, field_word, tag_word, switch_word, ports_word, link_word, let_word, arrow, comma, certificate_word, row_word, start_word, no_terminal, is_colon, terminal_of}
+use Rattle.nk_grammar.specs.Terminal.{Terminal, name, number, tilde, opening, closing, plus_sign, semicolon, star_sign, equal, becomes, colon, fat_arrow, id_word, drop_word, dup_word, in_word, dots, outside, field_word, tag_word, switch_word, ports_word, link_word, let_word, arrow, comma, certificate_word, row_word, start_word, no_terminal, is_colon, terminal_of}
 use Rattle.nk_grammar.specs.Tree.{Tree}
 use Rattle.nk_grammar.specs.Machine.{State, start, in_option, number_in, with_number, step, ended}
 use Rattle.nk_grammar.specs.File.{Declaration}
@@ -229,6 +229,8 @@ module _ (lines places : ℕ) where
   row_in_moves id_word = refl
   row_in_moves drop_word = refl
   row_in_moves dup_word = refl
+  row_in_moves in_word = refl
+  row_in_moves dots = refl
   row_in_moves (outside field_word) = refl
   row_in_moves (outside tag_word) = refl
   row_in_moves (outside switch_word) = refl
@@ -258,6 +260,8 @@ module _ (lines places : ℕ) where
   start_moves id_word = refl
   start_moves drop_word = refl
   start_moves dup_word = refl
+  start_moves in_word = refl
+  start_moves dots = refl
   start_moves (outside field_word) = refl
   start_moves (outside tag_word) = refl
   start_moves (outside switch_word) = refl

@@ -4,7 +4,7 @@ use Rattle.std.specs.Prelude.{Some, None, option_and_then, if◌then◌else◌, 
 use Rattle.nk_grammar.specs.declared.ast.Word.{Word}
 use Rattle.nk_grammar.specs.declared.ast.Number.{Number}
 use Rattle.nk_grammar.specs.declared.place.Quad.TheVariants as quad
-use Rattle.nk_grammar.specs.Terminal.{Terminal, name, number, tilde, opening, closing, plus_sign, semicolon, star_sign, equal, becomes, colon, fat_arrow, id_word, drop_word, dup_word, outside, is_colon, field_word, tag_word, switch_word, ports_word, link_word, let_word, arrow, comma, certificate_word, row_word, start_word, no_terminal}
+use Rattle.nk_grammar.specs.Terminal.{Terminal, name, number, tilde, opening, closing, plus_sign, semicolon, star_sign, equal, becomes, colon, fat_arrow, id_word, drop_word, dup_word, in_word, dots, outside, is_colon, field_word, tag_word, switch_word, ports_word, link_word, let_word, arrow, comma, certificate_word, row_word, start_word, no_terminal}
 use Rattle.nk_grammar.specs.Tree.{Tree}
 use Rattle.nk_grammar.specs.Grammar.{Pol, spell_pol, pol_tree, HasTree, one_term, one_factor, plain, written_id}
 use Rattle.nk_grammar.specs.Machine.{State, start, with_number, step, run, ended}
@@ -63,6 +63,8 @@ not_certificate r s fat_arrow e = refl
 not_certificate r s id_word e = refl
 not_certificate r s drop_word e = refl
 not_certificate r s dup_word e = refl
+not_certificate r s in_word e = refl
+not_certificate r s dots e = refl
 not_certificate r s (outside field_word) e = refl
 not_certificate r s (outside tag_word) e = refl
 not_certificate r s (outside switch_word) e = refl
@@ -253,6 +255,8 @@ number_leads fat_arrow ts f e = tt
 number_leads id_word ts f e = tt
 number_leads drop_word ts f e = tt
 number_leads dup_word ts f e = tt
+number_leads in_word ts f e = tt
+number_leads dots ts f e = tt
 number_leads (outside field_word) ts f e = tt
 number_leads (outside tag_word) ts f e = tt
 number_leads (outside switch_word) ts f e = tt
@@ -283,6 +287,8 @@ row_leads fat_arrow ts f e = tt
 row_leads id_word ts f e = tt
 row_leads drop_word ts f e = tt
 row_leads dup_word ts f e = tt
+row_leads in_word ts f e = tt
+row_leads dots ts f e = tt
 row_leads (outside field_word) ts f e = tt
 row_leads (outside tag_word) ts f e = tt
 row_leads (outside switch_word) ts f e = tt
@@ -313,6 +319,8 @@ start_leads fat_arrow ts c e = tt
 start_leads id_word ts c e = tt
 start_leads drop_word ts c e = tt
 start_leads dup_word ts c e = tt
+start_leads in_word ts c e = tt
+start_leads dots ts c e = tt
 start_leads (outside field_word) ts c e = tt
 start_leads (outside tag_word) ts c e = tt
 start_leads (outside switch_word) ts c e = tt
@@ -343,6 +351,8 @@ colon_leads fat_arrow ts c o e f = f
 colon_leads id_word ts c o e f = f
 colon_leads drop_word ts c o e f = f
 colon_leads dup_word ts c o e f = f
+colon_leads in_word ts c o e f = f
+colon_leads dots ts c o e f = f
 colon_leads (outside field_word) ts c o e f = f
 colon_leads (outside tag_word) ts c o e f = f
 colon_leads (outside switch_word) ts c o e f = f
@@ -373,6 +383,8 @@ certificate_leads fat_arrow ts o o' e f = f
 certificate_leads id_word ts o o' e f = f
 certificate_leads drop_word ts o o' e f = f
 certificate_leads dup_word ts o o' e f = f
+certificate_leads in_word ts o o' e f = f
+certificate_leads dots ts o o' e f = f
 certificate_leads (outside field_word) ts o o' e f = f
 certificate_leads (outside tag_word) ts o o' e f = f
 certificate_leads (outside switch_word) ts o o' e f = f

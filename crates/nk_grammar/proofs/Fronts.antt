@@ -9,9 +9,9 @@ use Rattle.nk_grammar.specs.declared.place.Quad.{Quad}
 use Rattle.nk_grammar.specs.declared.place.Quad.TheVariants as quad
 use Rattle.nk_grammar.specs.declared.place.QuadNext.{QuadNext}
 use Rattle.nk_grammar.specs.declared.place.QuadNext.TheVariants as next
-use Rattle.nk_grammar.specs.Terminal.{Terminal, name, number, tilde, opening, closing, plus_sign, semicolon, star_sign, equal, becomes, colon, fat_arrow, id_word, drop_word, dup_word, outside, is_equal, is_becomes, is_colon, is_between, field_word, tag_word, switch_word, ports_word, link_word, let_word, arrow, comma, certificate_word, row_word, start_word, no_terminal}
-use Rattle.nk_grammar.specs.Tree.{Tree, Trees, name_of, test, assign, no_part, with_part, sum_from, seq_from}
-use Rattle.nk_grammar.specs.Grammar.{Pol, Term, Factor, Atom, one_term, plus, one_factor, semi, plain, starred, written_not, written_id, written_drop, written_dup, written_name, written_test, written_set, written_link, paren, spell_pol, spell_term, spell_factor, spell_atom, terms_of, factors_of, factor_tree, atom_tree, HasTree, PolicyGoesOn}
+use Rattle.nk_grammar.specs.Terminal.{Terminal, name, number, tilde, opening, closing, plus_sign, semicolon, star_sign, equal, becomes, colon, fat_arrow, id_word, drop_word, dup_word, in_word, dots, outside, is_equal, is_in, is_dots, is_becomes, is_colon, is_between, field_word, tag_word, switch_word, ports_word, link_word, let_word, arrow, comma, certificate_word, row_word, start_word, no_terminal}
+use Rattle.nk_grammar.specs.Tree.{Tree, Trees, name_of, test, range, assign, no_part, with_part, sum_from, seq_from}
+use Rattle.nk_grammar.specs.Grammar.{Pol, Term, Factor, Atom, one_term, plus, one_factor, semi, plain, starred, written_not, written_id, written_drop, written_dup, written_name, written_test, written_range, written_set, written_link, paren, spell_pol, spell_term, spell_factor, spell_atom, terms_of, factors_of, factor_tree, atom_tree, HasTree, PolicyGoesOn}
 use Rattle.nk_grammar.specs.Machine.{Open, group, negation, State, state, start, atom_ended, joined, close, with_number, quad_step, begin, linked, step, run, settled, ended, done}
 use Rattle.nk_grammar.proofs.Spelled.{has_star, one_star, reads, step_atom}
 
@@ -31,6 +31,9 @@ pub data Front : Type 0 where
   wants : Before → Front
   named : Before → Word → Front
   tested : Before → Word → Front
+  ranged : Before → Word → Front
+  ranged_from : Before → Word → (low : Number) → Front
+  ranged_to : Before → Word → (low : Number) → Front
   assigned : Before → Word → Front
   partly_linked : Before → Quad → Front
   stands : Outer → Option Pol → Option Term → Factor → Front
@@ -82,6 +85,9 @@ abbrev spell_front : Front → List Terminal
 spell_front (wants c) = spell_before c
 spell_front (named c w) = spell_before c ++ name w ∷ []
 spell_front (tested c w) = spell_before c ++ name w ∷ equal ∷ []
+spell_front (ranged c w) = spell_before c ++ name w ∷ in_word ∷ []
+spell_front (ranged_from c w a) = spell_before c ++ name w ∷ in_word ∷ number a ∷ []
+spell_front (ranged_to c w a) = spell_before c ++ name w ∷ in_word ∷ number a ∷ dots ∷ []
 spell_front (assigned c w) = spell_before c ++ name w ∷ becomes ∷ []
 spell_front (partly_linked c q) = spell_before c ++ spell_quad true q
 spell_front (stands o sp st f) = (spell_outer o ++ pre sp st) ++ spell_factor f
@@ -122,6 +128,9 @@ abbrev state_of : Front → State
 state_of (wants c) = state_before place.Want c
 state_of (named c w) = state_before (place.Named w) c
 state_of (tested c w) = state_before (place.Tested w) c
+state_of (ranged c w) = state_before (place.Ranged w) c
+state_of (ranged_from c w a) = state_before (place.RangedFrom w a) c
+state_of (ranged_to c w a) = state_before (place.RangedTo w a) c
 state_of (assigned c w) = state_before (place.Assigned w) c
 state_of (partly_linked c q) = state_before (place.Linked q) c
 state_of (stands o sp st f) = state (place.After (has_star f)) (outer_frames o) (done_terms sp) (with_part (done_factors st) (factor_tree f))
@@ -233,8 +242,15 @@ next_linked c (next.Full a m b n) = Some (fill c (written_link a m b n))
 -- the front behind one more token
 abbrev next_front : Front → Terminal → Option Front
 next_front (wants c) t = next_wanted c t
-next_front (named c w) t = if is_equal t then Some (tested c w) else if is_becomes t then Some (assigned c w) else next_done (fill c (written_name w)) t
+next_front (named c w) t =
+    if is_equal t then Some (tested c w)
+    else if is_in t then Some (ranged c w)
+    else if is_becomes t then Some (assigned c w)
+    else next_done (fill c (written_name w)) t
 next_front (tested c w) t = with_number t None (λ n. Some (fill c (written_test w n)))
+next_front (ranged c w) t = with_number t None (λ a. Some (ranged_from c w a))
+next_front (ranged_from c w a) t = if is_dots t then Some (ranged_to c w a) else None
+next_front (ranged_to c w a) t = with_number t None (λ b. Some (fill c (written_range w a b)))
 next_front (assigned c w) t = with_number t None (λ n. Some (fill c (written_set w n)))
 next_front (partly_linked c q) t = next_linked c (quad_step true q t)
 next_front (stands o sp st f) t = next_standing o sp st f t
@@ -268,6 +284,8 @@ standing_state o sp st f fat_arrow = refl
 standing_state o sp st f id_word = refl
 standing_state o sp st f drop_word = refl
 standing_state o sp st f dup_word = refl
+standing_state o sp st f in_word = refl
+standing_state o sp st f dots = refl
 standing_state o sp st f (outside z) = refl
 
 -- the machine begins an atom alike
@@ -288,6 +306,8 @@ wanted_state c fat_arrow = refl
 wanted_state c id_word = some (sym (fill_state c written_id))
 wanted_state c drop_word = some (sym (fill_state c written_drop))
 wanted_state c dup_word = some (sym (fill_state c written_dup))
+wanted_state c in_word = refl
+wanted_state c dots = refl
 wanted_state c (outside z) = refl
 
 -- the machine goes on in a link alike
@@ -316,6 +336,8 @@ number_state fat_arrow g h e = refl
 number_state id_word g h e = refl
 number_state drop_word g h e = refl
 number_state dup_word g h e = refl
+number_state in_word g h e = refl
+number_state dots g h e = refl
 number_state (outside z) g h e = refl
 
 -- the machine goes on behind an atom alike
@@ -335,9 +357,14 @@ choice false s s' p p' e e' = e'
 next_state : (p : Front) (t : Terminal) → step (state_of p) t ≡ option_map state_of (next_front p t)
 next_state (wants c) t = wanted_state c t
 next_state (named c w) t =
-    choice (is_equal t) _ _ (Some (tested c w)) _ refl (choice (is_becomes t) _ _ (Some (assigned c w)) (next_done (fill c (written_name w)) t) refl
-    (step_atom t (name_of w) (frames_of c) (before_terms c) (before_factors c) ∙ ap (λ s. step s t) (sym (fill_state c (written_name w))) ∙ done_state c (written_name w) t))
+    choice (is_equal t) _ _ (Some (tested c w)) _ refl
+    (choice (is_in t) _ _ (Some (ranged c w)) _ refl
+    (choice (is_becomes t) _ _ (Some (assigned c w)) (next_done (fill c (written_name w)) t) refl
+    (step_atom t (name_of w) (frames_of c) (before_terms c) (before_factors c) ∙ ap (λ s. step s t) (sym (fill_state c (written_name w))) ∙ done_state c (written_name w) t)))
 next_state (tested c w) t = number_state t (λ n. atom_ended (test w n) (frames_of c) (before_terms c) (before_factors c)) (λ n. fill c (written_test w n)) (λ n. sym (fill_state c (written_test w n)))
+next_state (ranged c w) t = number_state t (λ a. state_before (place.RangedFrom w a) c) (λ a. ranged_from c w a) (λ a. refl)
+next_state (ranged_from c w a) t = choice (is_dots t) _ None (Some (ranged_to c w a)) None refl refl
+next_state (ranged_to c w a) t = number_state t (λ b. atom_ended (range w a b) (frames_of c) (before_terms c) (before_factors c)) (λ b. fill c (written_range w a b)) (λ b. sym (fill_state c (written_range w a b)))
 next_state (assigned c w) t = number_state t (λ n. atom_ended (assign w n) (frames_of c) (before_terms c) (before_factors c)) (λ n. fill c (written_set w n)) (λ n. sym (fill_state c (written_set w n)))
 next_state (partly_linked c q) t = linked_state c (quad_step true q t)
 next_state (stands o sp st f) t = standing_state o sp st f t
@@ -393,6 +420,8 @@ standing_spell o sp st f fat_arrow = tt
 standing_spell o sp st f id_word = tt
 standing_spell o sp st f drop_word = tt
 standing_spell o sp st f dup_word = tt
+standing_spell o sp st f in_word = tt
+standing_spell o sp st f dots = tt
 standing_spell o sp st f (outside z) = tt
 
 -- where an atom is wanted, the next front has the token
@@ -412,6 +441,8 @@ wanted_spell c fat_arrow = tt
 wanted_spell c id_word = fill_spell c written_id
 wanted_spell c drop_word = fill_spell c written_drop
 wanted_spell c dup_word = fill_spell c written_dup
+wanted_spell c in_word = tt
+wanted_spell c dots = tt
 wanted_spell c (outside z) = tt
 
 -- where a number is wanted, the next front has it
@@ -433,6 +464,8 @@ number_spell fat_arrow ts h e = tt
 number_spell id_word ts h e = tt
 number_spell drop_word ts h e = tt
 number_spell dup_word ts h e = tt
+number_spell in_word ts h e = tt
+number_spell dots ts h e = tt
 number_spell (outside z) ts h e = tt
 
 -- what a link's next token leads to is spelled with it
@@ -460,6 +493,8 @@ number_quad literal fat_arrow ts h e = tt
 number_quad literal id_word ts h e = tt
 number_quad literal drop_word ts h e = tt
 number_quad literal dup_word ts h e = tt
+number_quad literal in_word ts h e = tt
+number_quad literal dots ts h e = tt
 number_quad literal (outside z) ts h e = tt
 
 -- where a link wants a colon, it has it
@@ -481,6 +516,8 @@ colon_quad literal fat_arrow ts q e = tt
 colon_quad literal id_word ts q e = tt
 colon_quad literal drop_word ts q e = tt
 colon_quad literal dup_word ts q e = tt
+colon_quad literal in_word ts q e = tt
+colon_quad literal dots ts q e = tt
 colon_quad literal (outside z) ts q e = tt
 
 -- where a link wants its middle sign, it has it
@@ -516,7 +553,11 @@ between_quad false id_word ts q e = tt
 between_quad true drop_word ts q e = tt
 between_quad false drop_word ts q e = tt
 between_quad true dup_word ts q e = tt
+between_quad true in_word ts q e = tt
+between_quad true dots ts q e = tt
 between_quad false dup_word ts q e = tt
+between_quad false in_word ts q e = tt
+between_quad false dots ts q e = tt
 between_quad true (outside z) ts q e = tt
 between_quad false (outside field_word) ts q e = tt
 between_quad false (outside tag_word) ts q e = tt
@@ -579,7 +620,55 @@ equal_spell fat_arrow ts p o e f = f
 equal_spell id_word ts p o e f = f
 equal_spell drop_word ts p o e f = f
 equal_spell dup_word ts p o e f = f
+equal_spell in_word ts p o e f = f
+equal_spell dots ts p o e f = f
 equal_spell (outside z) ts p o e f = f
+
+-- where `in` may come
+in_spell : (t : Terminal) (ts : List Terminal) (p : Front) (o : Option Front)
+    → spell_front p ≡ ts ++ in_word ∷ [] → IsSpelledWith ts t o
+    → IsSpelledWith ts t (if is_in t then Some p else o)
+in_spell (name x) ts p o e f = f
+in_spell (number x) ts p o e f = f
+in_spell (tilde l) ts p o e f = f
+in_spell opening ts p o e f = f
+in_spell closing ts p o e f = f
+in_spell plus_sign ts p o e f = f
+in_spell semicolon ts p o e f = f
+in_spell star_sign ts p o e f = f
+in_spell equal ts p o e f = f
+in_spell becomes ts p o e f = f
+in_spell colon ts p o e f = f
+in_spell fat_arrow ts p o e f = f
+in_spell id_word ts p o e f = f
+in_spell drop_word ts p o e f = f
+in_spell dup_word ts p o e f = f
+in_spell in_word ts p o e f = e
+in_spell dots ts p o e f = f
+in_spell (outside z) ts p o e f = f
+
+-- where `..` may come
+dots_spell : (t : Terminal) (ts : List Terminal) (p : Front) (o : Option Front)
+    → spell_front p ≡ ts ++ dots ∷ [] → IsSpelledWith ts t o
+    → IsSpelledWith ts t (if is_dots t then Some p else o)
+dots_spell (name x) ts p o e f = f
+dots_spell (number x) ts p o e f = f
+dots_spell (tilde l) ts p o e f = f
+dots_spell opening ts p o e f = f
+dots_spell closing ts p o e f = f
+dots_spell plus_sign ts p o e f = f
+dots_spell semicolon ts p o e f = f
+dots_spell star_sign ts p o e f = f
+dots_spell equal ts p o e f = f
+dots_spell becomes ts p o e f = f
+dots_spell colon ts p o e f = f
+dots_spell fat_arrow ts p o e f = f
+dots_spell id_word ts p o e f = f
+dots_spell drop_word ts p o e f = f
+dots_spell dup_word ts p o e f = f
+dots_spell in_word ts p o e f = f
+dots_spell dots ts p o e f = e
+dots_spell (outside z) ts p o e f = f
 
 -- where `:=` may come
 becomes_spell : (t : Terminal) (ts : List Terminal) (p : Front) (o : Option Front)
@@ -600,15 +689,24 @@ becomes_spell fat_arrow ts p o e f = f
 becomes_spell id_word ts p o e f = f
 becomes_spell drop_word ts p o e f = f
 becomes_spell dup_word ts p o e f = f
+becomes_spell in_word ts p o e f = f
+becomes_spell dots ts p o e f = f
 becomes_spell (outside z) ts p o e f = f
 
 -- the next front is spelled with the token
 next_spell : (p : Front) (t : Terminal) → IsSpelledWith (spell_front p) t (next_front p t)
 next_spell (wants c) t = wanted_spell c t
 next_spell (named c w) t =
-    equal_spell t (spell_front (named c w)) (tested c w) (if is_becomes t then Some (assigned c w) else next_done (fill c (written_name w)) t) (sym (append_assoc (spell_before c) (name w ∷ []) (equal ∷ [])))
-    (becomes_spell t (spell_front (named c w)) (assigned c w) (next_done (fill c (written_name w)) t) (sym (append_assoc (spell_before c) (name w ∷ []) (becomes ∷ []))) (named_spell c w t))
+    equal_spell t (spell_front (named c w)) (tested c w) _ (sym (append_assoc (spell_before c) (name w ∷ []) (equal ∷ [])))
+    (in_spell t (spell_front (named c w)) (ranged c w) _ (sym (append_assoc (spell_before c) (name w ∷ []) (in_word ∷ [])))
+    (becomes_spell t (spell_front (named c w)) (assigned c w) (next_done (fill c (written_name w)) t) (sym (append_assoc (spell_before c) (name w ∷ []) (becomes ∷ []))) (named_spell c w t)))
 next_spell (tested c w) t = number_spell t (spell_front (tested c w)) (λ n. fill c (written_test w n)) (λ n. fill_spell c (written_test w n) ∙ sym (append_assoc (spell_before c) (name w ∷ equal ∷ []) (number n ∷ [])))
+next_spell (ranged c w) t =
+    number_spell t (spell_front (ranged c w)) (λ a. ranged_from c w a) (λ a. sym (append_assoc (spell_before c) (name w ∷ in_word ∷ []) (number a ∷ [])))
+next_spell (ranged_from c w a) t =
+    dots_spell t (spell_front (ranged_from c w a)) (ranged_to c w a) None (sym (append_assoc (spell_before c) (name w ∷ in_word ∷ number a ∷ []) (dots ∷ []))) tt
+next_spell (ranged_to c w a) t =
+    number_spell t (spell_front (ranged_to c w a)) (λ b. fill c (written_range w a b)) (λ b. fill_spell c (written_range w a b) ∙ sym (append_assoc (spell_before c) (name w ∷ in_word ∷ number a ∷ dots ∷ []) (number b ∷ [])))
 next_spell (assigned c w) t = number_spell t (spell_front (assigned c w)) (λ n. fill c (written_set w n)) (λ n. fill_spell c (written_set w n) ∙ sym (append_assoc (spell_before c) (name w ∷ becomes ∷ []) (number n ∷ [])))
 next_spell (partly_linked c q) t = linked_spell c (spell_quad true q) t (quad_step true q t) (quad_spell true q t)
 next_spell (stands o sp st f) t = standing_spell o sp st f t
@@ -689,6 +787,9 @@ pub complete : (p : Front) → Completes (spell_front p)
 complete (wants c) = further (spell_before c) (id_word ∷ []) (complete_before c written_id)
 complete (named c w) = complete_named c _ [] (written_name w) refl
 complete (tested c w) = complete_named c _ (number zero_number ∷ []) (written_test w zero_number) refl
+complete (ranged c w) = complete_named c _ (number zero_number ∷ dots ∷ number zero_number ∷ []) (written_range w zero_number zero_number) refl
+complete (ranged_from c w a) = complete_named c _ (dots ∷ number a ∷ []) (written_range w a a) refl
+complete (ranged_to c w a) = complete_named c _ (number a ∷ []) (written_range w a a) refl
 complete (assigned c w) = complete_named c _ (number zero_number ∷ []) (written_set w zero_number) refl
 complete (partly_linked c q) = complete_quad c q
 complete (stands o sp st f) = complete_standing o sp st f
@@ -742,6 +843,9 @@ filled_ends (negated c line) a t e = filled_ends c (written_not line a) t e
 front_ends : (p : Front) (t : Tree) → ended (state_of p) ≡ Some t → HasTree (spell_front p) t
 front_ends (wants c) t e = absurd (none_some t e)
 front_ends (tested c w) t e = absurd (none_some t e)
+front_ends (ranged c w) t e = absurd (none_some t e)
+front_ends (ranged_from c w a) t e = absurd (none_some t e)
+front_ends (ranged_to c w a) t e = absurd (none_some t e)
 front_ends (assigned c w) t e = absurd (none_some t e)
 front_ends (partly_linked c q) t e = absurd (none_some t e)
 front_ends (stands o sp st f) t e = standing_ends o sp st f t e

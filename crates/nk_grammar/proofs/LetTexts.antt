@@ -7,7 +7,7 @@ use Rattle.nk_lex.specs.Spelling.{Sign, Lexeme, is_colon, begins_with_equal, IsA
 use Rattle.nk_grammar.specs.declared.ast.Word.{Word}
 use Rattle.nk_grammar.specs.declared.ast.Number.{Number}
 use Rattle.nk_grammar.specs.Terminal.{Terminal, name, number, equal, outside, let_word, plus_sign, semicolon, star_sign, opening, closing, terminal_from}
-use Rattle.nk_grammar.specs.Grammar.{Pol, Term, Factor, Atom, one_term, plus, one_factor, semi, plain, starred, written_not, written_id, written_drop, written_dup, written_name, written_test, written_set, written_link, paren, spell_pol, spell_term, spell_factor, spell_atom}
+use Rattle.nk_grammar.specs.Grammar.{Pol, Term, Factor, Atom, one_term, plus, one_factor, semi, plain, starred, written_not, written_id, written_drop, written_dup, written_name, written_test, written_range, written_set, written_link, paren, spell_pol, spell_term, spell_factor, spell_atom}
 use Rattle.nk_grammar.specs.Answer.{terminals}
 use Rattle.nk_grammar.specs.Nesting.{nesting_of_pol}
 use Rattle.nk_grammar.specs.Text.{lexemes_of_pol, lexemes_of_term, lexemes_of_factor, lexemes_of_atom, lexemes_of_let, IsWordOn, IsNumberOn, IsPolOn, IsTermOn, IsFactorOn, IsAtomOn, IsLetText}
@@ -84,6 +84,8 @@ module _ (line : ℕ) where
     atom_apart written_dup r on e a = ((refl, refl), word_apart (codes "dup") r e, a)
     atom_apart (written_name w) r on e a = (on.0.0, word_apart w.text r e, a)
     atom_apart (written_test w n) r on e a = (on.0.0.0, refl, (tt, refl, (on.1.0, number_apart n.value r e, a)))
+    atom_apart (written_range w b c) r on e a =
+        (on.0.0.0, refl, (tt, refl, ((refl, refl), refl, (tt, refl, (on.1.0, refl, (tt, refl, (on.2.0, number_apart c.value r e, a)))))))
     atom_apart (written_set w n) r on e a = (on.0.0.0, refl, (tt, refl, (on.1.0, number_apart n.value r e, a)))
     atom_apart (written_link b m c n) r on e a =
         (on.0.0, refl, (tt, refl, (on.1.0, refl, (tt, refl, (on.2.0, refl, (tt, refl, (on.3.0, number_apart n.value r e, a)))))))
@@ -164,6 +166,9 @@ module _ (line : ℕ) where
     atom_spelled (written_name w) r on = put _ _ _ _ (name_terminal line w on) refl
     atom_spelled (written_test w n) r on =
         put _ _ _ _ (name_terminal line w on.0) (put _ _ _ _ refl (put _ _ _ _ (number_terminal line n on.1) refl))
+    atom_spelled (written_range w a b) r on =
+        put _ _ _ _ (name_terminal line w on.0) (put _ _ _ _ refl
+        (put _ _ _ _ (number_terminal line a on.1) (put _ _ _ _ refl (put _ _ _ _ (number_terminal line b on.2) refl))))
     atom_spelled (written_set w n) r on =
         put _ _ _ _ (name_terminal line w on.0) (put _ _ _ _ refl (put _ _ _ _ (number_terminal line n on.1) refl))
     atom_spelled (written_link a m b n) r on =

@@ -13,8 +13,8 @@ use Rattle.nk_grammar.specs.declared.place.Quad.{Quad}
 use Rattle.nk_grammar.specs.declared.place.Quad.TheVariants as quad
 use Rattle.nk_grammar.specs.declared.place.QuadNext.{QuadNext}
 use Rattle.nk_grammar.specs.declared.place.QuadNext.TheVariants as next
-use Rattle.nk_grammar.specs.Terminal.{Terminal, Outside, name, number, tilde, opening, closing, plus_sign, semicolon, star_sign, equal, becomes, colon, fat_arrow, id_word, drop_word, dup_word, outside, let_word, row_word, terminal_from, terminal_of, is_equal, is_becomes, is_colon, is_between}
-use Rattle.nk_grammar.specs.Tree.{Tree, Trees, name_of, test, assign, sum_of, seq_of, not_of, dup, link, no_part, part, with_part, with_star, sum_from, seq_from}
+use Rattle.nk_grammar.specs.Terminal.{Terminal, Outside, name, number, tilde, opening, closing, plus_sign, semicolon, star_sign, equal, becomes, colon, fat_arrow, id_word, drop_word, dup_word, in_word, dots, outside, let_word, row_word, terminal_from, terminal_of, is_equal, is_in, is_dots, is_becomes, is_colon, is_between}
+use Rattle.nk_grammar.specs.Tree.{Tree, Trees, name_of, test, range, assign, sum_of, seq_of, not_of, dup, link, no_part, part, with_part, with_star, sum_from, seq_from}
 use Rattle.nk_grammar.specs.Machine.{Open, group, negation, State, state, atom_ended, joined, close, number_in, in_option, with_number, quad_step, begin, go_on, linked, step_done, go_on_from, step_at, step, settled_at, settled, done_at, done, ended}
 use Rattle.nk_grammar.specs.Moved.{word_moved, number_moved, tree_moved, trees_moved}
 
@@ -52,6 +52,9 @@ module _ (lines : ℕ) where
   place_moved place.Want = place.Want
   place_moved (place.Named w) = place.Named (word_moved lines w)
   place_moved (place.Tested w) = place.Tested (word_moved lines w)
+  place_moved (place.Ranged w) = place.Ranged (word_moved lines w)
+  place_moved (place.RangedFrom w a) = place.RangedFrom (word_moved lines w) (number_moved lines a)
+  place_moved (place.RangedTo w a) = place.RangedTo (word_moved lines w) (number_moved lines a)
   place_moved (place.Assigned w) = place.Assigned (word_moved lines w)
   place_moved (place.Linked q) = place.Linked (quad_moved q)
   place_moved (place.After b) = place.After b
@@ -105,6 +108,8 @@ module _ (lines : ℕ) where
   from_moves kind.Arrow line value text = refl
   from_moves kind.Colon line value text = refl
   from_moves kind.Comma line value text = refl
+  from_moves kind.Slash line value text = refl
+  from_moves kind.DotDot line value text = refl
   from_moves kind.OpenBracket line value text = refl
   from_moves kind.CloseBracket line value text = refl
 
@@ -127,6 +132,8 @@ module _ (lines : ℕ) where
   number_in_moves id_word = refl
   number_in_moves drop_word = refl
   number_in_moves dup_word = refl
+  number_in_moves in_word = refl
+  number_in_moves dots = refl
   number_in_moves (outside z) = refl
 
   equal_moves : (t : Terminal) → is_equal (terminal_moved t) ≡ is_equal t
@@ -145,7 +152,49 @@ module _ (lines : ℕ) where
   equal_moves id_word = refl
   equal_moves drop_word = refl
   equal_moves dup_word = refl
+  equal_moves in_word = refl
+  equal_moves dots = refl
   equal_moves (outside z) = refl
+
+  in_moves : (t : Terminal) → is_in (terminal_moved t) ≡ is_in t
+  in_moves (name w) = refl
+  in_moves (number n) = refl
+  in_moves (tilde l) = refl
+  in_moves opening = refl
+  in_moves closing = refl
+  in_moves plus_sign = refl
+  in_moves semicolon = refl
+  in_moves star_sign = refl
+  in_moves equal = refl
+  in_moves becomes = refl
+  in_moves colon = refl
+  in_moves fat_arrow = refl
+  in_moves id_word = refl
+  in_moves drop_word = refl
+  in_moves dup_word = refl
+  in_moves in_word = refl
+  in_moves dots = refl
+  in_moves (outside z) = refl
+
+  dots_moves : (t : Terminal) → is_dots (terminal_moved t) ≡ is_dots t
+  dots_moves (name w) = refl
+  dots_moves (number n) = refl
+  dots_moves (tilde l) = refl
+  dots_moves opening = refl
+  dots_moves closing = refl
+  dots_moves plus_sign = refl
+  dots_moves semicolon = refl
+  dots_moves star_sign = refl
+  dots_moves equal = refl
+  dots_moves becomes = refl
+  dots_moves colon = refl
+  dots_moves fat_arrow = refl
+  dots_moves id_word = refl
+  dots_moves drop_word = refl
+  dots_moves dup_word = refl
+  dots_moves in_word = refl
+  dots_moves dots = refl
+  dots_moves (outside z) = refl
 
   becomes_moves : (t : Terminal) → is_becomes (terminal_moved t) ≡ is_becomes t
   becomes_moves (name w) = refl
@@ -163,6 +212,8 @@ module _ (lines : ℕ) where
   becomes_moves id_word = refl
   becomes_moves drop_word = refl
   becomes_moves dup_word = refl
+  becomes_moves in_word = refl
+  becomes_moves dots = refl
   becomes_moves (outside z) = refl
 
   pub colon_moves : (t : Terminal) → is_colon (terminal_moved t) ≡ is_colon t
@@ -181,6 +232,8 @@ module _ (lines : ℕ) where
   colon_moves id_word = refl
   colon_moves drop_word = refl
   colon_moves dup_word = refl
+  colon_moves in_word = refl
+  colon_moves dots = refl
   colon_moves (outside z) = refl
 
   -- a literal's sign alone is asked for in a policy
@@ -200,6 +253,8 @@ module _ (lines : ℕ) where
   between_moves id_word = refl
   between_moves drop_word = refl
   between_moves dup_word = refl
+  between_moves in_word = refl
+  between_moves dots = refl
   between_moves (outside z) = refl
 
   -- ---- trees
@@ -305,6 +360,8 @@ module _ (lines : ℕ) where
   begin_moves fs ts us id_word = some _ _ (ended_moves (seq_of no_part) fs ts us)
   begin_moves fs ts us drop_word = some _ _ (ended_moves (sum_of no_part) fs ts us)
   begin_moves fs ts us dup_word = some _ _ (ended_moves dup fs ts us)
+  begin_moves fs ts us in_word = refl
+  begin_moves fs ts us dots = refl
   begin_moves fs ts us (outside z) = refl
 
   go_on_moves : (b : Bool) (fs : List Open) (ts us : Trees) (t : Terminal)
@@ -324,6 +381,8 @@ module _ (lines : ℕ) where
   go_on_moves b fs ts us id_word = refl
   go_on_moves b fs ts us drop_word = refl
   go_on_moves b fs ts us dup_word = refl
+  go_on_moves b fs ts us in_word = refl
+  go_on_moves b fs ts us dots = refl
   go_on_moves b fs ts us (outside z) = refl
 
   done_moves : (s : State) (t : Terminal) → step_done (state_moved s) (terminal_moved t) ≡ option_map state_moved (step_done s t)
@@ -335,6 +394,9 @@ module _ (lines : ℕ) where
       by_place place.Want = refl
       by_place (place.Named w) = refl
       by_place (place.Tested w) = refl
+      by_place (place.Ranged w) = refl
+      by_place (place.RangedFrom w a) = refl
+      by_place (place.RangedTo w a) = refl
       by_place (place.Assigned w) = refl
       by_place (place.Linked q) = refl
       by_place (place.After b) = go_on_moves b s.frames s.terms s.factors t
@@ -345,10 +407,15 @@ module _ (lines : ℕ) where
   at_moves place.Want fs ts us t = begin_moves fs ts us t
   at_moves (place.Named w) fs ts us t =
       if_moves (is_equal t) _ (option_map state_moved) _ _ _ _ (equal_moves t) refl
+      (if_moves (is_in t) _ (option_map state_moved) _ _ _ _ (in_moves t) refl
       (if_moves (is_becomes t) _ (option_map state_moved) _ _ _ _ (becomes_moves t) refl
-      (ap (λ s. step_done s (terminal_moved t)) (ended_moves (name_of w) fs ts us) ∙ done_moves (atom_ended (name_of w) fs ts us) t))
+      (ap (λ s. step_done s (terminal_moved t)) (ended_moves (name_of w) fs ts us) ∙ done_moves (atom_ended (name_of w) fs ts us) t)))
   at_moves (place.Tested w) fs ts us t =
       with_number_moves t (option_map state_moved) None _ _ refl (λ n. some _ _ (ended_moves (test w n) fs ts us))
+  at_moves (place.Ranged w) fs ts us t = with_number_moves t (option_map state_moved) None _ _ refl (λ a. refl)
+  at_moves (place.RangedFrom w a) fs ts us t = if_moves (is_dots t) _ (option_map state_moved) _ None _ _ (dots_moves t) refl refl
+  at_moves (place.RangedTo w a) fs ts us t =
+      with_number_moves t (option_map state_moved) None _ _ refl (λ b. some _ _ (ended_moves (range w a b) fs ts us))
   at_moves (place.Assigned w) fs ts us t =
       with_number_moves t (option_map state_moved) None _ _ refl (λ n. some _ _ (ended_moves (assign w n) fs ts us))
   at_moves (place.Linked q) fs ts us t =
@@ -367,6 +434,9 @@ module _ (lines : ℕ) where
       by_place place.Want = refl
       by_place (place.Named w) = ended_moves (name_of w) s.frames s.terms s.factors
       by_place (place.Tested w) = refl
+      by_place (place.Ranged w) = refl
+      by_place (place.RangedFrom w a) = refl
+      by_place (place.RangedTo w a) = refl
       by_place (place.Assigned w) = refl
       by_place (place.Linked q) = refl
       by_place (place.After b) = refl
@@ -376,6 +446,9 @@ module _ (lines : ℕ) where
   at_end_moves place.Want fs t = refl
   at_end_moves (place.Named w) fs t = refl
   at_end_moves (place.Tested w) fs t = refl
+  at_end_moves (place.Ranged w) fs t = refl
+  at_end_moves (place.RangedFrom w a) fs t = refl
+  at_end_moves (place.RangedTo w a) fs t = refl
   at_end_moves (place.Assigned w) fs t = refl
   at_end_moves (place.Linked q) fs t = refl
   at_end_moves (place.After b) [] t = refl

@@ -8,7 +8,7 @@ use Rattle.nk_grammar.specs.declared.decl.GrammarError.TheVariants as error
 use Rattle.nk_grammar.specs.declared.place.Place.TheVariants as place
 use Rattle.nk_grammar.specs.Terminal.{Terminal, name, equal, outside, let_word, plus_sign, semicolon, star_sign, closing, terminal_of}
 use Rattle.nk_grammar.specs.Tree.{Tree, Trees, name_of, no_part, with_part, sum_from}
-use Rattle.nk_grammar.specs.Grammar.{Pol, Term, Factor, Atom, one_term, plus, one_factor, semi, plain, starred, written_not, written_id, written_drop, written_dup, written_name, written_test, written_set, written_link, paren, spell_pol, spell_term, spell_factor, spell_atom, terms_of, factors_of, factor_tree, atom_tree, pol_tree}
+use Rattle.nk_grammar.specs.Grammar.{Pol, Term, Factor, Atom, one_term, plus, one_factor, semi, plain, starred, written_not, written_id, written_drop, written_dup, written_name, written_test, written_range, written_set, written_link, paren, spell_pol, spell_term, spell_factor, spell_atom, terms_of, factors_of, factor_tree, atom_tree, pol_tree}
 use Rattle.nk_grammar.specs.Machine.{Open, group, negation, State, state, start, atom_ended, run, step, ended, HasNoNegation}
 use Rattle.nk_grammar.specs.File.{definition}
 use Rattle.nk_grammar.specs.FileMachine.{Reading, reading, let_read, let_named, in_policy, judged, policy_on, open_count, read_one, first_reading, one_more, ended_at, rest_of_file, file_of, and_then_read}
@@ -23,13 +23,13 @@ Low n [] s = length s.frames ≤ n
 Low n (t ∷ ts) s = (length s.frames ≤ n) × IfSome (step s t) (λ s'. Low n ts s')
 
 module _ (n : ℕ) where
-  -- a name that isn't tested or set is an atom
+  -- a name with no sign of its own behind it is an atom
   named_low : (w : Word) (fs : List Open) (ts us : Trees) (r : List Terminal) → IsFree r → length fs ≤ n
       → Low n r (atom_ended (name_of w) fs ts us) → Low n r (state (place.Named w) fs ts us)
   named_low w fs ts us [] free le low = le
   named_low w fs ts us (x ∷ r) free le low =
       let e : step (state (place.Named w) fs ts us) x ≡ step (atom_ended (name_of w) fs ts us) x =
-      rw free.0 (rw free.1 (step_atom x (name_of w) fs ts us)) in
+      rw free.0 (rw free.1 (rw free.2 (step_atom x (name_of w) fs ts us))) in
       (le, subst (λ o. IfSome o (λ s'. Low n r s')) (sym e) low.1)
 
   mutual
@@ -39,7 +39,7 @@ module _ (n : ℕ) where
     pol_low (one_term t) fs r top free le low = term_low t fs no_part r top free le low
     pol_low (plus p t) fs r top free le low =
         subst (λ l. Low n l (state place.Want fs no_part no_part)) (sym (append_assoc (spell_pol p) (plus_sign ∷ spell_term t) r))
-        (pol_low p fs (plus_sign ∷ spell_term t ++ r) top (refl, refl) (omega arith) (
+        (pol_low p fs (plus_sign ∷ spell_term t ++ r) top (refl, refl, refl) (omega arith) (
           omega arith,
           subst (λ x. Low n (spell_term t ++ r) (state place.Want fs x no_part)) (sym (early_late p))
               (term_low t fs (terms_of p) r top free (omega arith) low),
@@ -52,7 +52,7 @@ module _ (n : ℕ) where
     term_low (one_factor f) fs ts r top free le low = factor_low f fs ts no_part r top free le low
     term_low (semi t f) fs ts r top free le low =
         subst (λ l. Low n l (state place.Want fs ts no_part)) (sym (append_assoc (spell_term t) (semicolon ∷ spell_factor f) r))
-        (term_low t fs ts (semicolon ∷ spell_factor f ++ r) top (refl, refl) (omega arith)
+        (term_low t fs ts (semicolon ∷ spell_factor f ++ r) top (refl, refl, refl) (omega arith)
         (omega arith, factor_low f fs ts (factors_of t) r top free (omega arith) low))
 
     pub factor_low : (f : Factor) (fs : List Open) (ts us : Trees) (r : List Terminal) → HasNoNegation fs → IsFree r
@@ -63,7 +63,7 @@ module _ (n : ℕ) where
         atom_low a fs ts us r free le (subst (λ s. Low n r s) (sym (top (atom_tree a) ts us)) low)
     factor_low (starred f) fs ts us r top free le low =
         subst (λ l. Low n l (state place.Want fs ts us)) (sym (append_assoc (spell_factor f) (star_sign ∷ []) r))
-        (factor_low f fs ts us (star_sign ∷ r) top (refl, refl) le
+        (factor_low f fs ts us (star_sign ∷ r) top (refl, refl, refl) le
         (omega arith, subst (λ x. Low n r (state (place.After true) fs ts x)) (sym (one_star f us)) low))
 
     pub atom_low : (a : Atom) (fs : List Open) (ts us : Trees) (r : List Terminal) → IsFree r
@@ -76,13 +76,15 @@ module _ (n : ℕ) where
     atom_low written_dup fs ts us r free le low = (omega arith, low)
     atom_low (written_name w) fs ts us r free le low = (omega arith, named_low w fs ts us r free (omega arith) low)
     atom_low (written_test w k) fs ts us r free le low = (omega arith, (omega arith, (omega arith, low)))
+    atom_low (written_range w a b) fs ts us r free le low =
+        (omega arith, (omega arith, (omega arith, (omega arith, (omega arith, low)))))
     atom_low (written_set w k) fs ts us r free le low = (omega arith, (omega arith, (omega arith, low)))
     atom_low (written_link a m b k) fs ts us r free le low =
         (omega arith, (omega arith, (omega arith, (omega arith, (omega arith, (omega arith, (omega arith, low)))))))
     atom_low (paren p) fs ts us r free le low = (
       omega arith,
       subst (λ l. Low n l (state place.Want (group ts us ∷ fs) no_part no_part)) (sym (append_assoc (spell_pol p) (closing ∷ []) r))
-          (pol_low p (group ts us ∷ fs) (closing ∷ r) (λ t ts us. refl) (refl, refl) (omega arith)
+          (pol_low p (group ts us ∷ fs) (closing ∷ r) (λ t ts us. refl) (refl, refl, refl) (omega arith)
           (omega arith, subst (λ x. Low n r (atom_ended (sum_from x) fs ts us)) (sym (early_late p)) low)),
     )
 

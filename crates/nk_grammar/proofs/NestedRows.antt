@@ -82,7 +82,7 @@ numbers_low (m ∷ ms) line ns ds rs r more = (omega arith, numbers_low ms line 
 -- what follows a policy is no `=` and no `:=`, and ends it
 rows_free : (ws : List WrittenRow) → IsFree (spell_rows ws)
 rows_free [] = tt
-rows_free (written_row l n ms q ∷ ws) = (refl, refl)
+rows_free (written_row l n ms q ∷ ws) = (refl, refl, refl)
 
 rows_refused : (ws : List WrittenRow) (p : Pol) → Low 256 (spell_rows ws) (state (place.After (pol_has_star p)) [] (early p) (late p))
 rows_refused [] p = omega arith

@@ -3,9 +3,9 @@ use Rattle.std.proofs.Common.{◌≡◌, List, [], ◌∷◌, ◌++◌, Bool, tr
 use Rattle.std.specs.Prelude.{Some, None, option_and_then, option_map, if◌then◌else◌}
 use Rattle.nk_grammar.specs.declared.ast.Word.{Word}
 use Rattle.nk_grammar.specs.declared.place.Place.TheVariants as place
-use Rattle.nk_grammar.specs.Terminal.{Terminal, plus_sign, semicolon, star_sign, closing, is_equal, is_becomes}
+use Rattle.nk_grammar.specs.Terminal.{Terminal, plus_sign, semicolon, star_sign, closing, is_equal, is_in, is_becomes}
 use Rattle.nk_grammar.specs.Tree.{Tree, Trees, name_of, not_of, star_of, no_part, part, with_part, with_star, sum_from, seq_from}
-use Rattle.nk_grammar.specs.Grammar.{Pol, Term, Factor, Atom, one_term, plus, one_factor, semi, plain, starred, written_not, written_id, written_drop, written_dup, written_name, written_test, written_set, written_link, paren, spell_pol, spell_term, spell_factor, spell_atom, terms_of, factors_of, factor_tree, atom_tree, HasTree}
+use Rattle.nk_grammar.specs.Grammar.{Pol, Term, Factor, Atom, one_term, plus, one_factor, semi, plain, starred, written_not, written_id, written_drop, written_dup, written_name, written_test, written_range, written_set, written_link, paren, spell_pol, spell_term, spell_factor, spell_atom, terms_of, factors_of, factor_tree, atom_tree, HasTree}
 use Rattle.nk_grammar.specs.Machine.{Open, group, negation, State, state, start, atom_ended, run, step, step_done, settled, ended, done, HasNoNegation}
 
 -- what the tokens come to, a name at the end being an atom
@@ -15,7 +15,7 @@ outcome ts s = option_map settled (run ts s)
 -- the next token isn't one that a name would take
 abbrev pub IsFree : List Terminal → Type 0
 IsFree [] = Unit {0}
-IsFree (t ∷ ts) = (is_equal t ≡ false) × (is_becomes t ≡ false)
+IsFree (t ∷ ts) = (is_equal t ≡ false) × (is_in t ≡ false) × (is_becomes t ≡ false)
 
 -- whether the last factor has a star
 abbrev pub has_star : Factor → Bool
@@ -73,13 +73,13 @@ step_atom x t [] ts us = refl
 step_atom x t (group ts' us' ∷ fs) ts us = refl
 step_atom x t (negation l ∷ fs) ts us = step_atom x (not_of t l) fs ts us
 
--- a name that isn't tested or set is an atom
+-- a name with no sign of its own behind it is an atom
 named_free : (w : Word) (fs : List Open) (ts us : Trees) (r : List Terminal) → IsFree r
     → outcome r (state (place.Named w) fs ts us) ≡ outcome r (atom_ended (name_of w) fs ts us)
 named_free w fs ts us [] free = ap (λ s. Some s) (sym (settled_atom (name_of w) fs ts us))
 named_free w fs ts us (x ∷ r) free =
     let e : step (state (place.Named w) fs ts us) x ≡ step (atom_ended (name_of w) fs ts us) x =
-    rw free.0 (rw free.1 (step_atom x (name_of w) fs ts us)) in
+    rw free.0 (rw free.1 (rw free.2 (step_atom x (name_of w) fs ts us))) in
     ap (λ o. option_map settled (option_and_then (run r) o)) e
 
 mutual
@@ -88,7 +88,7 @@ mutual
   pol_passes (one_term t) fs r top free = term_passes t fs no_part r top free
   pol_passes (plus p t) fs r top free =
       rw (append_assoc (spell_pol p) (plus_sign ∷ spell_term t) r)
-      (pol_passes p fs (plus_sign ∷ spell_term t ++ r) top (refl, refl)
+      (pol_passes p fs (plus_sign ∷ spell_term t ++ r) top (refl, refl, refl)
       ∙ ap (λ x. outcome (spell_term t ++ r) (state place.Want fs x no_part)) (early_late p)
       ∙ term_passes t fs (terms_of p) r top free)
 
@@ -97,7 +97,7 @@ mutual
   term_passes (one_factor f) fs ts r top free = factor_passes f fs ts no_part r top free
   term_passes (semi t f) fs ts r top free =
       rw (append_assoc (spell_term t) (semicolon ∷ spell_factor f) r)
-      (term_passes t fs ts (semicolon ∷ spell_factor f ++ r) top (refl, refl) ∙ factor_passes f fs ts (factors_of t) r top free)
+      (term_passes t fs ts (semicolon ∷ spell_factor f ++ r) top (refl, refl, refl) ∙ factor_passes f fs ts (factors_of t) r top free)
 
   pub factor_passes : (f : Factor) (fs : List Open) (ts us : Trees) (r : List Terminal)
       → HasNoNegation fs → IsFree r
@@ -105,7 +105,7 @@ mutual
   factor_passes (plain a) fs ts us r top free = atom_passes a fs ts us r free ∙ ap (outcome r) (top (atom_tree a) ts us)
   factor_passes (starred f) fs ts us r top free =
       rw (append_assoc (spell_factor f) (star_sign ∷ []) r)
-      (factor_passes f fs ts us (star_sign ∷ r) top (refl, refl)
+      (factor_passes f fs ts us (star_sign ∷ r) top (refl, refl, refl)
       ∙ ap (λ x. outcome r (state (place.After true) fs ts x)) (one_star f us))
 
   pub atom_passes : (a : Atom) (fs : List Open) (ts us : Trees) (r : List Terminal) → IsFree r
@@ -116,11 +116,12 @@ mutual
   atom_passes written_dup fs ts us r free = refl
   atom_passes (written_name w) fs ts us r free = named_free w fs ts us r free
   atom_passes (written_test w n) fs ts us r free = refl
+  atom_passes (written_range w a b) fs ts us r free = refl
   atom_passes (written_set w n) fs ts us r free = refl
   atom_passes (written_link a m b n) fs ts us r free = refl
   atom_passes (paren p) fs ts us r free =
       rw (append_assoc (spell_pol p) (closing ∷ []) r)
-      (pol_passes p (group ts us ∷ fs) (closing ∷ r) (λ t ts us. refl) (refl, refl)
+      (pol_passes p (group ts us ∷ fs) (closing ∷ r) (λ t ts us. refl) (refl, refl, refl)
       ∙ ap (λ x. outcome r (atom_ended (sum_from x) fs ts us)) (early_late p))
 
 -- a policy's tokens leave the policy done

@@ -9,7 +9,7 @@ use Rattle.nk_grammar.specs.declared.place.QuadNext.{QuadNext}
 use Rattle.nk_grammar.specs.declared.place.QuadNext.TheVariants as next
 use Rattle.nk_grammar.specs.declared.place.Place.{Place}
 use Rattle.nk_grammar.specs.declared.place.Place.TheVariants as place
-use Rattle.nk_grammar.specs.Terminal.{Terminal, Outside, name, number, tilde, opening, closing, plus_sign, semicolon, star_sign, equal, becomes, colon, fat_arrow, id_word, drop_word, dup_word, outside, is_equal, field_word, tag_word, switch_word, ports_word, link_word, let_word, arrow, comma, certificate_word, row_word, start_word, no_terminal}
+use Rattle.nk_grammar.specs.Terminal.{Terminal, Outside, name, number, tilde, opening, closing, plus_sign, semicolon, star_sign, equal, becomes, colon, fat_arrow, id_word, drop_word, dup_word, in_word, dots, outside, is_equal, field_word, tag_word, switch_word, ports_word, link_word, let_word, arrow, comma, certificate_word, row_word, start_word, no_terminal}
 use Rattle.nk_grammar.specs.Tree.{Tree, Trees, name_of, not_of, sum_from}
 use Rattle.nk_grammar.specs.Grammar.{Pol, spell_pol, pol_tree, one_term, one_factor, plain, written_id}
 use Rattle.nk_grammar.specs.Machine.{Open, group, negation, State, state, start, atom_ended, with_number, quad_step, step, step_at, step_done, run, settled, ended, done}
@@ -50,6 +50,9 @@ pub outside_refused : (p : Place) (fs : List Open) (ts us : Trees) (z : Outside)
 outside_refused place.Want fs ts us z = refl
 outside_refused (place.Named w) fs ts us z = refused_behind_atom (name_of w) fs ts us z
 outside_refused (place.Tested w) fs ts us z = refl
+outside_refused (place.Ranged w) fs ts us z = refl
+outside_refused (place.RangedFrom w a) fs ts us z = refl
+outside_refused (place.RangedTo w a) fs ts us z = refl
 outside_refused (place.Assigned w) fs ts us z = refl
 outside_refused (place.Linked quad.Start) fs ts us z = refl
 outside_refused (place.Linked (quad.Switch a)) fs ts us z = refl
@@ -96,6 +99,8 @@ policy_ends w line ds p s (fat_arrow ∷ r) e b = absurd b
 policy_ends w line ds p s (id_word ∷ r) e b = absurd b
 policy_ends w line ds p s (drop_word ∷ r) e b = absurd b
 policy_ends w line ds p s (dup_word ∷ r) e b = absurd b
+policy_ends w line ds p s (in_word ∷ r) e b = absurd b
+policy_ends w line ds p s (dots ∷ r) e b = absurd b
 
 -- further ports
 ports_pass : (n : Number) (qs ps : List Number) (ds : List Declaration) (r : List Terminal) → IsBehind r
@@ -122,6 +127,8 @@ ports_pass n qs [] ds (fat_arrow ∷ r) b = absurd b
 ports_pass n qs [] ds (id_word ∷ r) b = absurd b
 ports_pass n qs [] ds (drop_word ∷ r) b = absurd b
 ports_pass n qs [] ds (dup_word ∷ r) b = absurd b
+ports_pass n qs [] ds (in_word ∷ r) b = absurd b
+ports_pass n qs [] ds (dots ∷ r) b = absurd b
 
 -- what the tokens of a policy leave
 pub left_by : (p : Pol) → (s : State) × (run (spell_pol p) start ≡ Some s) × (ended s ≡ Some (pol_tree p))
@@ -240,6 +247,8 @@ begins ts ds fat_arrow h = tt
 begins ts ds id_word h = tt
 begins ts ds drop_word h = tt
 begins ts ds dup_word h = tt
+begins ts ds in_word h = tt
+begins ts ds dots h = tt
 begins ts ds (outside field_word) h = (h.0, outside field_word ∷ [], h.2, ap (λ x. x ++ outside field_word ∷ []) h.1, refl)
 begins ts ds (outside tag_word) h = (h.0, outside tag_word ∷ [], h.2, ap (λ x. x ++ outside tag_word ∷ []) h.1, refl)
 begins ts ds (outside switch_word) h = (h.0, outside switch_word ∷ [], h.2, ap (λ x. x ++ outside switch_word ∷ []) h.1, refl)
@@ -272,6 +281,8 @@ name_leads fat_arrow ts f e = tt
 name_leads id_word ts f e = tt
 name_leads drop_word ts f e = tt
 name_leads dup_word ts f e = tt
+name_leads in_word ts f e = tt
+name_leads dots ts f e = tt
 name_leads (outside field_word) ts f e = tt
 name_leads (outside tag_word) ts f e = tt
 name_leads (outside switch_word) ts f e = tt
@@ -304,6 +315,8 @@ number_leads fat_arrow ts f e = tt
 number_leads id_word ts f e = tt
 number_leads drop_word ts f e = tt
 number_leads dup_word ts f e = tt
+number_leads in_word ts f e = tt
+number_leads dots ts f e = tt
 number_leads (outside field_word) ts f e = tt
 number_leads (outside tag_word) ts f e = tt
 number_leads (outside switch_word) ts f e = tt
@@ -335,6 +348,8 @@ ports_leads fat_arrow ts r e = tt
 ports_leads id_word ts r e = tt
 ports_leads drop_word ts r e = tt
 ports_leads dup_word ts r e = tt
+ports_leads in_word ts r e = tt
+ports_leads dots ts r e = tt
 ports_leads (outside field_word) ts r e = tt
 ports_leads (outside tag_word) ts r e = tt
 ports_leads (outside switch_word) ts r e = tt
@@ -366,6 +381,8 @@ equal_leads fat_arrow ts r e = tt
 equal_leads id_word ts r e = tt
 equal_leads drop_word ts r e = tt
 equal_leads dup_word ts r e = tt
+equal_leads in_word ts r e = tt
+equal_leads dots ts r e = tt
 equal_leads (outside field_word) ts r e = tt
 equal_leads (outside tag_word) ts r e = tt
 equal_leads (outside switch_word) ts r e = tt
@@ -398,6 +415,8 @@ comma_leads fat_arrow ts r o e f = f
 comma_leads id_word ts r o e f = f
 comma_leads drop_word ts r o e f = f
 comma_leads dup_word ts r o e f = f
+comma_leads in_word ts r o e f = f
+comma_leads dots ts r o e f = f
 comma_leads (outside field_word) ts r o e f = f
 comma_leads (outside tag_word) ts r o e f = f
 comma_leads (outside switch_word) ts r o e f = f
