@@ -1,7 +1,7 @@
 -- Diagrams of policies that are continued by a diagram: growth, leaves, sequences and stars.
 use Rattle.std.proofs.Common.{true, ◌≡◌, ℕ, ◌+◌, inl, inr, ⊎_elim, List, [], ◌∷◌, refl, sym, ap, subst, ◌∙◌}
 use Rattle.nk_field.specs.Act.{applied}
-use Rattle.nk_policy.specs.Policy.{Policy, Policies, test, assign, seq_of, not_of, star_of, dup, link, no_part, part, is_predicate}
+use Rattle.nk_policy.specs.Policy.{Policy, Policies, test, range, assign, seq_of, not_of, star_of, dup, link, no_part, part, is_predicate}
 use Rattle.nk_policy.specs.Progress.{RecordsAt}
 use Rattle.nk_store.specs.Held.{Held, IsId, IsWhole, IsPacket, look, Grows, HasLeaves, AreTidy}
 use Rattle.nk_store.specs.declared.node.Out.{Out}
@@ -113,6 +113,12 @@ guarded_through st new d k r p g a pred ik none h = record {
 pub test_through : (st new : Held) (d k r f n : ℕ) → Grows st new → IsSilent st d (test f n) → IsPredicate st d → IsId st k →
     HasLeaves new r (λ pk. guarded (look st d pk) (look st k pk)) → IsContinued new r (test f n) k
 test_through st new d k r f n g a pred ik h = guarded_through st new d k r (test f n) g a pred ik (λ pk y t e. e) h
+
+-- the range, continued
+pub range_through : (st new : Held) (d k r f lo hi : ℕ) → Grows st new → IsSilent st d (range f lo hi) → IsPredicate st d →
+    IsId st k → HasLeaves new r (λ pk. guarded (look st d pk) (look st k pk)) → IsContinued new r (range f lo hi) k
+range_through st new d k r f lo hi g a pred ik h =
+    guarded_through st new d k r (range f lo hi) g a pred ik (λ pk y t e. e) h
 
 -- the assignment, continued
 pub set_through : (st new : Held) (d k r f n : ℕ) → AreTidy new → Grows st new → IsSilent st d (assign f n) → IsId st k →

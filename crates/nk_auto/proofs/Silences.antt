@@ -1,19 +1,20 @@
 -- Diagrams of the runs without a record: leaves, complements, sequences and stars.
-use Rattle.std.proofs.Common.{◌≡◌, ℕ, zero, suc, ◌+◌, ◌≤◌, ◌↔◌, inl, ⊎_elim, Bool, true, false, cond, eqb, leb, min, List, [], ◌∷◌, refl, sym, ap, subst, ◌∙◌, arith, drop}
+use Rattle.std.proofs.Common.{◌≡◌, ℕ, zero, suc, ◌+◌, ◌≤◌, ◌↔◌, inl, ⊎_elim, Bool, true, false, cond, eqb, leb, ◌&&◌, min, List, [], ◌∷◌, refl, sym, ap, subst, ◌∙◌, arith, drop}
 use Rattle.std.specs.Prelude.{slice_index}
 use Rattle.std.proofs.lemmas.Bool.Decides.{nat_tests}
 use Rattle.nk_field.specs.Act.{applied}
-use Rattle.nk_policy.specs.Policy.{Policy, Policies, test, assign, seq_of, not_of, star_of, dup, link, no_part, part, is_predicate}
+use Rattle.nk_policy.specs.Policy.{Policy, Policies, test, range, assign, seq_of, not_of, star_of, dup, link, no_part, part, is_predicate}
 use Rattle.nk_policy.specs.Meaning.{Gives, way_of, rounds}
 use Rattle.nk_policy.specs.Tree.{tree_of, trees_of}
 use Rattle.nk_policy.specs.declared.policy.Pol.{Pol}
+use Rattle.nk_policy.proofs.Tests.{both_true, both_pass, at_most_test, at_most_from}
 use Rattle.nk_store.specs.declared.node.Out.{Out}
 use Rattle.nk_store.specs.Leaves.{Every}
 use Rattle.nk_store.specs.Nodes.{InRange}
 use Rattle.nk_store.specs.Held.{Held, IsId, IsWhole, IsPacket, look, Grows, HasLeaves, AreTidy}
 use Rattle.nk_algebra.specs.Leaves.{absent}
 use Rattle.nk_algebra.specs.Predicates.{Ends}
-use Rattle.nk_algebra.specs.Seqs.{seq_leaf, no_out}
+use Rattle.nk_algebra.specs.Seqs.{seq_leaf, no_out, in_span}
 use Rattle.nk_algebra.proofs.Members.{Has, contains_has, has_contains, every_has}
 use Rattle.nk_star.specs.Leading.{Makes, Leads}
 use Rattle.nk_auto.specs.Values.{one_out}
@@ -92,6 +93,31 @@ test_silent st maxes d f n same h = record {
             subst (λ x. Sends st d pk x t) (sym s.1.2) (subst (λ u. Sends st d pk pk u) (sym s.0) sent),
       );
 }
+
+-- the packet where the field's value is in the range
+pub range_silent : (st : Held) (maxes : List ℕ) (d f lo hi : ℕ) → st.maxes ≡ maxes →
+    HasLeaves st d (λ pk. in_span (slice_index maxes f) lo hi (slice_index pk f)) → IsSilent st d (range f lo hi)
+range_silent st maxes d f lo hi same h =
+    let inside : ℕ → Bool = λ v. leb lo v && leb v hi in
+    let found : List ℕ → Bool = λ pk. inside (min (slice_index pk f) (slice_index maxes f)) in
+    record {
+      id = h.id;
+      ends = λ pk w. every_same _ _ _ (h.leaf pk w) (ends_or_none (found pk) no_out refl);
+      sends = λ fit pk y t r.
+          let here : InRange maxes pk = subst (λ m. InRange m pk) same r in
+          let value : found pk ≡ inside (slice_index pk f) = ap inside (clipped maxes pk f here) in (
+            λ s.
+                let one = one_of (found pk) no_out (out_of s.0 t) (read_out st d _ pk y t h r.0 s) in
+                let kept = kept_out s.0 t pk y one.1 s.2 in
+                let both = both_true (leb lo (slice_index pk f)) (leb (slice_index pk f) hi) (sym value ∙ one.0) in
+                (kept.0, (at_most_from lo (slice_index pk f) both.0, at_most_from (slice_index pk f) hi both.1, refl, kept.1)),
+            λ s.
+                let holds : found pk ≡ true =
+                value ∙ both_pass (leb lo (slice_index pk f)) (leb (slice_index pk f) hi) (at_most_test lo (slice_index pk f) s.1.0) (at_most_test (slice_index pk f) hi s.1.1) in
+                let sent : Sends st d pk pk 0 = out_sends st d _ pk [] 0 h r.0 (is_one (found pk) no_out holds) in
+                subst (λ x. Sends st d pk x t) (sym s.1.3) (subst (λ u. Sends st d pk pk u) (sym s.0) sent),
+          );
+    }
 
 -- the packet with the field set
 pub set_silent : (st : Held) (maxes : List ℕ) (d f n : ℕ) → st.maxes ≡ maxes →

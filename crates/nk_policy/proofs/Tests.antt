@@ -43,6 +43,11 @@ pub both_true : (a b : Bool) → a && b ≡ true → (a ≡ true) × (b ≡ true
 both_true true b h = (refl, h)
 both_true false b h = cc
 
+-- two tests that each pass pass together
+pub both_pass : (a b : Bool) → a ≡ true → b ≡ true → a && b ≡ true
+both_pass true b h k = k
+both_pass false b h k = cc
+
 -- a number passes the test with itself
 pub same_number : (l : ℕ) → l == l ≡ true
 same_number l = grind arith
