@@ -2,7 +2,7 @@
 use Rattle.std.proofs.Common.{◌≤◌, ℕ, suc, subst, List, [], ◌∷◌, ◌++◌, refl, sym, append_assoc, append-nil, arith}
 use Rattle.nk_grammar.specs.declared.ast.Number.{Number}
 use Rattle.nk_grammar.specs.Terminal.{Terminal, plus_sign, semicolon, star_sign, closing}
-use Rattle.nk_grammar.specs.Grammar.{Pol, Term, Factor, Atom, one_term, plus, one_factor, semi, plain, starred, written_not, written_id, written_drop, written_dup, written_name, written_test, written_set, written_link, paren, spell_pol, spell_term, spell_factor, spell_atom}
+use Rattle.nk_grammar.specs.Grammar.{Pol, Term, Factor, Atom, one_term, plus, one_factor, semi, plain, starred, written_not, written_id, written_drop, written_dup, written_name, written_test, written_range, written_set, written_link, paren, spell_pol, spell_term, spell_factor, spell_atom}
 use Rattle.nk_grammar.specs.File.{Written, written_field, written_tag, written_switch, written_declared_link, written_let, spell_ports, spell_declaration, spell_file}
 use Rattle.nk_nesting.specs.Counts.{open_in_pol, open_in_term, open_in_factor, open_in_atom, open_in_ports, open_in_declaration, open_in_file, GoWith}
 
@@ -44,6 +44,8 @@ mutual
   atom_goes written_dup n m js r le go = (le, go)
   atom_goes (written_name w) n m js r le go = (le, go)
   atom_goes (written_test w k) n m js r le go = (omega arith, (omega arith, (le, go)))
+  atom_goes (written_range w a b) n m js r le go =
+      (omega arith, (omega arith, (omega arith, (omega arith, (le, go)))))
   atom_goes (written_set w k) n m js r le go = (omega arith, (omega arith, (le, go)))
   atom_goes (written_link a i b k) n m js r le go =
       (omega arith, (omega arith, (omega arith, (omega arith, (omega arith, (omega arith, (le, go)))))))

@@ -1,5 +1,5 @@
 -- The reader's count follows the text's: it is at least that, and within the limit as long as the text's is. Behind a name
--- alone it may be more, since an `=` or `:=` may come.
+-- alone it may be more, since an `=`, `in` or `:=` may come.
 use Rattle.std.proofs.Common.{◌≡◌, ◌≤◌, ℕ, List, [], ◌∷◌, ◌++◌, true, false, length, refl, sym, subst, ◌∙◌, ap, append_assoc, append-nil, arith, Option}
 use Rattle.std.specs.Prelude.{Some, None, IsSomeAnd, option_and_then}
 use Rattle.nk_grammar.specs.declared.ast.Word.{Word}
@@ -7,7 +7,7 @@ use Rattle.nk_grammar.specs.declared.ast.Number.{Number}
 use Rattle.nk_grammar.specs.declared.place.Place.TheVariants as place
 use Rattle.nk_grammar.specs.Terminal.{Terminal, Outside, name, number, equal, colon, outside, ports_word, arrow, plus_sign, semicolon, star_sign, closing, field_word, tag_word, switch_word, link_word, let_word}
 use Rattle.nk_grammar.specs.Tree.{Tree, Trees, name_of, not_of, no_part, with_part, sum_from}
-use Rattle.nk_grammar.specs.Grammar.{Pol, Term, Factor, Atom, one_term, plus, one_factor, semi, plain, starred, written_not, written_id, written_drop, written_dup, written_name, written_test, written_set, written_link, paren, spell_pol, spell_term, spell_factor, spell_atom, terms_of, factors_of, factor_tree, atom_tree, pol_tree}
+use Rattle.nk_grammar.specs.Grammar.{Pol, Term, Factor, Atom, one_term, plus, one_factor, semi, plain, starred, written_not, written_id, written_drop, written_dup, written_name, written_test, written_range, written_set, written_link, paren, spell_pol, spell_term, spell_factor, spell_atom, terms_of, factors_of, factor_tree, atom_tree, pol_tree}
 use Rattle.nk_grammar.specs.Machine.{Open, group, negation, State, state, start, atom_ended, run, step, ended, HasNoNegation}
 use Rattle.nk_grammar.specs.File.{Declaration, Written, written_field, written_tag, written_switch, written_declared_link, written_let, spell_ports, spell_declaration, spell_file, declared, definition, switch}
 use Rattle.nk_grammar.specs.FileMachine.{Reading, reading, between, in_policy, port_read, policy_on, policy_done, one_more, open_count, read_one}
@@ -30,7 +30,7 @@ fewer t [] ts us = omega arith
 fewer t (group ts' us' ∷ fs) ts us = omega arith
 fewer t (negation l ∷ fs) ts us = let le = fewer (not_of t l) fs ts us in omega (arith, le)
 
--- a name that isn't tested or set is an atom
+-- a name with no sign of its own behind it is an atom
 named_follows : (w : Word) (fs : List Open) (ts us : Trees) (ks : List ℕ) (r : List Terminal) → IsFree r
     → Follows ks r (atom_ended (name_of w) fs ts us) → Follows ks r (state (place.Named w) fs ts us)
 named_follows w fs ts us [] [] free h = tt
@@ -38,7 +38,7 @@ named_follows w fs ts us [] (x ∷ r) free h = absurd h
 named_follows w fs ts us (k ∷ ks) [] free h = absurd h
 named_follows w fs ts us (k ∷ ks) (x ∷ r) free h =
     let e : step (state (place.Named w) fs ts us) x ≡ step (atom_ended (name_of w) fs ts us) x =
-    rw free.0 (rw free.1 (step_atom x (name_of w) fs ts us)) in
+    rw free.0 (rw free.1 (rw free.2 (step_atom x (name_of w) fs ts us))) in
     subst (λ o. IsSomeAnd o (λ s'. (k ≤ length s'.frames) × (k ≤ 256 → (length s'.frames ≤ 256) × Follows ks r s'))) (sym e) h
 
 -- the last token of an atom
@@ -54,7 +54,7 @@ mutual
   pol_follows (one_term t) fs ks r top free le h = term_follows t fs no_part ks r top free le h
   pol_follows (plus p t) fs ks r top free le h =
       three_parts (λ l m. Follows l m (state place.Want fs no_part no_part)) (open_in_pol (length fs) p) (length fs ∷ open_in_term (length fs) t) ks (spell_pol p) (plus_sign ∷ spell_term t) r
-      (pol_follows p fs (length fs ∷ (open_in_term (length fs) t ++ ks)) (plus_sign ∷ (spell_term t ++ r)) top (refl, refl) le (
+      (pol_follows p fs (length fs ∷ (open_in_term (length fs) t ++ ks)) (plus_sign ∷ (spell_term t ++ r)) top (refl, refl, refl) le (
         omega arith,
         λ few. (
           le,
@@ -69,7 +69,7 @@ mutual
   term_follows (one_factor f) fs ts ks r top free le h = factor_follows f fs ts no_part ks r top free le h
   term_follows (semi t f) fs ts ks r top free le h =
       three_parts (λ l m. Follows l m (state place.Want fs ts no_part)) (open_in_term (length fs) t) (length fs ∷ open_in_factor (length fs) f) ks (spell_term t) (semicolon ∷ spell_factor f) r
-      (term_follows t fs ts (length fs ∷ (open_in_factor (length fs) f ++ ks)) (semicolon ∷ (spell_factor f ++ r)) top (refl, refl) le
+      (term_follows t fs ts (length fs ∷ (open_in_factor (length fs) f ++ ks)) (semicolon ∷ (spell_factor f ++ r)) top (refl, refl, refl) le
       (omega arith, λ few. (le, factor_follows f fs ts (factors_of t) ks r top free le h)))
 
   factor_follows : (f : Factor) (fs : List Open) (ts us : Trees) (ks : List ℕ) (r : List Terminal)
@@ -82,7 +82,7 @@ mutual
       (atom_follows a fs ts us (length fs) ks r free le (subst (λ s. length fs ≤ length s.frames) (sym e) (omega arith)) (subst (λ s. Follows ks r s) (sym e) h))
   factor_follows (starred f) fs ts us ks r top free le h =
       three_parts (λ l m. Follows l m (state place.Want fs ts us)) (open_in_factor (length fs) f) (length fs ∷ []) ks (spell_factor f) (star_sign ∷ []) r
-      (factor_follows f fs ts us (length fs ∷ ks) (star_sign ∷ r) top (refl, refl) le
+      (factor_follows f fs ts us (length fs ∷ ks) (star_sign ∷ r) top (refl, refl, refl) le
       (omega arith, λ few. (le, subst (λ x. Follows ks r (state (place.After true) fs ts x)) (sym (one_star f us)) h)))
 
   -- m are open behind the atom
@@ -100,6 +100,9 @@ mutual
       (omega (arith, few, low), λ _. (le, named_follows w fs ts us ks r free h))
   atom_follows (written_test w k) fs ts us m ks r free le low h =
       (omega arith, λ _. (le, (omega arith, λ _. (le, ends (written_test w k) fs ts us m ks r le low h))))
+  atom_follows (written_range w a b) fs ts us m ks r free le low h =
+      let n : length fs ≤ length fs = omega arith in
+      (n, λ _. (le, (n, λ _. (le, (n, λ _. (le, (n, λ _. (le, ends (written_range w a b) fs ts us m ks r le low h))))))))
   atom_follows (written_set w k) fs ts us m ks r free le low h =
       (omega arith, λ _. (le, (omega arith, λ _. (le, ends (written_set w k) fs ts us m ks r le low h))))
   atom_follows (written_link a i b k) fs ts us m ks r free le low h =
@@ -110,7 +113,7 @@ mutual
     λ few. (
       few,
       subst (λ l. Follows (open_in_pol (length (group ts us ∷ fs)) p ++ m ∷ ks) l (state place.Want (group ts us ∷ fs) no_part no_part)) (sym (append_assoc (spell_pol p) (closing ∷ []) r))
-          (pol_follows p (group ts us ∷ fs) (m ∷ ks) (closing ∷ r) (λ t ts us. refl) (refl, refl) few
+          (pol_follows p (group ts us ∷ fs) (m ∷ ks) (closing ∷ r) (λ t ts us. refl) (refl, refl, refl) few
           (subst (λ x. (m ≤ length (atom_ended (sum_from x) fs ts us).frames) × (m ≤ 256 → (length (atom_ended (sum_from x) fs ts us).frames ≤ 256) × Follows ks r (atom_ended (sum_from x) fs ts us))) (sym (early_late p)) (ends (paren p) fs ts us m ks r le low h))),
     ),
   )

@@ -7,7 +7,7 @@ use Rattle.std.proofs.lemmas.List.Elements.{All-nil, All-cons, All-head, All-tai
 use Rattle.nk_lex.specs.declared.token.Token.{Token}
 use Rattle.nk_grammar.specs.declared.decl.GrammarError.{GrammarError}
 use Rattle.nk_grammar.specs.declared.decl.GrammarError.TheVariants as error
-use Rattle.nk_grammar.specs.Terminal.{Terminal, name, number, tilde, opening, closing, plus_sign, semicolon, star_sign, equal, becomes, colon, fat_arrow, id_word, drop_word, dup_word, outside, terminal_of}
+use Rattle.nk_grammar.specs.Terminal.{Terminal, name, number, tilde, opening, closing, plus_sign, semicolon, star_sign, equal, becomes, colon, fat_arrow, id_word, drop_word, dup_word, in_word, dots, outside, terminal_of}
 use Rattle.nk_grammar.specs.File.{Declaration, Written, declared, spell_file}
 use Rattle.nk_grammar.specs.FileMachine.{Reading, read_one, read_all, first_reading, declarations_at_end, open_count, judged, ended_at, and_then_read, rest_of_file, file_of}
 use Rattle.nk_grammar.specs.Answer.{terminals, IsDeepToken, IsAnswer}
@@ -122,6 +122,8 @@ raises fat_arrow n k c le lt = absurd (omega (arith, c, le, lt))
 raises id_word n k c le lt = absurd (omega (arith, c, le, lt))
 raises drop_word n k c le lt = absurd (omega (arith, c, le, lt))
 raises dup_word n k c le lt = absurd (omega (arith, c, le, lt))
+raises in_word n k c le lt = absurd (omega (arith, c, le, lt))
+raises dots n k c le lt = absurd (omega (arith, c, le, lt))
 raises (outside z) n k c le lt = absurd (omega (arith, c, le, lt))
 
 -- behind no front of the tokens more than 256 are open

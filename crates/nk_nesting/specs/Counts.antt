@@ -1,10 +1,10 @@
 -- How many parentheses and `~` are open behind each token of a text, by its spelling alone. A parenthesis is open from its
 -- token until its closing one; a `~` from its token until the atom that it negates ends, which it does with its last token.
--- Which atom a name begins is the spelling's to say: in `~a` nothing is open behind `a`, in `~a = 1` the `~` is, until the 1.
+-- Which atom a name begins is the spelling's to say: in `~a` nothing is open behind `a`, in `~a = 1` the `~` is, until the 1, and in `~a in 1..2` until the 2.
 use Rattle.std.specs.Prelude.{◌≡◌, ◌≤◌, ◌<◌, ℕ, suc, List, [], ◌∷◌, ◌++◌, ⊤}
 use Rattle.nk_grammar.specs.declared.ast.Number.{Number}
 use Rattle.nk_grammar.specs.Terminal.{Terminal, tilde, opening, closing, plus_sign, semicolon, star_sign}
-use Rattle.nk_grammar.specs.Grammar.{Pol, Term, Factor, Atom, one_term, plus, one_factor, semi, plain, starred, written_not, written_id, written_drop, written_dup, written_name, written_test, written_set, written_link, paren}
+use Rattle.nk_grammar.specs.Grammar.{Pol, Term, Factor, Atom, one_term, plus, one_factor, semi, plain, starred, written_not, written_id, written_drop, written_dup, written_name, written_test, written_range, written_set, written_link, paren}
 use Rattle.nk_grammar.specs.File.{Written, written_field, written_tag, written_switch, written_declared_link, written_let, spell_file}
 
 abbrev mutual
@@ -30,6 +30,7 @@ abbrev mutual
   open_in_atom n written_dup = []
   open_in_atom n (written_name w) = []
   open_in_atom n (written_test w m) = n ∷ n ∷ []
+  open_in_atom n (written_range w a b) = n ∷ n ∷ n ∷ n ∷ []
   open_in_atom n (written_set w m) = n ∷ n ∷ []
   open_in_atom n (written_link a m b k) = n ∷ n ∷ n ∷ n ∷ n ∷ n ∷ []
   open_in_atom n (paren p) = suc n ∷ open_in_pol (suc n) p

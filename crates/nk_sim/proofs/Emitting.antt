@@ -7,29 +7,29 @@ use Rattle.nk_table.specs.Rules.{agrees, rows_of, groups_of, highest, buckets_of
 use Rattle.nk_sim.specs.Emitted.{table_of, sent_by_all, sent_by_table}
 
 -- what the switch with this table sends, or one without a table
-abbrev sent_by_found : List ℕ → Option Table → List (List ℕ)
-sent_by_found pk None = []
-sent_by_found pk (Some t) = sent_by_table pk t
+abbrev sent_by_found : (maxima pk : List ℕ) → Option Table → List (List ℕ)
+sent_by_found maxima pk None = []
+sent_by_found maxima pk (Some t) = sent_by_table maxima pk t
 
 -- what is sent by the rows and the groups of a switch
-abbrev sent_at : List ℕ → List Table → ℕ → List (List ℕ)
-sent_at pk ts sw = sent_by_all pk (buckets_of_row (groups_of ts sw) (highest [] (filter (agrees pk) (rows_of ts sw))))
+abbrev sent_at : (maxima pk : List ℕ) → List Table → ℕ → List (List ℕ)
+sent_at maxima pk ts sw = sent_by_all pk (buckets_of_row (groups_of ts sw) (highest [] (filter (agrees maxima pk) (rows_of ts sw))))
 
 -- the first table of a switch has its rows and its groups
-first_has : (pk : List ℕ) (ts : List Table) (sw : ℕ) → sent_at pk ts sw ≡ sent_by_found pk (table_of ts sw)
-first_has pk [] sw = refl
-first_has pk (t ∷ ts) sw = by (t.switch == sw) (first_has pk ts sw)
+first_has : (maxima pk : List ℕ) (ts : List Table) (sw : ℕ) → sent_at maxima pk ts sw ≡ sent_by_found maxima pk (table_of ts sw)
+first_has maxima pk [] sw = refl
+first_has maxima pk (t ∷ ts) sw = by (t.switch == sw) (first_has maxima pk ts sw)
   where
-    by : (b : Bool) → sent_at pk ts sw ≡ sent_by_found pk (table_of ts sw)
-        → sent_by_all pk (buckets_of_row (cond b t.groups (groups_of ts sw)) (highest [] (filter (agrees pk) (cond b t.rows (rows_of ts sw)))))
-        ≡ sent_by_found pk (cond b (Some t) (table_of ts sw))
+    by : (b : Bool) → sent_at maxima pk ts sw ≡ sent_by_found maxima pk (table_of ts sw)
+        → sent_by_all pk (buckets_of_row (cond b t.groups (groups_of ts sw)) (highest [] (filter (agrees maxima pk) (cond b t.rows (rows_of ts sw)))))
+        ≡ sent_by_found maxima pk (cond b (Some t) (table_of ts sw))
     by true rest = refl
     by false rest = rest
 
 -- nothing is sent where the switch has no table
 pub none_sent : (t : Tables) (pk : List ℕ) → table_of t.tables (slice_index pk 0) ≡ None → sent_for t pk ≡ []
-none_sent t pk h = first_has pk t.tables (slice_index pk 0) ∙ ap (sent_by_found pk) h
+none_sent t pk h = first_has t.fields.maxima pk t.tables (slice_index pk 0) ∙ ap (sent_by_found t.fields.maxima pk) h
 
 -- else what its first table says
-pub sent_by_first : (t : Tables) (pk : List ℕ) (tb : Table) → table_of t.tables (slice_index pk 0) ≡ Some tb → sent_for t pk ≡ sent_by_table pk tb
-sent_by_first t pk tb h = first_has pk t.tables (slice_index pk 0) ∙ ap (sent_by_found pk) h
+pub sent_by_first : (t : Tables) (pk : List ℕ) (tb : Table) → table_of t.tables (slice_index pk 0) ≡ Some tb → sent_for t pk ≡ sent_by_table t.fields.maxima pk tb
+sent_by_first t pk tb h = first_has t.fields.maxima pk t.tables (slice_index pk 0) ∙ ap (sent_by_found t.fields.maxima pk) h

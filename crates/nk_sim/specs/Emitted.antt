@@ -23,9 +23,9 @@ Finds f ts = (sw : ℕ) → found_by f.places.items ts sw ≡ table_of ts sw
 abbrev pub sent_by_all : List ℕ → List Bucket → List (List ℕ)
 sent_by_all pk buckets = filter_map (sent_by pk) buckets
 
--- what the switch with this table sends
-abbrev pub sent_by_table : List ℕ → Table → List (List ℕ)
-sent_by_table pk t = sent_by_all pk (buckets_of_row t.groups (highest [] (filter (agrees pk) t.rows)))
+-- what the switch with this table sends; the first list has the largest value of each field
+abbrev pub sent_by_table : (maxima pk : List ℕ) → Table → List (List ℕ)
+sent_by_table maxima pk t = sent_by_all pk (buckets_of_row t.groups (highest [] (filter (agrees maxima pk) t.rows)))
 
 -- numbers of switches or ports
 abbrev pub AreNumbers : List ℕ → Type 0

@@ -6,7 +6,7 @@ ghost use Rattle.nk_sim.specs.Emitted.{Finds, table_of, sent_by_all};
 ghost use Rattle.nk_sim.specs.Emitted as emitted;
 
 use crate::finder::Finder;
-use nk_field::{Fid, Packet};
+use nk_field::{Fid, Fields, Packet};
 use nk_table::{Bucket, Exit, Group, Table, Tables, Target, acting_row};
 use std::alloc::{AllocError, Global};
 
@@ -17,7 +17,7 @@ pub fn emit(alloc: Global, t: &Tables, p: &Packet) -> Result<Vec<Packet>, AllocE
     ensures { IfOk result (λ sent. sent.items ≡ sent_for t.now p.now) }
 {
     match table_at(t.tables.as_slice(), p.get(Fid::SWITCH)) {
-        Some(found) => sent_by_table(alloc, found, p),
+        Some(found) => sent_by_table(alloc, &t.fields, found, p),
         None => Ok(Vec::new(alloc)),
     }
 }
@@ -34,16 +34,21 @@ pub fn emit_by(
     ensures { IfOk result (λ sent. sent.items ≡ sent_for t.now p.now) }
 {
     match finder.table(t.tables.as_slice(), p.get(Fid::SWITCH)) {
-        Some(table) => sent_by_table(alloc, table, p),
+        Some(table) => sent_by_table(alloc, &t.fields, table, p),
         None => Ok(Vec::new(alloc)),
     }
 }
 
 /// What the switch with a table sends.
-fn sent_by_table(alloc: Global, table: &Table, p: &Packet) -> Result<Vec<Packet>, AllocError>
-    ensures { IfOk result (λ sent. sent.items ≡ emitted.sent_by_table p.now table.now) }
+fn sent_by_table(
+    alloc: Global,
+    fields: &Fields,
+    table: &Table,
+    p: &Packet,
+) -> Result<Vec<Packet>, AllocError>
+    ensures { IfOk result (λ sent. sent.items ≡ emitted.sent_by_table fields.now.maxima p.now table.now) }
 {
-    match acting_row(table.rows.as_slice(), p) {
+    match acting_row(fields, table.rows.as_slice(), p) {
         Some(row) => sent_by_target(alloc, table.groups.as_slice(), &row.target, p),
         None => Ok(Vec::new(alloc)),
     }

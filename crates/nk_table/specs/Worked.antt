@@ -27,7 +27,7 @@ one_link = record {
   links = record { from_switch = 1; from_port = 2; to_switch = 2; to_port = 1 } ∷ [];
 }
 
-abbrev pub row : ℕ → List (ℕ × ℕ) → Target → Row
+abbrev pub row : ℕ → List (ℕ × ℕ × ℕ) → Target → Row
 row priority matches target = record { priority = priority; matches = matches; target = target }
 
 abbrev pub bucket : List (ℕ × ℕ) → Exit → Bucket
@@ -38,13 +38,13 @@ one_crossing = record {
   fields = two_fields;
   topo = one_link;
   tables =
-      record { switch = 1; groups = []; rows = row 2 ((3, 0) ∷ (1, 1) ∷ []) (target.Bucket (bucket ((3, 1) ∷ []) (Port 2))) ∷ [] }
+      record { switch = 1; groups = []; rows = row 2 ((3, 0, 3) ∷ (1, 1, 16) ∷ []) (target.Bucket (bucket ((3, 1) ∷ []) (Port 2))) ∷ [] }
       ∷ record {
         switch = 2;
         groups = [];
         rows =
-            row 2 ((3, 1) ∷ (1, 2) ∷ []) (target.Bucket (bucket ((3, 0) ∷ []) Back))
-            ∷ row 0 ((3, 1) ∷ []) (target.Bucket (bucket ((3, 0) ∷ []) (Port 2)))
+            row 2 ((3, 1, 3) ∷ (1, 2, 16) ∷ []) (target.Bucket (bucket ((3, 0) ∷ []) Back))
+            ∷ row 0 ((3, 1, 3) ∷ []) (target.Bucket (bucket ((3, 0) ∷ []) (Port 2)))
             ∷ [];
       }
       ∷ [];
@@ -69,8 +69,8 @@ one_table groups rows = record {
 abbrev pub tied : Tables
 tied =
     one_table [] (
-    row 5 ((1, 1) ∷ []) (target.Bucket (bucket [] (Port 2)))
-    ∷ row 5 ((2, 3) ∷ []) (target.Bucket (bucket [] (Port 2)))
+    row 5 ((1, 1, 16) ∷ []) (target.Bucket (bucket [] (Port 2)))
+    ∷ row 5 ((2, 3, 2) ∷ []) (target.Bucket (bucket [] (Port 2)))
     ∷ row 4 [] (target.Bucket (bucket [] Back))
     ∷ [])
 
@@ -88,7 +88,7 @@ TiesDrop =
 abbrev pub to_port_one : Tables
 to_port_one =
     one_table [] (
-    row 1 ((2, 2) ∷ []) (target.Bucket (bucket [] (Port 9)))
+    row 1 ((2, 2, 2) ∷ []) (target.Bucket (bucket [] (Port 9)))
     ∷ row 0 [] (target.Bucket (bucket [] (Port 1)))
     ∷ [])
 
@@ -109,7 +109,7 @@ grouped =
       number = 7;
       buckets = bucket ((2, 1) ∷ []) (Port 2) ∷ bucket ((3, 4) ∷ []) Back ∷ bucket ((3, 4) ∷ []) Back ∷ [];
     } ∷ [])
-    (row 3 ((2, 0) ∷ []) target.Discard ∷ row 2 [] (target.Group 7) ∷ [])
+    (row 3 ((2, 0, 2) ∷ []) target.Discard ∷ row 2 [] (target.Group 7) ∷ [])
 
 -- Each bucket has a copy of its own, in order, and equal copies stand twice. The row that drops sends nothing.
 abbrev pub GroupsCopy : Type 0
@@ -117,4 +117,26 @@ GroupsCopy =
     (sent_for grouped (packet 1 1 3 0) ≡ packet 1 2 1 0 ∷ packet 1 1 3 4 ∷ packet 1 1 3 4 ∷ [])
     × (sent_for grouped (packet 1 2 3 0) ≡ packet 1 2 3 4 ∷ packet 1 2 3 4 ∷ [])
     × (sent_for grouped (packet 1 1 0 0) ≡ [])
-    × (row_for grouped 1 (packet 1 1 0 0) ≡ Some (row 3 ((2, 0) ∷ []) target.Discard))
+    × (row_for grouped 1 (packet 1 1 0 0) ≡ Some (row 3 ((2, 0, 2) ∷ []) target.Discard))
+
+-- A vlan has three digits. Where it is 4 or 5 a packet goes to port 1, and where it is 6 or 7 to port 2. Two higher rows
+-- match 7 alone, the second by a length above the digits. The lowest row matches each vlan, and of dst 3 alone.
+abbrev pub prefixes : Tables
+prefixes =
+    one_table [] (
+    row 2 ((3, 4, 2) ∷ []) (target.Bucket (bucket [] (Port 1)))
+    ∷ row 2 ((3, 6, 2) ∷ []) (target.Bucket (bucket [] (Port 2)))
+    ∷ row 3 ((3, 7, 3) ∷ []) (target.Bucket (bucket [] Back))
+    ∷ row 3 ((3, 7, 4) ∷ []) (target.Bucket (bucket [] Back))
+    ∷ row 1 ((3, 0, 0) ∷ (2, 3, 2) ∷ []) (target.Bucket (bucket [] Back))
+    ∷ [])
+
+-- A prefix matches the values with its first digits, and no others. The two rows of 7 tie.
+abbrev pub PrefixesMatch : Type 0
+PrefixesMatch =
+    (sent_for prefixes (packet 1 9 3 4) ≡ packet 1 1 3 4 ∷ [])
+    × (sent_for prefixes (packet 1 9 3 5) ≡ packet 1 1 3 5 ∷ [])
+    × (sent_for prefixes (packet 1 9 3 6) ≡ packet 1 2 3 6 ∷ [])
+    × (row_for prefixes 1 (packet 1 9 3 7) ≡ None)
+    × (sent_for prefixes (packet 1 9 3 3) ≡ packet 1 9 3 3 ∷ [])
+    × (sent_for prefixes (packet 1 9 2 3) ≡ [])

@@ -3,7 +3,7 @@ ghost use Rattle.std.specs.Prelude.{◌≡◌, ℕ, suc, List, map};
 ghost use Rattle.std.specs.List.{flat_map};
 ghost use Rattle.nk_table.specs.declared.Tables.{Tables};
 ghost use Rattle.nk_table.specs.Hops.{Copy, waiting, left_after, behind};
-ghost use Rattle.nk_table.specs.Worked.{CrossesOnce, TiesDrop, SendsToAnotherPort, GroupsCopy};
+ghost use Rattle.nk_table.specs.Worked.{CrossesOnce, TiesDrop, SendsToAnotherPort, GroupsCopy, PrefixesMatch};
 
 /// k + 1 crossings are one and then k, as lists in order.
 pub fn the_first_crossing()
@@ -13,10 +13,11 @@ pub fn the_first_crossing()
         ≡ flat_map (λ (c : Copy). map (behind c.records) (left_after t k c.packet)) (waiting t 1 pk) }
 {}
 
-/// What tables do that are worked by hand: a crossing, a tie, exits and a group.
+/// What tables do that are worked by hand: a crossing, a tie, exits, a group and prefixes.
 pub fn worked_tables()
     ensures crossing { CrossesOnce }
     ensures ties { TiesDrop }
     ensures exits { SendsToAnotherPort }
     ensures groups { GroupsCopy }
+    ensures prefixes { PrefixesMatch }
 {}

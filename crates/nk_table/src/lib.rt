@@ -43,8 +43,9 @@ pub enum Target {
 pub struct Row {
     /// The higher one of two rows that match acts.
     pub priority: u16,
-    /// The value that a packet must have at each of these fields.
-    pub matches: List<(Fid, u64)>,
+    /// The field, a value and a length: the first `length` digits of a packet's value there must be the value's. A length
+    /// of all the field's digits is the exact value.
+    pub matches: List<(Fid, u64, u8)>,
     /// What the row does.
     pub target: Target,
 }
@@ -54,8 +55,9 @@ pub struct Row {
 pub struct Plain {
     /// The higher one of two rows that match acts.
     pub priority: u16,
-    /// The value that a packet must have at each of these fields.
-    pub matches: List<(Fid, u64)>,
+    /// The field, a value and a length: the first `length` digits of a packet's value there must be the value's. A length
+    /// of all the field's digits is the exact value.
+    pub matches: List<(Fid, u64, u8)>,
     /// The buckets, none to drop the packet.
     pub buckets: List<Bucket>,
 }

@@ -9,12 +9,11 @@ use std::test::Fail;
 fn row(
     alloc: Global,
     priority: u16,
-    f: Fid,
-    n: u64,
+    at: (Fid, u64, u8),
     target: Target,
 ) -> Result<Row, std::alloc::AllocError> {
     let mut matches = List::new(alloc);
-    matches.push((f, n))?;
+    matches.push(at)?;
     Ok(Row {
         priority,
         matches,
@@ -38,9 +37,9 @@ fn the_highest_row_alone_acts(rt: HostRuntime) -> Result<(), Fail> {
     let mut groups = List::new(alloc);
     groups.push(Group { number: 7, buckets })?;
     let mut rows = List::new(alloc);
-    rows.push(row(alloc, 2, Fid::PORT, 1, Target::Bucket(bucket))?)?;
-    rows.push(row(alloc, 3, dst, 2, Target::Group(7))?)?;
-    rows.push(row(alloc, 3, Fid::PORT, 2, Target::Discard)?)?;
+    rows.push(row(alloc, 2, (Fid::PORT, 1, 16), Target::Bucket(bucket))?)?;
+    rows.push(row(alloc, 3, (dst, 2, 1), Target::Group(7))?)?;
+    rows.push(row(alloc, 3, (Fid::PORT, 2, 16), Target::Discard)?)?;
     let mut tables = List::new(alloc);
     tables.push(Table {
         switch: 1,
@@ -56,6 +55,7 @@ fn the_highest_row_alone_acts(rt: HostRuntime) -> Result<(), Fail> {
     let cases = [
         (1, 0, Some(2)),
         (1, 2, Some(3)),
+        (1, 3, Some(3)),
         (2, 0, Some(3)),
         (2, 2, None),
         (0, 0, None),

@@ -12,3 +12,6 @@ returns-clause-exits c = (refl, refl, refl, refl, refl)
 
 pub returns-clause-groups : goal.returns-clause-groups
 returns-clause-groups c = (refl, refl, refl, refl)
+
+pub returns-clause-prefixes : goal.returns-clause-prefixes
+returns-clause-prefixes c = (refl, refl, refl, refl, refl, refl)

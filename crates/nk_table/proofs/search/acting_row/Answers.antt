@@ -8,9 +8,9 @@ use Rattle.nk_table.proofs.search.acting_row.Goals.{then-agrees+in-Some, then-ag
 
 pub loop-row-preserved : goal.loop-row-preserved
 loop-row-preserved c =
-    let seen = filter (agrees c.args.p.now) (take c.loop-row.row-index c.args.rows.now) in
+    let seen = filter (agrees c.args.fields.now.maxima c.args.p.now) (take c.loop-row.row-index c.args.rows.now) in
     let row = c.row-item.result in
-    let more = λ (e : c.agrees.result ≡ true). one_more (agrees c.args.p.now) c.args.rows.now c.loop-row.row-index c.row-item.result (omega arith) c.row-item.is (sym c.agrees.ensures ∙ e) in
+    let more = λ (e : c.agrees.result ≡ true). one_more (agrees c.args.fields.now.maxima c.args.p.now) c.args.rows.now c.loop-row.row-index c.row-item.result (omega arith) c.row-item.is (sym c.agrees.ensures ∙ e) in
     elim c.if-agrees.branch [
       | then-agrees+in-Some w ↦
           known_as _ _ _ _ _ _ (more w.if-agrees.true) (ap option_copied (w.best-is ∙ w.in-Some.is)) w.tied-is
@@ -32,6 +32,6 @@ loop-row-preserved c =
                 (best_first seen row c.loop-row.tied (subst (λ best. IsBest seen (option_copied best) c.loop-row.tied) v.in_default.is c.loop-row.invariant))
           ]
       | else-agrees w ↦
-          known_as _ _ _ _ _ _ (no_more (agrees c.args.p.now) c.args.rows.now c.loop-row.row-index c.row-item.result (omega arith) c.row-item.is (sym c.agrees.ensures ∙ w.if-agrees.false))
+          known_as _ _ _ _ _ _ (no_more (agrees c.args.fields.now.maxima c.args.p.now) c.args.rows.now c.loop-row.row-index c.row-item.result (omega arith) c.row-item.is (sym c.agrees.ensures ∙ w.if-agrees.false))
           (ap option_copied w.best-is) w.tied-is c.loop-row.invariant
     ]

@@ -7,4 +7,4 @@ use Rattle.nk_table.proofs.search.acting_row.Given as goal
 
 -- the highest of the rows passed that match, and whether it is alone
 abbrev pub invariant-loop-row : goal.invariant-loop-row
-invariant-loop-row l = IsBest (filter (agrees l.p) (take l.row-index l.rows)) (option_copied l.best) l.tied
+invariant-loop-row l = IsBest (filter (agrees l.fields.maxima l.p) (take l.row-index l.rows)) (option_copied l.best) l.tied
