@@ -81,11 +81,10 @@ fn at_value(st: &mut Store, f: Fid, n: u64) -> Result<Id, AllocError>
     span(st, f, n, n, inside, outside)
 }
 
-/// The packet itself where the field's value is in the interval.
+/// The packet itself where the field's value is from lo to hi: nowhere where lo is above hi, and up to the field's largest
+/// value where hi is above it.
 pub fn range(st: &mut Store, f: Fid, lo: u64, hi: u64) -> Result<Id, AllocError>
-    requires field { f < 18 }
-    requires order { lo ≤ hi }
-    requires within { hi ≤ slice_index st.old.maxes f }
+    requires { f < 18 }
     ensures grows { Grows st.old st.new }
     ensures ok { IfOk result (λ d. HasLeaves st.new d
         (λ pk. in_span (slice_index st.old.maxes f) lo hi (slice_index pk f))) }
@@ -97,15 +96,17 @@ pub fn range(st: &mut Store, f: Fid, lo: u64, hi: u64) -> Result<Id, AllocError>
 
 /// The packet itself where the field's value is in the interval, by its leaves.
 fn in_interval(st: &mut Store, f: Fid, lo: u64, hi: u64) -> Result<Id, AllocError>
-    requires field { f < 18 }
-    requires order { lo ≤ hi }
-    requires within { hi ≤ slice_index st.old.maxes f }
+    requires { f < 18 }
     ensures grows { Grows st.old st.new }
     ensures ok { IfOk result (λ d. HasLeaves st.new d
         (λ pk. in_span (slice_index st.old.maxes f) lo hi (slice_index pk f))) }
     ensures later { IfOk result (λ d. f ≤ top st.new d) }
 {
-    let inside = identity(st)?;
+    let end = hi.min(st.max(f));
     let outside = empty(st)?;
-    span(st, f, lo, hi, inside, outside)
+    if lo > end {
+        return Ok(outside);
+    }
+    let inside = identity(st)?;
+    span(st, f, lo, end, inside, outside)
 }

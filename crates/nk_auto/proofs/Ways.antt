@@ -1,7 +1,7 @@
 -- Runs without a record, and first records, of policies that are put together.
 use Rattle.std.proofs.Common.{◌≡◌, ℕ, suc, ◌≤◌, ◌⊎◌, inl, inr, ⊎_elim, true, List, [], refl, subst}
 use Rattle.std.specs.Prelude.{slice_index}
-use Rattle.nk_policy.specs.Policy.{Policy, Policies, test, assign, sum_of, seq_of, not_of, star_of, dup, link, no_part, part, is_predicate, are_predicates}
+use Rattle.nk_policy.specs.Policy.{Policy, Policies, test, range, assign, sum_of, seq_of, not_of, star_of, dup, link, no_part, part, is_predicate, are_predicates}
 use Rattle.nk_policy.specs.Meaning.{Gives, way_of, rounds}
 use Rattle.nk_policy.specs.Progress.{Marked, numbered, RecordsAt, SomeRecordsAt, AllRecordAt}
 use Rattle.nk_policy.specs.After.{has_dup, some_has_dup}
@@ -103,6 +103,7 @@ mutual
   -- a predicate has no dup
   pub predicate_holds_none : (p : Policy) (l : ℕ) → is_predicate p ≡ true → has_dup p l ≡ true → ⊥
   predicate_holds_none (test f n) l h k = cc
+  predicate_holds_none (range f lo hi) l h k = cc
   predicate_holds_none (assign f n) l h k = cc
   predicate_holds_none (sum_of ps) l h k = predicates_hold_none ps l h k
   predicate_holds_none (seq_of ps) l h k = predicates_hold_none ps l h k
@@ -126,6 +127,7 @@ mutual
   pub predicate_records_none : (p : Policy) → is_predicate p ≡ true → (pk : List ℕ) (u : Marked) (x : List ℕ)
       (l : ℕ) → RecordsAt p pk u x l → ⊥
   predicate_records_none (test f n) h pk u x l r = absurd r
+  predicate_records_none (range f lo hi) h pk u x l r = absurd r
   predicate_records_none (assign f n) h pk u x l r = absurd r
   predicate_records_none (sum_of ps) h pk u x l r = predicates_record_none ps h pk u x l r
   predicate_records_none (seq_of ps) h pk u x l r = predicates_never_record ps h pk u x l r

@@ -2,7 +2,7 @@
 use Rattle.std.proofs.Common.{◌≡◌, ◌≢◌, ℕ, zero, suc, ◌+◌, ◌-◌, ◌<◌, ◌≤◌, inl, inr, ⊎_elim, Bool, true, false, List, [], ◌∷◌, length, refl, sym, ap, subst, ◌∙◌, arith, length-set, get_or-set_other, get_or-set_same}
 use Rattle.std.specs.Prelude.{slice_index, slice_set, ◌==◌, ◌||◌, if◌then◌else◌}
 use Rattle.std.proofs.lemmas.Bool.Decides.{leb_tells}
-use Rattle.nk_policy.specs.Policy.{Policy, Policies, test, assign, sum_of, seq_of, not_of, star_of, dup, link, no_part, part, is_predicate, dups_of, dups_of_all}
+use Rattle.nk_policy.specs.Policy.{Policy, Policies, test, range, assign, sum_of, seq_of, not_of, star_of, dup, link, no_part, part, is_predicate, dups_of, dups_of_all}
 use Rattle.nk_policy.specs.After.{id_policy, drop_policy, has_dup, some_has_dup, after, after_some, after_all, after_dup, after_link}
 use Rattle.nk_policy.proofs.Tests.{false_true, or_cases, both_false, same_number, same_from, next_number}
 use Rattle.nk_store.specs.Held.{Held, IsId, Grows}
@@ -31,6 +31,9 @@ none_written st rows base p k none =
 pub test_written : (st : Held) (rows : List ℕ) (base f n k : ℕ) → AreWritten st rows rows base (test f n) k
 test_written st rows base f n k = none_written st rows base (test f n) k (λ fit l has. false_true has)
 
+pub range_written : (st : Held) (rows : List ℕ) (base f lo hi k : ℕ) → AreWritten st rows rows base (range f lo hi) k
+range_written st rows base f lo hi k = none_written st rows base (range f lo hi) k (λ fit l has. false_true has)
+
 pub set_written : (st : Held) (rows : List ℕ) (base f n k : ℕ) → AreWritten st rows rows base (assign f n) k
 set_written st rows base f n k = none_written st rows base (assign f n) k (λ fit l has. false_true has)
 
@@ -45,6 +48,7 @@ predicate_written st rows base p k h = none_written st rows base p k (λ fit l h
 mutual
   no_dup : (p : Policy) (l : ℕ) → dups_of p ≡ 0 → has_dup p l ≡ false
   no_dup (test f n) l none = refl
+  no_dup (range f lo hi) l none = refl
   no_dup (assign f n) l none = refl
   no_dup (sum_of ps) l none = no_dup_among ps l none
   no_dup (seq_of ps) l none = no_dup_among ps l none

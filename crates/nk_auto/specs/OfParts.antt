@@ -46,7 +46,7 @@ pub record AreParts (parts : Parts) (p : Policy) : Type 0 where
   pub after : All (λ e. IsPart e.1 (after p e.0)) parts.after
   pub within : All (λ e. IsWithin p e.1) parts.after
 
--- the dups of the policy are numbered from first on, and its tests and assignments are of the store's fields, to values
+-- the dups of the policy are numbered from first on, and its tests, ranges and assignments are of the store's fields, to values
 -- in range
 pub record IsDrawable (st : Held) (p : Policy) (first : ℕ) : Type 0 where
   pub from : 1 ≤ first

@@ -1,11 +1,13 @@
 //! What a policy does up to its first record, continued by a diagram.
 ghost use Rattle.std.specs.Prelude.{◌≡◌, ℕ, ◌+◌, ◌∷◌, [], true, IfOk};
-ghost use Rattle.nk_policy.specs.Policy.{test, assign, sum_of, seq_of, not_of, star_of, link, dup, part, no_part, is_predicate as is_predicate_tree};
+ghost use Rattle.nk_policy.specs.Policy.{test, range, assign, sum_of, seq_of, not_of, star_of, link, dup, part, no_part, is_predicate as is_predicate_tree};
 ghost use Rattle.nk_policy.specs.Tree.{tree_of, trees_of};
 ghost use Rattle.nk_store.specs.Held.{IsId, Grows, HasLeaves};
 ghost use Rattle.nk_auto.specs.Continued.{IsContinued};
 
-use crate::silence::{silent_not, silent_predicate, silent_set, silent_star, silent_test};
+use crate::silence::{
+    silent_not, silent_predicate, silent_range, silent_set, silent_star, silent_test,
+};
 use nk_algebra::{aim, both, empty, identity, seq, union, union_all};
 use nk_field::{Fid, List};
 use nk_policy::{Pol, is_predicate};
@@ -27,6 +29,7 @@ pub fn continued(st: &mut Store, p: &Pol, next: Id) -> Result<Id, AllocError>
     }
     match p {
         Pol::Test(f, n) => after_test(st, *f, *n, next),
+        Pol::Range(f, lo, hi) => after_range(st, *f, (*lo, *hi), next),
         Pol::Set(f, n) => after_set(st, *f, *n, next),
         Pol::Sum(ps) => continued_any(st, ps.as_slice(), next),
         Pol::Seq(ps) => continued_all(st, ps.as_slice(), next),
@@ -44,6 +47,17 @@ pub fn after_test(st: &mut Store, f: Fid, n: u64, next: Id) -> Result<Id, AllocE
     ensures ok { IfOk result (λ d. IsContinued st.new d (test f n) next) }
 {
     let d = silent_test(st, f, n)?;
+    let r = both(st, d, next)?;
+    Ok(r)
+}
+
+/// A range, by its ends, continued by a diagram.
+pub fn after_range(st: &mut Store, f: Fid, ends: (u64, u64), next: Id) -> Result<Id, AllocError>
+    requires { IsId st.old next }
+    ensures grows { Grows st.old st.new }
+    ensures ok { IfOk result (λ d. IsContinued st.new d (range f ends.0 ends.1) next) }
+{
+    let d = silent_range(st, f, ends.0, ends.1)?;
     let r = both(st, d, next)?;
     Ok(r)
 }

@@ -1,10 +1,11 @@
-//! The diagrams of a test and of an assignment, of a value past the field's highest too.
+//! The diagrams of a test, of a range and of an assignment, of a value past the field's highest too.
 ghost use Rattle.std.specs.Prelude.{◌∷◌, [], cond, leb, eqb, min, slice_index, IfOk};
 ghost use Rattle.nk_store.specs.Held.{Grows, HasLeaves};
 ghost use Rattle.nk_algebra.specs.Predicates.{IsPredicate};
+ghost use Rattle.nk_algebra.specs.Seqs.{in_span};
 ghost use Rattle.nk_auto.specs.Values.{one_out};
 
-use nk_algebra::{assign, empty, test};
+use nk_algebra::{assign, empty, range, test};
 use nk_field::Fid;
 use nk_store::{Id, Store};
 use std::alloc::AllocError;
@@ -23,6 +24,17 @@ pub(crate) fn test_where(st: &mut Store, f: Fid, n: u64) -> Result<Id, AllocErro
     } else {
         nothing(st)
     }
+}
+
+/// The packet itself where the field's value is from the first to the second.
+pub(crate) fn range_where(st: &mut Store, f: Fid, lo: u64, hi: u64) -> Result<Id, AllocError>
+    ensures grows { Grows st.old st.new }
+    ensures ok { IfOk result (λ d. HasLeaves st.new d
+        (λ pk. in_span (slice_index st.old.maxes f) lo hi (slice_index pk f))) }
+    ensures predicate { IfOk result (λ d. IsPredicate st.new d) }
+{
+    let _place = f.place();
+    range(st, f, lo, hi)
 }
 
 /// The packet with the field set; nothing for a value past the field's highest.

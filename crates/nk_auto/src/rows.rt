@@ -6,7 +6,7 @@ ghost use Rattle.nk_store.specs.Held.{IsId, Grows};
 ghost use Rattle.nk_auto.specs.Continued.{IsContinued, AreWritten, IsPut};
 
 use crate::going_on::{
-    after_not, after_predicate, after_set, after_test, before_dup, continued_star,
+    after_not, after_predicate, after_range, after_set, after_test, before_dup, continued_star,
     is_predicate_sum, link_rest, link_start,
 };
 use nk_algebra::union_all;
@@ -20,7 +20,7 @@ use std::alloc::AllocError;
 /// after l, continued by the same diagram. Dups behind which the same is left have one diagram. The only error is that
 /// memory ran out.
 #[cycle(with_rows)]
-#[tactic(auto, using(nk_policy::proofs::Trees::tree_of_sum, nk_policy::proofs::Trees::tree_of_seq, crate::proofs::Writing::test_written, crate::proofs::Writing::set_written, crate::proofs::Writing::not_written))]
+#[tactic(auto, using(nk_policy::proofs::Trees::tree_of_sum, nk_policy::proofs::Trees::tree_of_seq, crate::proofs::Writing::test_written, crate::proofs::Writing::range_written, crate::proofs::Writing::set_written, crate::proofs::Writing::not_written))]
 pub fn continued_with_rows(
     st: &mut Store,
     p: &Pol,
@@ -38,6 +38,7 @@ pub fn continued_with_rows(
     }
     match p {
         Pol::Test(f, n) => after_test(st, *f, *n, next),
+        Pol::Range(f, lo, hi) => after_range(st, *f, (*lo, *hi), next),
         Pol::Set(f, n) => after_set(st, *f, *n, next),
         Pol::Sum(ps) => any_with_rows(st, ps.as_slice(), next, base, rows),
         Pol::Seq(ps) => all_with_rows(st, ps.as_slice(), next, base, rows),
@@ -70,7 +71,7 @@ fn star_with_rows(
 /// The rows of a policy's dups alone, as `continued_with_rows` writes them. The first part of a sequence isn't drawn where it
 /// has no dup.
 #[cycle(with_rows)]
-#[tactic(auto, using(nk_policy::proofs::Trees::tree_of_sum, nk_policy::proofs::Trees::tree_of_seq, crate::proofs::Writing::test_written, crate::proofs::Writing::set_written, crate::proofs::Writing::not_written))]
+#[tactic(auto, using(nk_policy::proofs::Trees::tree_of_sum, nk_policy::proofs::Trees::tree_of_seq, crate::proofs::Writing::test_written, crate::proofs::Writing::range_written, crate::proofs::Writing::set_written, crate::proofs::Writing::not_written))]
 fn write_rows(
     st: &mut Store,
     p: &Pol,
@@ -87,6 +88,7 @@ fn write_rows(
     }
     match p {
         Pol::Test(_, _) => Ok(()),
+        Pol::Range(_, _, _) => Ok(()),
         Pol::Set(_, _) => Ok(()),
         Pol::Sum(ps) => write_any(st, ps.as_slice(), next, base, rows),
         Pol::Seq(ps) => write_all(st, ps.as_slice(), next, base, rows),

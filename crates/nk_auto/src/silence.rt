@@ -1,12 +1,12 @@
 //! What a policy does without a record.
 ghost use Rattle.std.specs.Prelude.{◌≡◌, ℕ, ◌∷◌, [], true, IfOk};
-ghost use Rattle.nk_policy.specs.Policy.{test, assign, sum_of, seq_of, not_of, star_of, dup, link, is_predicate};
+ghost use Rattle.nk_policy.specs.Policy.{test, range, assign, sum_of, seq_of, not_of, star_of, dup, link, is_predicate};
 ghost use Rattle.nk_policy.specs.Tree.{tree_of, trees_of};
 ghost use Rattle.nk_store.specs.Held.{Grows};
 ghost use Rattle.nk_algebra.specs.Predicates.{IsPredicate};
 ghost use Rattle.nk_auto.specs.Continued.{IsSilent};
 
-use crate::one_field::{set_where, test_where};
+use crate::one_field::{range_where, set_where, test_where};
 use crate::values::{tests_of_sum, tests_together};
 use nk_algebra::{empty, identity, negate, seq, union_all};
 use nk_field::{Fid, List};
@@ -24,6 +24,7 @@ pub fn silent(st: &mut Store, p: &Pol) -> Result<Id, AllocError>
 {
     match p {
         Pol::Test(f, n) => silent_test(st, *f, *n),
+        Pol::Range(f, lo, hi) => silent_range(st, *f, *lo, *hi),
         Pol::Set(f, n) => silent_set(st, *f, *n),
         Pol::Sum(ps) => silent_any(st, ps.as_slice()),
         Pol::Seq(ps) => silent_all(st, ps.as_slice()),
@@ -90,6 +91,15 @@ pub fn silent_test(st: &mut Store, f: Fid, n: u64) -> Result<Id, AllocError>
     ensures predicate { IfOk result (λ d. IsPredicate st.new d) }
 {
     test_where(st, f, n)
+}
+
+/// The diagram of a range: a predicate.
+pub fn silent_range(st: &mut Store, f: Fid, lo: u64, hi: u64) -> Result<Id, AllocError>
+    ensures grows { Grows st.old st.new }
+    ensures ok { IfOk result (λ d. IsSilent st.new d (range f lo hi)) }
+    ensures predicate { IfOk result (λ d. IsPredicate st.new d) }
+{
+    range_where(st, f, lo, hi)
 }
 
 /// The diagram of an assignment.

@@ -1,17 +1,17 @@
 -- The predicate that is printed for a packet set is one whose text is read back.
 use Rattle.std.proofs.Common.{◌≡◌, ℕ, zero, suc, ◌+◌, ◌-◌, ◌*◌, ◌<◌, ◌≤◌, Bool, true, false, cond, inl, inr, List, [], ◌∷◌, ◌++◌, length, refl, arith}
-use Rattle.std.specs.Prelude.{map, nat_lt, slice_index}
+use Rattle.std.specs.Prelude.{◌==◌, nat_lt, slice_index}
 use Rattle.std.specs.List.{flat_map}
 use Rattle.std.proofs.lemmas.List.{get_or_past}
 use Rattle.std.proofs.lemmas.Bool.Decides.{leb_tells}
 use Rattle.nk_field.specs.Packet.{FieldTable, IsFieldTable, IsValue}
-use Rattle.nk_policy.specs.Policy.{Policy, test, seq_of, not_of, no_part, part, depth_of, depths_of, is_predicate, are_predicates}
+use Rattle.nk_policy.specs.Policy.{Policy, test, range, seq_of, not_of, no_part, part, depth_of, depths_of, is_predicate, are_predicates}
 use Rattle.nk_policy.specs.Ranges.{IsOver, AllUseOnly}
 use Rattle.nk_store.specs.declared.node.Out.{Out}
 use Rattle.nk_store.specs.Diagram.{Branches, leaf, case, no_branch, branch, IsReduced, AreReduced}
-use Rattle.nk_store.specs.Intervals.{same_tree, with_most, values_with, values_outside, values_in, counted}
+use Rattle.nk_store.specs.Intervals.{same_tree, with_most, values_with}
 use Rattle.nk_names.specs.ReadBack.{IsReadablePredicate, HasNoLonePart, HaveNoLonePart}
-use Rattle.nk_sets.specs.Predicate.{SetTree, SetInterval, same_outs, is_empty_set, is_full_set, parts_of, sum_of_terms, guarded, terms_of, else_condition, else_terms, predicate_at, predicate_of, intervals_of}
+use Rattle.nk_sets.specs.Predicate.{SetTree, SetInterval, same_outs, is_empty_set, is_full_set, parts_of, sum_of_terms, guarded, part_of, parts_outside, terms_of, else_condition, else_terms, predicate_at, predicate_of, intervals_of}
 
 -- a predicate over the fields, at most so deep, with no sum or sequence of one part
 record IsGood (fields : FieldTable) (most : ℕ) (p : Policy) : Type 0 where
@@ -25,9 +25,9 @@ abbrev AreGood : FieldTable → ℕ → List Policy → Type 0
 AreGood fields most [] = Unit {0}
 AreGood fields most (p ∷ ps) = IsGood fields most p × AreGood fields most ps
 
--- an interval ends in range, and its child's predicate is one
+-- an interval has values, they are in range, and its child's predicate is one
 abbrev IsGoodInterval : FieldTable → ℕ → ℕ → SetInterval → Type 0
-IsGoodInterval fields f most i = (i.last ≤ slice_index fields.maxima f) × IsGood fields most i.made
+IsGoodInterval fields f most i = (i.first ≤ i.last) × (i.last ≤ slice_index fields.maxima f) × IsGood fields most i.made
 
 -- each interval of a list is
 abbrev AreGoodIntervals : FieldTable → ℕ → ℕ → List SetInterval → Type 0
@@ -111,50 +111,28 @@ append_good :
 append_good fields most [] qs g h = h
 append_good fields most (p ∷ ps) qs g h = (g.0, append_good fields most ps qs g.1 h)
 
--- each value of a list is at most so large
-abbrev AreWithin : ℕ → List ℕ → Type 0
-AreWithin top [] = Unit {0}
-AreWithin top (v ∷ vs) = (v ≤ top) × AreWithin top vs
-
-append_within : (top : ℕ) (us vs : List ℕ) → AreWithin top us → AreWithin top vs → AreWithin top (us ++ vs)
-append_within top [] vs h k = k
-append_within top (u ∷ us) vs h k = (h.0, append_within top us vs h.1 k)
-
-counted_within : (top from n : ℕ) → from + n ≤ top + 1 → AreWithin top (counted from n)
-counted_within top from zero h = tt
-counted_within top from (suc n) h = (omega (arith, h), counted_within top (from + 1) n (omega (arith, h)))
-
-none_counted : (top from n : ℕ) → n ≡ 0 → AreWithin top (counted from n)
-none_counted top from zero h = tt
-none_counted top from (suc n) h = absurd (omega (arith, h))
-
--- the values of an interval
-interval_within : (top : ℕ) (i : SetInterval) → i.last ≤ top → AreWithin top (values_in i)
-interval_within top i le = elim (leb_tells i.first i.last) [
-  | inl rises ↦ let h = rises.1 in counted_within top i.first (i.last + 1 - i.first) (omega (arith, h, le))
-  | inr falls ↦ let h = falls.1 in none_counted top i.first (i.last + 1 - i.first) (omega (arith, h))
-]
+-- the values of an interval, as a test or a range
+part_good :
+    (fields : FieldTable) (most f : ℕ) (i : SetInterval) → f < length fields.maxima → 1 ≤ most
+    → i.first ≤ i.last → i.last ≤ slice_index fields.maxima f → IsGood fields most (part_of f i)
+part_good fields most f i lt le rises within = by (i.first == i.last) refl
+  where
+    by : (b : Bool) → (i.first == i.last) ≡ b → IsGood fields most (cond b (test f i.first) (range f i.first i.last))
+    by true e = test_good fields most f i.first le (lt, omega (arith, rises, within))
+    by false e = record { predicate = refl; over = ((lt, omega (arith, rises, within)), (lt, within)); shallow = le; no_lone_part = tt }
 
 -- the values that are not of the else-child
-outside_within :
-    (fields : FieldTable) (f most : ℕ) (other : SetInterval) (is : List SetInterval) → AreGoodIntervals fields f most is
-    → AreWithin (slice_index fields.maxima f) (values_outside same_outs other is)
-outside_within fields f most other [] g = tt
-outside_within fields f most other (i ∷ is) g =
-    append_within (slice_index fields.maxima f) (cond (same_tree other.child same_outs i.child) [] (values_in i))
-    (values_outside same_outs other is) (by (same_tree other.child same_outs i.child))
-    (outside_within fields f most other is g.1)
+outside_good :
+    (fields : FieldTable) (f most : ℕ) (other : SetTree) (is : List SetInterval) → f < length fields.maxima
+    → AreGoodIntervals fields f most is → AreGood fields 1 (parts_outside f other is)
+outside_good fields f most other [] lt g = tt
+outside_good fields f most other (i ∷ is) lt g =
+    append_good fields 1 (cond (same_tree other same_outs i.child) [] (part_of f i ∷ [])) (parts_outside f other is)
+    (by (same_tree other same_outs i.child)) (outside_good fields f most other is lt g.1)
   where
-    by : (b : Bool) → AreWithin (slice_index fields.maxima f) (cond b [] (values_in i))
+    by : (b : Bool) → AreGood fields 1 (cond b [] (part_of f i ∷ []))
     by true = tt
-    by false = interval_within (slice_index fields.maxima f) i g.0.0
-
--- the policies of several values
-values_good :
-    (fields : FieldTable) (most top : ℕ) (g : ℕ → Policy) (vs : List ℕ) → AreWithin top vs
-    → ((v : ℕ) → v ≤ top → IsGood fields most (g v)) → AreGood fields most (map g vs)
-values_good fields most top g [] h k = tt
-values_good fields most top g (v ∷ vs) h k = (k v h.0, values_good fields most top g vs h.1 k)
+    by false = (part_good fields 1 f i lt (omega arith) g.0.0 g.0.1, tt)
 
 -- the terms of an interval
 terms_good :
@@ -162,15 +140,10 @@ terms_good :
     → IsGoodInterval fields f most i → AreGood fields (1 + most) (terms_of f other i)
 terms_good fields f most other i lt le g = by (same_tree other same_outs i.child) (is_empty_set i.child)
   where
-    term : (v : ℕ) → v ≤ slice_index fields.maxima f → IsGood fields (1 + most) (guarded (test f v) i.child i.made)
-    term v h = guarded_good fields most (test f v) i.made i.child (test_good fields most f v le (lt, h)) g.1
-
-    by : (b n : Bool) → AreGood fields (1 + most) (cond b [] (cond n [] (map (λ v. guarded (test f v) i.child i.made) (values_in i))))
+    by : (b n : Bool) → AreGood fields (1 + most) (cond b [] (cond n [] (guarded (part_of f i) i.child i.made ∷ [])))
     by true n = tt
     by false true = tt
-    by false false =
-        values_good fields (1 + most) (slice_index fields.maxima f) (λ v. guarded (test f v) i.child i.made) (values_in i)
-        (interval_within (slice_index fields.maxima f) i g.0) term
+    by false false = (guarded_good fields most (part_of f i) i.made i.child (part_good fields most f i lt le g.0 g.1) g.2, tt)
 
 -- those of all intervals
 all_terms_good :
@@ -204,22 +177,17 @@ else_good :
     → AreGood fields (1 + most) (else_terms f other is)
 else_good fields f most other is lt le o g = by (is_empty_set other.child)
   where
-    tests : AreGood fields 1 (map (λ v. test f v) (values_outside same_outs other is))
-    tests =
-        values_good fields 1 (slice_index fields.maxima f) (λ v. test f v) (values_outside same_outs other is)
-        (outside_within fields f most other is g) (λ v h. test_good fields 1 f v (omega arith) (lt, h))
-
     condition : IsGood fields 3 (else_condition f other is)
     condition =
-        let sum = sum_of_terms (map (λ v. test f v) (values_outside same_outs other is)) in
+        let sum = sum_of_terms (parts_outside f other.child is) in
         deeper fields (1 + (1 + 1)) 3 (not_of sum) (omega arith)
-        (not_good fields (1 + 1) sum (sum_good fields 1 (map (λ v. test f v) (values_outside same_outs other is)) tests))
+        (not_good fields (1 + 1) sum (sum_good fields 1 (parts_outside f other.child is) (outside_good fields f most other.child is lt g)))
 
     by : (b : Bool) → AreGood fields (1 + most) (cond b [] (guarded (else_condition f other is) other.child other.made ∷ []))
     by true = tt
     by false = (
       guarded_good fields most (else_condition f other is) other.made other.child
-          (deeper fields 3 most (else_condition f other is) le condition) o.1,
+          (deeper fields 3 most (else_condition f other is) le condition) o.2,
       tt,
     )
 
@@ -256,6 +224,16 @@ is_field maxima f end next d e bs r = elim (leb_tells (length maxima) f) [
   | inr within ↦ within.1
 ]
 
+-- the value is at most the first branch's end
+abbrev BeginsIn : ℕ → Branches (List Out) → Type 0
+BeginsIn from no_branch = Unit {0}
+BeginsIn from (branch end d bs) = from ≤ end
+
+-- the next branch ends past the value behind one's end
+begins_next : (maxima : List ℕ) (f end : ℕ) (d : SetTree) (bs : Branches (List Out)) → AreReduced (branch end d bs) maxima f → BeginsIn (end + 1) bs
+begins_next maxima f end d no_branch r = tt
+begins_next maxima f end d (branch next e bs) r = let lt = r.0 in omega (arith, lt)
+
 mutual
   -- the predicate of a tree that tests fields from one on
   tree_good :
@@ -272,17 +250,21 @@ mutual
       let all = intervals_of (branch end d (branch next e bs)) 0 in
       deeper fields (2 + (37 - 2 * f)) (39 - 2 * low) (predicate_at f all) (omega (arith, from, bound))
       (choice_good fields f (37 - 2 * f) all lt (omega (arith, bound))
-      (trees_good fields f (branch end d (branch next e bs)) 0 few bound r.2))
+      (trees_good fields f (branch end d (branch next e bs)) 0 few bound (omega arith) r.2))
 
-  -- those of branches
+  -- those of branches, where the first one's values begin at one that it has
   trees_good :
       (fields : FieldTable) (f : ℕ) (bs : Branches (List Out)) (from : ℕ) → length fields.maxima ≤ 18 → f < 18
-      → AreReduced bs fields.maxima f → AreGoodIntervals fields f (37 - 2 * f) (intervals_of bs from)
-  trees_good fields f no_branch from few lt r = tt
-  trees_good fields f (branch end d bs) from few lt r =
+      → BeginsIn from bs → AreReduced bs fields.maxima f → AreGoodIntervals fields f (37 - 2 * f) (intervals_of bs from)
+  trees_good fields f no_branch from few lt rises r = tt
+  trees_good fields f (branch end d bs) from few lt rises r =
       let child = tree_good fields (f + 1) d few (omega (arith, lt)) r.1 in (
-        (ends_within fields.maxima f end d bs r, deeper fields (39 - 2 * (f + 1)) (37 - 2 * f) (predicate_of d) (omega (arith, lt)) child),
-        trees_good fields f bs (end + 1) few lt r.3,
+        (
+          rises,
+          ends_within fields.maxima f end d bs r,
+          deeper fields (39 - 2 * (f + 1)) (37 - 2 * f) (predicate_of d) (omega (arith, lt)) child,
+        ),
+        trees_good fields f bs (end + 1) few lt (begins_next fields.maxima f end d bs r) r.3,
       )
 
 pub printed_is_readable : (fields : FieldTable) → IsFieldTable fields → (d : SetTree) → IsReduced d fields.maxima 0

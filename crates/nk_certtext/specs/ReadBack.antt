@@ -7,7 +7,7 @@ use Rattle.nk_lex.specs.Lex.{largest, tokens_of}
 use Rattle.nk_lex.specs.Joined.{joined}
 use Rattle.nk_grammar.specs.File.{Declaration}
 use Rattle.nk_grammar.specs.FileMachine.{file_of}
-use Rattle.nk_policy.specs.Policy.{test, seq_of, no_part}
+use Rattle.nk_policy.specs.Policy.{Policy, test, range, seq_of, not_of, no_part, part}
 use Rattle.nk_grammar.specs.Certified.{Row, Certified, certified}
 use Rattle.nk_grammar.specs.CertifiedMachine.{certified_of}
 use Rattle.nk_names.specs.ProgramOf.{Said, program_of}
@@ -51,11 +51,15 @@ ReadsPrinted = (text : List ℕ) (ts : List Token) (ds : List Declaration) (s : 
 abbrev pub HaveStartRows : Type 0
 HaveStartRows = (ts : List Token) (c : Certified) → certified_of ts ≡ Ok c → HasStartRow c.rows
 
+-- sw=1;~pt in 2..3
+abbrev pub small_predicate : Policy
+small_predicate = seq_of (part (test 0 1) (part (not_of (range 1 2 3)) no_part))
+
 -- a start row and a later one, over the switch and the port
 abbrev pub small : CertificateValue
-small = record { start = seq_of no_part; rows = record { positions = 1 ∷ 3 ∷ []; predicate = test 0 1 } ∷ [] }
+small = record { start = seq_of no_part; rows = record { positions = 1 ∷ 3 ∷ []; predicate = small_predicate } ∷ [] }
 
 -- it is a certificate of this kind, and this is its text
 pub record IsMetBySmall : Type 0 where
   pub printable : IsPrintable built_in small
-  pub text : cert_bytes built_in small ≡ codes "certificate\nrow start : id\nrow 1 3 : sw=1\n"
+  pub text : cert_bytes built_in small ≡ codes "certificate\nrow start : id\nrow 1 3 : sw=1;~pt in 2..3\n"

@@ -5,7 +5,7 @@ use Rattle.std.proofs.lemmas.List.{drop_all, take_more}
 use Rattle.std.proofs.lemmas.List.Elements.{All-nil, All-cons, All-push, All-weaker}
 use Rattle.nk_field.specs.declared.packet.Packet.{Packet}
 use Rattle.nk_policy.specs.declared.policy.Pol.{Pol}
-use Rattle.nk_policy.specs.Policy.{Policy, Policies, test, assign, sum_of, seq_of, not_of, star_of, dup, link, no_part, part, is_predicate, are_predicates}
+use Rattle.nk_policy.specs.Policy.{Policy, Policies, test, range, assign, sum_of, seq_of, not_of, star_of, dup, link, no_part, part, is_predicate, are_predicates}
 use Rattle.nk_policy.specs.Tree.{tree_of, trees_of}
 use Rattle.nk_policy.specs.Meaning.{Gives}
 use Rattle.nk_policy.specs.Progress.{RecordsAt}
@@ -26,6 +26,7 @@ use Rattle.nk_deriv.proofs.Rows.{rows_push}
 mutual
   pub predicate_dup_free : (p : Policy) → is_predicate p ≡ true → IsDupFree p
   predicate_dup_free (test f n) h = tt
+  predicate_dup_free (range f lo hi) h = tt
   predicate_dup_free (assign f n) h = tt
   predicate_dup_free (sum_of ps) h = predicates_dup_free ps h
   predicate_dup_free (seq_of ps) h = predicates_dup_free ps h
@@ -348,6 +349,10 @@ seq_tree p ps xs e f = ap (λ l. seq_of (trees_of l)) f ∙ sym (ap tree_of e �
 -- told of another tree that is the same
 pub collected_as : (old new : List (Pol × ℕ)) (free p q : Policy) → p ≡ q → IsCollected old new free p → IsCollected old new free q
 collected_as old new free p q e c = subst (IsCollected old new free) e c
+
+-- a range
+pub collected_range : (rows : List (Pol × ℕ)) (f lo hi : ℕ) → IsCollected rows rows (range f lo hi) (range f lo hi)
+collected_range rows f lo hi = collected_same rows rows (range f lo hi) (range f lo hi) refl refl tt (λ pk y l r. r)
 
 -- a test
 pub collected_test : (rows : List (Pol × ℕ)) (f n : ℕ) → IsCollected rows rows (test f n) (test f n)

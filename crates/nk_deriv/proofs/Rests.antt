@@ -6,7 +6,7 @@ use Rattle.std.proofs.lemmas.List.Elements.{All-nil, All-cons, All-append}
 use Rattle.nk_field.specs.declared.packet.Packet.{Packet}
 use Rattle.nk_field.proofs.Lists.{map_joined}
 use Rattle.nk_policy.specs.declared.policy.Pol.{Pol}
-use Rattle.nk_policy.specs.Policy.{Policy, Policies, test, assign, sum_of, seq_of, not_of, star_of, dup, link, no_part, part, is_predicate, are_predicates, dups_of, dups_of_all, numbers_of, numbers_of_all}
+use Rattle.nk_policy.specs.Policy.{Policy, Policies, test, range, assign, sum_of, seq_of, not_of, star_of, dup, link, no_part, part, is_predicate, are_predicates, dups_of, dups_of_all, numbers_of, numbers_of_all}
 use Rattle.nk_policy.specs.Tree.{tree_of}
 use Rattle.nk_policy.specs.Meaning.{Gives}
 use Rattle.nk_policy.specs.Progress.{RecordsAt}
@@ -236,6 +236,7 @@ rests_star old new star next behind q s c a =
 mutual
   pub predicate_numbers : (p : Policy) → is_predicate p ≡ true → numbers_of p ≡ []
   predicate_numbers (test f n) h = refl
+  predicate_numbers (range f lo hi) h = refl
   predicate_numbers (assign f n) h = refl
   predicate_numbers (sum_of ps) h = predicates_numbers ps h
   predicate_numbers (seq_of ps) h = predicates_numbers ps h
@@ -261,6 +262,7 @@ rests_silent old new rest labels next e f =
 mutual
   pub no_dups : (p : Policy) → dups_of p ≡ 0 → numbers_of p ≡ []
   no_dups (test f n) h = refl
+  no_dups (range f lo hi) h = refl
   no_dups (assign f n) h = refl
   no_dups (sum_of ps) h = no_dups_in ps h
   no_dups (seq_of ps) h = no_dups_in ps h

@@ -2,7 +2,7 @@
 use Rattle.std.proofs.Common.{◌≡◌, ℕ, Bool, true, ◌⊎◌, inl, inr, ⊎_elim, ◌↔◌, List, [], ◌∷◌, ◌++◌, ◌+◌, ◌<◌, length, get_or, take, append_assoc, arith, refl, sym, ap, subst, ◌∙◌}
 use Rattle.nk_field.specs.declared.packet.Packet.{Packet}
 use Rattle.nk_policy.specs.declared.policy.Pol.{Pol}
-use Rattle.nk_policy.specs.Policy.{Policy, Policies, test, assign, sum_of, seq_of, not_of, star_of, dup, link, no_part, part}
+use Rattle.nk_policy.specs.Policy.{Policy, Policies, test, range, assign, sum_of, seq_of, not_of, star_of, dup, link, no_part, part}
 use Rattle.nk_policy.specs.Tree.{tree_of, trees_of}
 use Rattle.nk_policy.specs.Meaning.{Gives}
 use Rattle.nk_policy.specs.After.{id_policy, drop_policy}
@@ -50,6 +50,7 @@ one_ends p pk x = (
 -- the steps of a policy in turn
 pub steps_end : (p : Policy) (pk x : Packet) → Gives (seq_of (steps_of p)) pk [] x ↔ Gives p pk [] x
 steps_end (test f n) pk x = one_ends (test f n) pk x
+steps_end (range f lo hi) pk x = one_ends (range f lo hi) pk x
 steps_end (assign f n) pk x = one_ends (assign f n) pk x
 steps_end (sum_of ps) pk x = one_ends (sum_of ps) pk x
 steps_end (seq_of ps) pk x = (λ g. g, λ g. g)
@@ -61,6 +62,7 @@ steps_end (link a m b n l) pk x = one_ends (link a m b n l) pk x
 -- what is the empty sum
 pub drop_is : (p : Policy) → is_drop p ≡ true → p ≡ drop_policy
 drop_is (test f n) h = absurd (false_true h)
+drop_is (range f lo hi) h = absurd (false_true h)
 drop_is (assign f n) h = absurd (false_true h)
 drop_is (sum_of no_part) h = refl
 drop_is (sum_of (part p ps)) h = absurd (false_true h)
@@ -100,6 +102,7 @@ made_one s p a = record { dup_free = (a.dup_free, tt); over = λ fields h. (a.ov
 -- the steps of a policy
 pub made_steps : (s p : Policy) → IsMadeOf s p → IsMadeOf s (seq_of (steps_of p))
 made_steps s (test f n) a = made_one s (test f n) a
+made_steps s (range f lo hi) a = made_one s (range f lo hi) a
 made_steps s (assign f n) a = made_one s (assign f n) a
 made_steps s (sum_of ps) a = made_one s (sum_of ps) a
 made_steps s (seq_of ps) a = a

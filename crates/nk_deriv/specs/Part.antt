@@ -4,7 +4,7 @@ use Rattle.std.specs.Prelude.{◌≡◌, ℕ, ◌⊎◌, ◌↔◌, true, List, 
 use Rattle.nk_field.specs.declared.packet.Packet.{Packet}
 use Rattle.nk_field.specs.Packet.{FieldTable}
 use Rattle.nk_policy.specs.declared.policy.Pol.{Pol}
-use Rattle.nk_policy.specs.Policy.{Policy, Policies, test, assign, sum_of, seq_of, not_of, star_of, dup, link, no_part, part, is_predicate}
+use Rattle.nk_policy.specs.Policy.{Policy, Policies, test, range, assign, sum_of, seq_of, not_of, star_of, dup, link, no_part, part, is_predicate}
 pub use Rattle.nk_policy.specs.Complements.{NegatesPredicates, AllNegatePredicates}
 use Rattle.nk_policy.specs.Tree.{tree_of}
 use Rattle.nk_policy.specs.Meaning.{Gives}
@@ -17,6 +17,7 @@ use Rattle.nk_deriv.specs.declared.values.Part.{Part}
 abbrev mutual
   pub IsDupFree : Policy → Type 0
   IsDupFree (test f n) = Unit {0}
+  IsDupFree (range f lo hi) = Unit {0}
   IsDupFree (assign f n) = Unit {0}
   IsDupFree (sum_of ps) = AllDupFree ps
   IsDupFree (seq_of ps) = AllDupFree ps

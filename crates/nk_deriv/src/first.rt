@@ -30,6 +30,7 @@ fn collected(alloc: Global, p: &Pol, rows: &mut List<(Pol, u32)>) -> Result<Pol,
 {
     match p {
         Pol::Test(f, n) => Ok(Pol::Test(*f, *n)),
+        Pol::Range(f, lo, hi) => Ok(Pol::Range(*f, *lo, *hi)),
         Pol::Set(f, n) => Ok(Pol::Set(*f, *n)),
         Pol::Not(_) => {
             let same = p.copy(alloc)?;

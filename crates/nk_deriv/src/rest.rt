@@ -34,6 +34,7 @@ pub fn rests(
 {
     match p {
         Pol::Test(_, _) => Ok(()),
+        Pol::Range(_, _, _) => Ok(()),
         Pol::Set(_, _) => Ok(()),
         Pol::Not(_) => Ok(()),
         Pol::Sum(ps) => {

@@ -35,7 +35,7 @@ pub fn is_drop(p: &Pol) -> bool
     match p {
         Pol::Sum(ps) => ps.as_slice().is_empty(),
         Pol::Test(_, _) | Pol::Set(_, _) | Pol::Dup(_) | Pol::Link(_, _, _, _, _) => false,
-        Pol::Seq(_) => false,
+        Pol::Seq(_) | Pol::Range(_, _, _) => false,
         Pol::Not(_) | Pol::Star(_) => false,
     }
 }

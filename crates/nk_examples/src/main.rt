@@ -52,7 +52,7 @@ const RUNS: [(&[&str], &str, &str); 23] = [
         "two-switches.trace",
     ),
     (
-        &["trace", "1", "sw=1,pt=1,destination=2,service=25"],
+        &["trace", "1", "sw=1,pt=1,destination=45,service=25"],
         "firewall.tables",
         "firewall.trace",
     ),

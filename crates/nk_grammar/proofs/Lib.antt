@@ -1,4 +1,5 @@
 pub mod Spelled
+pub mod Links
 pub mod Fronts
 pub mod Trees
 pub mod Stack

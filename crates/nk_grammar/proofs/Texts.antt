@@ -16,7 +16,8 @@ use Rattle.nk_grammar.specs.Machine.{Open, group, negation, State, state, start,
 use Rattle.nk_grammar.specs.File.{Declaration, field, tag, switch, definition, Written, written_field, written_tag, written_switch, written_declared_link, written_let, spell_ports, spell_declaration, declared, spell_file, HasDeclarations, FileGoesOn}
 use Rattle.nk_grammar.specs.FileMachine.{Phase, between, field_read, field_named, tag_read, switch_read, switch_numbered, port_wanted, port_read, link_read, let_read, let_named, in_policy, Reading, reading, is_ports, is_comma, with_name, begin_declaration, one_more, link_on, policy_done, policy_on, next_reading, read_one, read_all, first_reading, text_ended, declarations_at_end}
 use Rattle.nk_grammar.proofs.Spelled.{reads, early_late, pol_has_star, early, late}
-use Rattle.nk_grammar.proofs.Fronts.{reads_only, goes_on, run_append, spell_quad, quad_spell, IsQuadSpelledWith, none_some}
+use Rattle.nk_grammar.proofs.Links.{spell_quad, quad_spell, IsQuadSpelledWith}
+use Rattle.nk_grammar.proofs.Fronts.{reads_only, goes_on, run_append, none_some}
 
 -- the declarations that the tokens come to
 abbrev finish : Option Reading → Option (List Declaration)

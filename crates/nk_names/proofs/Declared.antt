@@ -5,7 +5,7 @@ use Rattle.std.specs.List.{list_any}
 use Rattle.nk_field.specs.declared.packet.Packet.{Packet}
 use Rattle.nk_field.proofs.Lists.{In, contains_from_in}
 use Rattle.nk_topo.specs.Topology.{Topology, Link, AreLinks, link_from}
-use Rattle.nk_policy.specs.Policy.{Policy, Policies, test, assign, sum_of, seq_of, not_of, star_of, dup, link, no_part, part}
+use Rattle.nk_policy.specs.Policy.{Policy, Policies, test, range, assign, sum_of, seq_of, not_of, star_of, dup, link, no_part, part}
 use Rattle.nk_policy.specs.Leaves.{has_leaf, some_has_leaf}
 use Rattle.nk_policy.specs.Literals.{Literal, HoldsLiteral, SomeHoldsLiteral, IsAtSource}
 use Rattle.nk_policy.proofs.Tests.{both_false, both_true, or_cases, same_from}
@@ -46,6 +46,7 @@ module _ (links : List Link) where
     -- a literal of a policy whose links are declared is a declared link
     pub literal_declared : (p : Policy) → has_leaf (is_link_outside links) p ≡ false → (k : Literal) → HoldsLiteral p k → In links (link_of k)
     literal_declared (test f n) d k h = absurd h
+    literal_declared (range f low high) d k h = absurd h
     literal_declared (assign f n) d k h = absurd h
     literal_declared (sum_of ps) d k h = some_literal_declared ps d k h
     literal_declared (seq_of ps) d k h = some_literal_declared ps d k h

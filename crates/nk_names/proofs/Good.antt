@@ -3,7 +3,7 @@
 use Rattle.std.proofs.Common.{◌≡◌, ℕ, ◌+◌, ◌*◌, ◌≤◌, refl, ap, ◌∙◌, arith}
 use Rattle.std.specs.Prelude.{max}
 use Rattle.nk_field.specs.Packet.{FieldTable, IsValue}
-use Rattle.nk_policy.specs.Policy.{Policy, Policies, test, assign, sum_of, seq_of, not_of, star_of, dup, link, no_part, part, depth_of, depths_of, size_of, sizes_of, dups_of, dups_of_all, is_predicate, are_predicates, marked_from, all_marked_from}
+use Rattle.nk_policy.specs.Policy.{Policy, Policies, test, range, assign, sum_of, seq_of, not_of, star_of, dup, link, no_part, part, depth_of, depths_of, size_of, sizes_of, dups_of, dups_of_all, is_predicate, are_predicates, marked_from, all_marked_from}
 use Rattle.nk_policy.specs.Ranges.{IsInRange, AreInRange, IsOver, AllUseOnly}
 use Rattle.nk_names.specs.Complements.{NegatesPredicates, AllNegatePredicates}
 
@@ -15,6 +15,7 @@ mutual
   -- numbering changes no count of dups
   pub dups_marked : (p : Policy) (n : ℕ) → dups_of (marked_from p n) ≡ dups_of p
   dups_marked (test f v) n = refl
+  dups_marked (range f low high) n = refl
   dups_marked (assign f v) n = refl
   dups_marked (sum_of ps) n = all_dups_marked ps n
   dups_marked (seq_of ps) n = all_dups_marked ps n
@@ -32,6 +33,7 @@ mutual
   -- the last numbering stands
   pub marked_again : (p : Policy) (k n : ℕ) → marked_from (marked_from p k) n ≡ marked_from p n
   marked_again (test f v) k n = refl
+  marked_again (range f low high) k n = refl
   marked_again (assign f v) k n = refl
   marked_again (sum_of ps) k n = ap sum_of (all_marked_again ps k n)
   marked_again (seq_of ps) k n = ap seq_of (all_marked_again ps k n)
@@ -52,6 +54,7 @@ mutual
   -- numbering changes no size
   pub size_marked : (p : Policy) (n : ℕ) → size_of (marked_from p n) ≡ size_of p
   size_marked (test f v) n = refl
+  size_marked (range f low high) n = refl
   size_marked (assign f v) n = refl
   size_marked (sum_of ps) n = ap (λ k. 1 + k) (sizes_marked ps n)
   size_marked (seq_of ps) n = ap (λ k. 1 + k) (sizes_marked ps n)
@@ -69,6 +72,7 @@ mutual
   -- numbering changes no depth
   pub depth_marked : (p : Policy) (n : ℕ) → depth_of (marked_from p n) ≡ depth_of p
   depth_marked (test f v) n = refl
+  depth_marked (range f low high) n = refl
   depth_marked (assign f v) n = refl
   depth_marked (sum_of ps) n = ap (λ k. 1 + k) (depths_marked ps n)
   depth_marked (seq_of ps) n = ap (λ k. 1 + k) (depths_marked ps n)
@@ -88,6 +92,7 @@ mutual
   -- numbering changes no predicate
   pub predicate_marked : (p : Policy) (n : ℕ) → is_predicate (marked_from p n) ≡ is_predicate p
   predicate_marked (test f v) n = refl
+  predicate_marked (range f low high) n = refl
   predicate_marked (assign f v) n = refl
   predicate_marked (sum_of ps) n = predicates_marked ps n
   predicate_marked (seq_of ps) n = predicates_marked ps n
@@ -105,6 +110,7 @@ mutual
   -- a policy has at most two dups for each element
   pub few_dups : (p : Policy) → dups_of p ≤ 2 * size_of p
   few_dups (test f v) = omega arith
+  few_dups (range f low high) = omega arith
   few_dups (assign f v) = omega arith
   few_dups (sum_of ps) = omega (arith, all_few_dups ps)
   few_dups (seq_of ps) = omega (arith, all_few_dups ps)
@@ -123,6 +129,7 @@ module _ (fields : FieldTable) where
     -- numbering changes no field and no value
     pub over_marked : (p : Policy) (n : ℕ) → IsOver fields p → IsOver fields (marked_from p n)
     over_marked (test f v) n h = h
+    over_marked (range f low high) n h = h
     over_marked (assign f v) n h = h
     over_marked (sum_of ps) n h = all_over_marked ps n h
     over_marked (seq_of ps) n h = all_over_marked ps n h
@@ -140,6 +147,7 @@ module _ (fields : FieldTable) where
     -- a policy over the fields assigns values in range
     pub over_in_range : (p : Policy) → IsOver fields p → IsInRange p fields
     over_in_range (test f v) h = tt
+    over_in_range (range f low high) h = tt
     over_in_range (assign f v) h = h.1
     over_in_range (sum_of ps) h = all_over_in_range ps h
     over_in_range (seq_of ps) h = all_over_in_range ps h
@@ -157,6 +165,7 @@ mutual
   -- numbering leaves complements of predicates
   pub negates_marked : (p : Policy) (n : ℕ) → NegatesPredicates p → NegatesPredicates (marked_from p n)
   negates_marked (test f v) n h = tt
+  negates_marked (range f low high) n h = tt
   negates_marked (assign f v) n h = tt
   negates_marked (sum_of ps) n h = all_negate_marked ps n h
   negates_marked (seq_of ps) n h = all_negate_marked ps n h
@@ -175,6 +184,7 @@ module _ (fields more : FieldTable) (wider : (f v : ℕ) → IsValue fields f v 
     -- a policy over the fields is one over more fields
     pub over_more : (p : Policy) → IsOver fields p → IsOver more p
     over_more (test f v) h = wider f v h
+    over_more (range f low high) h = (wider f low h.0, wider f high h.1)
     over_more (assign f v) h = wider f v h
     over_more (sum_of ps) h = all_over_more ps h
     over_more (seq_of ps) h = all_over_more ps h

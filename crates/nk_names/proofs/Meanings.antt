@@ -9,9 +9,9 @@ use Rattle.nk_policy.specs.Policy.{Policy, is_predicate}
 use Rattle.nk_policy.specs.Policy as policy
 use Rattle.nk_grammar.specs.declared.ast.Word.{Word}
 use Rattle.nk_grammar.specs.declared.ast.Number.{Number}
-use Rattle.nk_grammar.specs.Tree.{Tree, Trees, name_of, test, assign, sum_of, seq_of, not_of, star_of, dup, link, no_part, part}
+use Rattle.nk_grammar.specs.Tree.{Tree, Trees, name_of, test, range, assign, sum_of, seq_of, not_of, star_of, dup, link, no_part, part}
 use Rattle.nk_names.specs.declared.fault.FaultKind.TheVariants as kind
-use Rattle.nk_names.specs.Meant.{Lets, policy_among, no_value, place_in, most_in, policy_for, policies_for, unknown_in, unknown_among, misplaced_in, misplaced_among}
+use Rattle.nk_names.specs.Meant.{Lets, policy_among, no_value, no_range, place_in, most_in, policy_for, policies_for, unknown_in, unknown_among, misplaced_in, misplaced_among}
 use Rattle.nk_policy.specs.Ranges.{IsOver}
 use Rattle.nk_names.specs.Complements.{NegatesPredicates, AllNegatePredicates}
 use Rattle.nk_names.proofs.Good.{AreOver}
@@ -61,6 +61,14 @@ module _ (fields : FieldTable) (table : IsFieldTable fields) where
       let at = position-Some (bytes_eq w.text) fields.names (place_in fields w) [] found in
       (omega (arith, at.0, table.named), in_bound (most_in fields w) n r.1)
 
+  -- and a name and two numbers are a field and two values of it
+  range_is : (w : Word) (low high : Number) → no_range fields w low high ≡ None
+      → IsValue fields (place_in fields w) low.value × IsValue fields (place_in fields w) high.value
+  range_is w low high h =
+      let r = none_both _ _ h in
+      let first = value_is w low r.0 in
+      (first, (first.0, in_bound (most_in fields w) high r.1))
+
   -- the largest number of the switch and of the port
   built_in : (k : ℕ) → k < 2 → IsValue fields k 65535
   built_in k lt =
@@ -79,6 +87,7 @@ module _ (fields : FieldTable) (table : IsFieldTable fields) where
       pub over_meant : All (λ l. IsOver fields l.1) lets → (t : Tree) → unknown_in fields lets t ≡ None → IsOver fields (policy_for fields lets t)
       over_meant known (name_of w) h = named (IsOver fields) lets w.text known tt
       over_meant known (test w n) h = value_is w n h
+      over_meant known (range w low high) h = range_is w low high h
       over_meant known (assign w n) h = value_is w n h
       over_meant known (sum_of ts) h = all_over_meant known ts h
       over_meant known (seq_of ts) h = all_over_meant known ts h
@@ -103,6 +112,7 @@ module _ (fields : FieldTable) (lets : Lets) where
     pub negates_meant : All (λ l. NegatesPredicates l.1) lets → (t : Tree) → misplaced_in fields lets t ≡ None → NegatesPredicates (policy_for fields lets t)
     negates_meant known (name_of w) h = named NegatesPredicates lets w.text known tt
     negates_meant known (test w n) h = tt
+    negates_meant known (range w low high) h = tt
     negates_meant known (assign w n) h = tt
     negates_meant known (sum_of ts) h = all_negate_meant known ts h
     negates_meant known (seq_of ts) h = all_negate_meant known ts h

@@ -4,7 +4,7 @@ use Rattle.std.specs.Option.{option_or}
 use Rattle.nk_field.specs.Packet.{FieldTable}
 use Rattle.nk_policy.specs.Policy.{is_predicate, are_predicates}
 use Rattle.nk_policy.proofs.Tests.{both_true}
-use Rattle.nk_grammar.specs.Tree.{Tree, Trees, name_of, test, assign, sum_of, seq_of, not_of, star_of, dup, link, no_part, part}
+use Rattle.nk_grammar.specs.Tree.{Tree, Trees, name_of, test, range, assign, sum_of, seq_of, not_of, star_of, dup, link, no_part, part}
 use Rattle.nk_names.specs.declared.fault.FaultKind.TheVariants as kind
 use Rattle.nk_names.specs.Meant.{Lets, MaybeFault, fault_if, first_of, policy_for, policies_for, misplaced_in, misplaced_among}
 
@@ -17,6 +17,7 @@ module _ (fields : FieldTable) (lets : Lets) where
     pub none_misplaced : (t : Tree) → is_predicate (policy_for fields lets t) ≡ true → misplaced_in fields lets t ≡ None
     none_misplaced (name_of w) h = refl
     none_misplaced (test w n) h = refl
+    none_misplaced (range w low high) h = refl
     none_misplaced (assign w n) h = refl
     none_misplaced (sum_of ts) h = none_among ts h
     none_misplaced (seq_of ts) h = none_among ts h

@@ -1,7 +1,7 @@
 -- What the checks of a row's predicate leave known.
 use Rattle.std.proofs.Common.{◌≡◌, ℕ, ◌<◌, ◌≤◌, true, None, List, [], refl, sym, ap, subst, ◌∙◌, arith}
 use Rattle.nk_field.specs.Packet.{FieldTable, IsFieldTable}
-use Rattle.nk_policy.specs.Policy.{Policy, Policies, test, assign, sum_of, seq_of, not_of, star_of, dup, link, no_part, part, depth_of, dups_of, dups_of_all, is_predicate, are_predicates, marked_from}
+use Rattle.nk_policy.specs.Policy.{Policy, Policies, test, range, assign, sum_of, seq_of, not_of, star_of, dup, link, no_part, part, depth_of, dups_of, dups_of_all, is_predicate, are_predicates, marked_from}
 use Rattle.nk_policy.proofs.Tests.{both_true}
 use Rattle.nk_policy.proofs.Remade.{marked_predicate}
 use Rattle.nk_grammar.specs.Tree.{Tree}
@@ -20,6 +20,7 @@ mutual
   -- a predicate records nothing
   pub no_dups : (p : Policy) → is_predicate p ≡ true → dups_of p ≡ 0
   no_dups (test f n) h = refl
+  no_dups (range f low high) h = refl
   no_dups (assign f n) h = absurd cc
   no_dups (sum_of ps) h = none_have_dups ps h
   no_dups (seq_of ps) h = none_have_dups ps h

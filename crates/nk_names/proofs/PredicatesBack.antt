@@ -2,7 +2,7 @@
 use Rattle.std.proofs.Common.{◌≡◌, ◌+◌, ℕ, true, [], None, not, refl, ap, ◌∙◌, arith}
 use Rattle.std.specs.Prelude.{nat_lt, Ok}
 use Rattle.nk_field.specs.Packet.{FieldTable}
-use Rattle.nk_policy.specs.Policy.{Policy, Policies, test, assign, sum_of, seq_of, not_of, star_of, dup, link, no_part, part, depth_of, dups_of, is_predicate, are_predicates, marked_from, all_marked_from}
+use Rattle.nk_policy.specs.Policy.{Policy, Policies, test, range, assign, sum_of, seq_of, not_of, star_of, dup, link, no_part, part, depth_of, dups_of, is_predicate, are_predicates, marked_from, all_marked_from}
 use Rattle.nk_policy.proofs.Tests.{both_true}
 use Rattle.nk_grammar.specs.Tree as tree
 use Rattle.nk_grammar.specs.Moved.{tree_moved, trees_moved}
@@ -18,6 +18,7 @@ mutual
   -- the complements in a predicate are over predicates
   negates : (p : Policy) → is_predicate p ≡ true → NegatesPredicates p
   negates (test f n) h = tt
+  negates (range f low high) h = tt
   negates (assign f n) h = tt
   negates (sum_of ps) h = all_negate ps h
   negates (seq_of ps) h = all_negate ps h
@@ -37,6 +38,7 @@ mutual
   -- a predicate has nothing to number
   unmarked : (p : Policy) (n : ℕ) → is_predicate p ≡ true → marked_from p n ≡ p
   unmarked (test f v) n h = refl
+  unmarked (range f low high) n h = refl
   unmarked (assign f v) n h = refl
   unmarked (sum_of ps) n h = ap sum_of (all_unmarked ps n h)
   unmarked (seq_of ps) n h = ap seq_of (all_unmarked ps n h)
@@ -58,6 +60,7 @@ module _ (lines line : ℕ) (fields : FieldTable) where
     -- the tree of a policy's text further on is the tree of its text on a later line
     moved : (p : Policy) → tree_moved lines (tree_for line fields p) ≡ tree_for (line + lines) fields p
     moved (test f v) = refl
+    moved (range f low high) = refl
     moved (assign f v) = refl
     moved (sum_of ps) = ap tree.sum_of (all_moved ps)
     moved (seq_of ps) = ap tree.seq_of (all_moved ps)

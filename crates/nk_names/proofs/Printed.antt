@@ -2,11 +2,11 @@
 use Rattle.std.proofs.Common.{◌≡◌, ℕ, List, [], ◌∷◌, ◌++◌, Bool, true, false, refl, sym, ap, ◌∙◌, append_assoc, append-nil, codes, decimal, ◌||◌}
 use Rattle.nk_field.specs.Packet.{FieldTable}
 use Rattle.nk_lex.specs.Spelling.{Sign, Lexeme, bytes_of, text_of}
-use Rattle.nk_policy.specs.Policy.{Policy, Policies, test, assign, sum_of, seq_of, not_of, star_of, dup, link, no_part, part, is_predicate}
+use Rattle.nk_policy.specs.Policy.{Policy, Policies, test, range, assign, sum_of, seq_of, not_of, star_of, dup, link, no_part, part, is_predicate}
 use Rattle.nk_policy.specs.Text.{is_sum, is_seq, is_star, enclosed, name_of, pol_bytes, sum_bytes, seq_bytes}
 use Rattle.nk_grammar.specs.declared.ast.Word.{Word}
 use Rattle.nk_grammar.specs.declared.ast.Number.{Number}
-use Rattle.nk_grammar.specs.Grammar.{Pol, Term, Factor, Atom, one_term, plus, one_factor, semi, plain, starred, written_not, written_id, written_drop, written_dup, written_test, written_set, written_link, paren}
+use Rattle.nk_grammar.specs.Grammar.{Pol, Term, Factor, Atom, one_term, plus, one_factor, semi, plain, starred, written_not, written_id, written_drop, written_dup, written_test, written_range, written_set, written_link, paren}
 use Rattle.nk_grammar.specs.Text.{lexemes_of_pol, lexemes_of_term, lexemes_of_factor, lexemes_of_atom}
 use Rattle.nk_names.specs.Complements.{NegatesPredicates, AllNegatePredicates}
 
@@ -56,6 +56,8 @@ abbrev mutual
   -- how a policy is written on a line
   pub form_of : ℕ → FieldTable → Policy → Form
   form_of line fields (test f n) = an_atom (written_test (word_for line fields f) (number_for line n))
+  form_of line fields (range f low high) =
+      an_atom (written_range (word_for line fields f) (number_for line low) (number_for line high))
   form_of line fields (assign f n) = an_atom (written_set (word_for line fields f) (number_for line n))
   form_of line fields (sum_of ps) = sum_form line fields ps
   form_of line fields (seq_of ps) = seq_form line fields ps
@@ -134,6 +136,7 @@ module _ (line : ℕ) (fields : FieldTable) where
   -- a form is what the policy is
   sum_is : (p : Policy) → is_a_sum (form_of line fields p) ≡ is_sum p
   sum_is (test f n) = refl
+  sum_is (range f low high) = refl
   sum_is (assign f n) = refl
   sum_is (sum_of no_part) = refl
   sum_is (sum_of (part p ps)) = refl
@@ -146,6 +149,7 @@ module _ (line : ℕ) (fields : FieldTable) where
 
   seq_is : (p : Policy) → is_a_seq (form_of line fields p) ≡ is_seq p
   seq_is (test f n) = refl
+  seq_is (range f low high) = refl
   seq_is (assign f n) = refl
   seq_is (sum_of no_part) = refl
   seq_is (sum_of (part p ps)) = refl
@@ -158,6 +162,7 @@ module _ (line : ℕ) (fields : FieldTable) where
 
   star_is : (p : Policy) → is_a_star (form_of line fields p) ≡ is_star p
   star_is (test f n) = refl
+  star_is (range f low high) = refl
   star_is (assign f n) = refl
   star_is (sum_of no_part) = refl
   star_is (sum_of (part p ps)) = refl
@@ -171,6 +176,7 @@ module _ (line : ℕ) (fields : FieldTable) where
   -- no predicate is a star
   no_star : (p : Policy) → is_predicate p ≡ true → is_star p ≡ false
   no_star (test f n) h = refl
+  no_star (range f low high) h = refl
   no_star (assign f n) h = refl
   no_star (sum_of ps) h = refl
   no_star (seq_of ps) h = refl
@@ -225,6 +231,10 @@ module _ (line : ℕ) (fields : FieldTable) where
   test_text : (name digits : List ℕ) → name ++ (codes "=" ++ (digits ++ [])) ≡ name ++ codes "=" ++ digits
   test_text name digits = ap (λ l. name ++ (codes "=" ++ l)) (append-nil digits) ∙ sym (append_assoc name (codes "=") digits)
 
+  range_text : (name low high : List ℕ) → name ++ (codes " " ++ (codes "in" ++ (codes " " ++ (low ++ (codes ".." ++ (high ++ []))))))
+      ≡ name ++ codes " in " ++ low ++ codes ".." ++ high
+  range_text name low high = simp (append_assoc, append-nil)
+
   set_text : (name digits : List ℕ) → name ++ (codes ":=" ++ (digits ++ [])) ≡ name ++ codes ":=" ++ digits
   set_text name digits = ap (λ l. name ++ (codes ":=" ++ l)) (append-nil digits) ∙ sym (append_assoc name (codes ":=") digits)
 
@@ -236,6 +246,7 @@ module _ (line : ℕ) (fields : FieldTable) where
     -- what is written is the policy's text
     pub text_is : (p : Policy) → NegatesPredicates p → form_text (form_of line fields p) ≡ pol_bytes fields p
     text_is (test f n) h = test_text (name_of fields f) (decimal n)
+    text_is (range f low high) h = range_text (name_of fields f) (decimal low) (decimal high)
     text_is (assign f n) h = set_text (name_of fields f) (decimal n)
     text_is (sum_of ps) h = sum_text ps h
     text_is (seq_of ps) h = seq_text ps h

@@ -9,7 +9,7 @@ use Rattle.std.proofs.lemmas.Bool.Decides.{nat_tests}
 use Rattle.nk_field.specs.Packet.{FieldTable, IsFieldTable, IsValue, field_named}
 use Rattle.nk_lex.specs.Lex.{tokens_of}
 use Rattle.nk_lex.specs.Spelling.{IsName, text_of}
-use Rattle.nk_policy.specs.Policy.{Policy, Policies, test, assign, sum_of, seq_of, not_of, star_of, dup, link, no_part, part, depth_of, depths_of, size_of, dups_of, is_predicate, marked_from, all_marked_from}
+use Rattle.nk_policy.specs.Policy.{Policy, Policies, test, range, assign, sum_of, seq_of, not_of, star_of, dup, link, no_part, part, depth_of, depths_of, size_of, dups_of, is_predicate, marked_from, all_marked_from}
 use Rattle.nk_policy.specs.Ranges.{IsOver}
 use Rattle.nk_policy.specs.Text.{name_of, pol_bytes}
 use Rattle.nk_grammar.specs.Tree as tree
@@ -22,7 +22,7 @@ use Rattle.nk_grammar.specs.File.{definition}
 use Rattle.nk_names.specs.declared.fault.FaultKind.{FaultKind}
 use Rattle.nk_names.specs.declared.fault.FaultKind.TheVariants as kind
 use Rattle.nk_names.specs.Complements.{NegatesPredicates, AllNegatePredicates}
-use Rattle.nk_names.specs.Meant.{Lets, MaybeFault, fault_if, first_of, above, no_value, place_in, most_in, policy_among, policy_for, policies_for, unknown_in, unknown_among, misplaced_in, misplaced_among}
+use Rattle.nk_names.specs.Meant.{Lets, MaybeFault, fault_if, first_of, above, no_value, no_range, place_in, most_in, policy_among, policy_for, policies_for, unknown_in, unknown_among, misplaced_in, misplaced_among}
 use Rattle.nk_names.specs.ProgramOf.{Said, said_with, unless, let_fault}
 use Rattle.nk_names.specs.ReadBack.{IsWritable, IsNotOne, HasNoLonePart, HaveNoLonePart, IsReadable, IsReadBack, let_bytes, in_first_line}
 use Rattle.nk_names.proofs.Good.{AreOver, dups_marked, depth_marked, size_marked, predicate_marked}
@@ -55,6 +55,7 @@ module _ (line : ℕ) (fields : FieldTable) where
     -- with the policy's own parentheses fewer are open than it is deep
     pub nests : (p : Policy) → nesting_of_atom (atom_from (form_of line fields p)) + 1 ≤ depth_of p
     nests (test f n) = omega arith
+    nests (range f low high) = omega arith
     nests (assign f n) = omega arith
     nests (sum_of ps) = sum_nests ps
     nests (seq_of ps) = seq_nests ps
@@ -132,6 +133,7 @@ module _ (line : ℕ) (fields : FieldTable) (writable : IsWritable fields) where
   mutual
     pub fits : (p : Policy) → IsOver fields p → IsFormOn line (form_of line fields p)
     fits (test f n) h = (name_on f n h, number_on f n h)
+    fits (range f low high) h = (name_on f low h.0, number_on f low h.0, number_on f high h.1)
     fits (assign f n) h = (name_on f n h, number_on f n h)
     fits (sum_of ps) h = sum_fits ps h
     fits (seq_of ps) h = seq_fits ps h
@@ -166,6 +168,7 @@ abbrev mutual
   -- the syntax tree that a policy's text has on a line
   pub tree_for : ℕ → FieldTable → Policy → tree.Tree
   tree_for line fields (test f n) = tree.test (word_for line fields f) (number_for line n)
+  tree_for line fields (range f low high) = tree.range (word_for line fields f) (number_for line low) (number_for line high)
   tree_for line fields (assign f n) = tree.assign (word_for line fields f) (number_for line n)
   tree_for line fields (sum_of ps) = tree.sum_of (trees_for line fields ps)
   tree_for line fields (seq_of ps) = tree.seq_of (trees_for line fields ps)
@@ -235,6 +238,7 @@ module _ (line : ℕ) (fields : FieldTable) where
   mutual
     pub tree_is : (p : Policy) → HasNoLonePart p → form_tree (form_of line fields p) ≡ tree_for line fields p
     tree_is (test f n) h = refl
+    tree_is (range f low high) h = refl
     tree_is (assign f n) h = refl
     tree_is (sum_of ps) h = sum_tree ps h.0 h.1
     tree_is (seq_of ps) h = seq_tree ps h.0 h.1
@@ -332,6 +336,13 @@ module _ (line : ℕ) (fields : FieldTable) (table : IsFieldTable fields) where
       (no_fault (is_none (field_named fields (name_of fields f))) kind.UnknownField line (ap is_none (named f n v)))
       (not_above (most_in fields (word_for line fields f)) (number_for line n) (subst (λ k. n ≤ slice_index fields.maxima k) (sym (place_is f n v)) v.1))
 
+  -- and two are none
+  range_known : (f low high : ℕ) → IsValue fields f low → IsValue fields f high
+      → no_range fields (word_for line fields f) (number_for line low) (number_for line high) ≡ None
+  range_known f low high v u =
+      none_first _ _ (value_known f low v)
+      (not_above (most_in fields (word_for line fields f)) (number_for line high) (subst (λ k. high ≤ slice_index fields.maxima k) (sym (place_is f high u)) u.1))
+
   -- a switch's or a port's number is at most 65535
   end_fits : (k n : ℕ) → k < 2 → IsValue fields k n → n ≤ 65535
   end_fits k n lt v = omega (arith, v.1, range_of fields.maxima k table.built_in_maxima lt)
@@ -344,6 +355,7 @@ module _ (line : ℕ) (fields : FieldTable) (table : IsFieldTable fields) where
       -- the policy that the tree stands for is the policy, but for the numbers of its dups
       pub meant : (p : Policy) → IsOver fields p → (n : ℕ) → marked_from (policy_for fields lets (tree_for line fields p)) n ≡ marked_from p n
       meant (test f v) h n = ap (λ k. test k v) (place_is f v h)
+      meant (range f low high) h n = ap (λ k. range k low high) (place_is f low h.0)
       meant (assign f v) h n = ap (λ k. assign k v) (place_is f v h)
       meant (sum_of ps) h n = ap sum_of (all_meant ps h n)
       meant (seq_of ps) h n = ap seq_of (all_meant ps h n)
@@ -380,6 +392,7 @@ module _ (line : ℕ) (fields : FieldTable) (table : IsFieldTable fields) where
       -- all names and numbers are known
       pub known : (p : Policy) → IsOver fields p → unknown_in fields lets (tree_for line fields p) ≡ None
       known (test f v) h = value_known f v h
+      known (range f low high) h = range_known f low high h.0 h.1
       known (assign f v) h = value_known f v h
       known (sum_of ps) h = all_known ps h
       known (seq_of ps) h = all_known ps h
@@ -402,6 +415,7 @@ module _ (line : ℕ) (fields : FieldTable) (table : IsFieldTable fields) where
       -- each `~` stands over a predicate
       placed : (p : Policy) → IsOver fields p → NegatesPredicates p → misplaced_in fields lets (tree_for line fields p) ≡ None
       placed (test f v) h c = refl
+      placed (range f low high) h c = refl
       placed (assign f v) h c = refl
       placed (sum_of ps) h c = all_placed ps h c
       placed (seq_of ps) h c = all_placed ps h c

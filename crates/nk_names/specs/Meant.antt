@@ -10,7 +10,7 @@ use Rattle.nk_policy.specs.declared.policy.Pol.{Pol}
 use Rattle.nk_grammar.specs.declared.ast.Word.{Word}
 use Rattle.nk_grammar.specs.declared.ast.Number.{Number}
 pub use Rattle.nk_declare.specs.Declarations.{first_of, place_in, most_in}
-use Rattle.nk_grammar.specs.Tree.{Tree, Trees, name_of, test, assign, sum_of, seq_of, not_of, star_of, dup, link, no_part, part}
+use Rattle.nk_grammar.specs.Tree.{Tree, Trees, name_of, test, range, assign, sum_of, seq_of, not_of, star_of, dup, link, no_part, part}
 use Rattle.nk_names.specs.declared.fault.FaultKind.{FaultKind}
 use Rattle.nk_names.specs.declared.fault.FaultKind.TheVariants as kind
 use Rattle.nk_names.specs.declared.fault.NamesError.{NamesError}
@@ -51,6 +51,7 @@ abbrev mutual
   pub policy_for : FieldTable → Lets → Tree → Policy
   policy_for fields lets (name_of w) = unwrap_or (policy_among lets w.text) (policy.sum_of policy.no_part)
   policy_for fields lets (test w n) = policy.test (place_in fields w) n.value
+  policy_for fields lets (range w low high) = policy.range (place_in fields w) low.value high.value
   policy_for fields lets (assign w n) = policy.assign (place_in fields w) n.value
   policy_for fields lets (sum_of ts) = policy.sum_of (policies_for fields lets ts)
   policy_for fields lets (seq_of ts) = policy.seq_of (policies_for fields lets ts)
@@ -68,11 +69,16 @@ abbrev pub no_value : FieldTable → Word → Number → MaybeFault
 no_value fields w n =
     first_of (fault_if (is_none (field_named fields w.text)) kind.UnknownField w.line) (above (most_in fields w) n)
 
+-- a field and the two ends of a range of its values; the first may be above the second
+abbrev pub no_range : FieldTable → Word → (low high : Number) → MaybeFault
+no_range fields w low high = first_of (no_value fields w low) (above (most_in fields w) high)
+
 -- the first name of no policy, name of no field or number out of range, from left to right
 abbrev mutual
   pub unknown_in : FieldTable → Lets → Tree → MaybeFault
   unknown_in fields lets (name_of w) = fault_if (is_none (policy_among lets w.text)) kind.UnknownName w.line
   unknown_in fields lets (test w n) = no_value fields w n
+  unknown_in fields lets (range w low high) = no_range fields w low high
   unknown_in fields lets (assign w n) = no_value fields w n
   unknown_in fields lets (sum_of ts) = unknown_among fields lets ts
   unknown_in fields lets (seq_of ts) = unknown_among fields lets ts
@@ -90,6 +96,7 @@ abbrev mutual
   pub misplaced_in : FieldTable → Lets → Tree → MaybeFault
   misplaced_in fields lets (name_of w) = None
   misplaced_in fields lets (test w n) = None
+  misplaced_in fields lets (range w low high) = None
   misplaced_in fields lets (assign w n) = None
   misplaced_in fields lets (sum_of ts) = misplaced_among fields lets ts
   misplaced_in fields lets (seq_of ts) = misplaced_among fields lets ts

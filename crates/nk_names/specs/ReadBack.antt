@@ -13,7 +13,7 @@ use Rattle.nk_grammar.specs.Nesting.{nesting_of_pol}
 use Rattle.nk_grammar.specs.Text.{lexemes_of_pol, IsPolOn}
 use Rattle.nk_grammar.specs.File.{Declaration, definition}
 use Rattle.nk_grammar.specs.FileMachine.{file_of}
-use Rattle.nk_policy.specs.Policy.{Policy, Policies, test, assign, sum_of, seq_of, not_of, star_of, dup, link, no_part, part, depth_of, size_of, is_predicate, marked_from}
+use Rattle.nk_policy.specs.Policy.{Policy, Policies, test, range, assign, sum_of, seq_of, not_of, star_of, dup, link, no_part, part, depth_of, size_of, is_predicate, marked_from}
 use Rattle.nk_policy.specs.Ranges.{IsOver}
 use Rattle.nk_policy.specs.Text.{pol_bytes}
 use Rattle.nk_names.specs.Complements.{NegatesPredicates}
@@ -35,6 +35,7 @@ IsNotOne (part p (part q ps)) = Unit {0}
 abbrev mutual
   pub HasNoLonePart : Policy → Type 0
   HasNoLonePart (test f n) = Unit {0}
+  HasNoLonePart (range f low high) = Unit {0}
   HasNoLonePart (assign f n) = Unit {0}
   HasNoLonePart (sum_of ps) = IsNotOne ps × HaveNoLonePart ps
   HasNoLonePart (seq_of ps) = IsNotOne ps × HaveNoLonePart ps
@@ -107,12 +108,12 @@ abbrev pub ReadsPrintedPredicates : Type 0
 ReadsPrintedPredicates = (fields : FieldTable) → IsWritable fields → (line : ℕ) (p : Policy)
     → IsReadablePredicate fields p → IsPredicateReadBack fields line p
 
--- (sw=1;pt:=2;1:2=>2:1 + ~(pt=1 + pt=2))*
+-- (sw=1;pt:=2;1:2=>2:1 + ~(pt=1 + pt in 2..3))*
 abbrev pub small_policy : Policy
-small_policy = star_of (sum_of (part (seq_of (part (test 0 1) (part (assign 1 2) (part (link 1 2 2 1 7) no_part)))) (part (not_of (sum_of (part (test 1 1) (part (test 1 2) no_part)))) no_part)))
+small_policy = star_of (sum_of (part (seq_of (part (test 0 1) (part (assign 1 2) (part (link 1 2 2 1 7) no_part)))) (part (not_of (sum_of (part (test 1 1) (part (range 1 2 3) no_part)))) no_part)))
 
 -- the switch and the port alone are writable fields, a policy over them is readable, and this is its text
 pub record IsMetBySmallPolicy : Type 0 where
   pub writable : IsWritable built_in
   pub readable : IsReadable built_in small_policy
-  pub text : pol_bytes built_in small_policy ≡ codes "(sw=1;pt:=2;1:2=>2:1 + ~(pt=1 + pt=2))*"
+  pub text : pol_bytes built_in small_policy ≡ codes "(sw=1;pt:=2;1:2=>2:1 + ~(pt=1 + pt in 2..3))*"

@@ -61,6 +61,7 @@ fn built(
             None => Ok(Pol::Sum(Pols::new(Vec::new(alloc)))),
         },
         Ast::Test(w, n) => Ok(Pol::Test(field_of(fields, w), n.value)),
+        Ast::Range(w, low, high) => Ok(Pol::Range(field_of(fields, w), low.value, high.value)),
         Ast::Set(w, n) => Ok(Pol::Set(field_of(fields, w), n.value)),
         Ast::Sum(ps) => Ok(Pol::Sum(Pols::new(all_built(
             alloc,

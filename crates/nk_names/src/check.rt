@@ -2,7 +2,7 @@
 ghost use Rattle.std.specs.Prelude.{◌≡◌, min};
 ghost use Rattle.nk_policy.specs.Policy.{depth_of, depths_of, size_of, sizes_of, is_predicate, are_predicates};
 ghost use Rattle.nk_grammar.specs.Tree.{tree_of, trees_of};
-ghost use Rattle.nk_names.specs.Meant.{lets_of, fault_if, above, no_value, links_ends, policy_for, policies_for, unknown_in, unknown_among, misplaced_in, misplaced_among};
+ghost use Rattle.nk_names.specs.Meant.{lets_of, fault_if, above, no_value, no_range, links_ends, policy_for, policies_for, unknown_in, unknown_among, misplaced_in, misplaced_among};
 
 use crate::fault::{FaultKind, NamesError};
 use crate::lets::Lets;
@@ -54,6 +54,19 @@ fn no_value(fields: &Fields, w: &Word, n: Number) -> Option<NamesError>
     }
 }
 
+/// The first fault of a field and the two ends of a range of its values; the first may be above the second.
+fn no_range(fields: &Fields, w: &Word, low: Number, high: Number) -> Option<NamesError>
+    ensures { result ≡ no_range fields.now w.now low high }
+{
+    match field_with(fields, w.text.as_slice()) {
+        Some(field) => {
+            let most = fields.max(field);
+            above(most, low).or(above(most, high))
+        }
+        None => fault_if(true, FaultKind::UnknownField, w.line),
+    }
+}
+
 /// The first name of no policy, name of no field or number out of range, from left to right.
 #[cycle(unknown)]
 #[tactic(auto, using(nk_grammar::proofs::Trees::tree_of_sum, nk_grammar::proofs::Trees::tree_of_seq))]
@@ -66,6 +79,7 @@ pub(crate) fn first_unknown(fields: &Fields, lets: &Lets, ast: &Ast) -> Option<N
             fault_if(!known, FaultKind::UnknownName, w.line)
         }
         Ast::Test(w, n) | Ast::Set(w, n) => no_value(fields, w, *n),
+        Ast::Range(w, low, high) => no_range(fields, w, *low, *high),
         Ast::Sum(ps) | Ast::Seq(ps) => first_unknown_among(fields, lets, ps.as_slice()),
         Ast::Not(q, _) | Ast::Star(q) => first_unknown(fields, lets, q),
         Ast::Dup => None,
@@ -98,7 +112,7 @@ pub(crate) fn is_predicate(fields: &Fields, lets: &Lets, ast: &Ast) -> bool
             Some(shape) => shape.predicate,
             None => true,
         },
-        Ast::Test(_, _) => true,
+        Ast::Test(_, _) | Ast::Range(_, _, _) => true,
         Ast::Sum(ps) | Ast::Seq(ps) => are_predicates(fields, lets, ps.as_slice()),
         Ast::Not(q, _) => is_predicate(fields, lets, q),
         Ast::Set(_, _) | Ast::Star(_) | Ast::Dup | Ast::Link(_, _, _, _) => false,
@@ -131,7 +145,12 @@ pub(crate) fn first_misplaced(fields: &Fields, lets: &Lets, ast: &Ast) -> Option
             fault_if(!negated, FaultKind::NotAPredicate, *line)
         }
         Ast::Star(q) => first_misplaced(fields, lets, q),
-        Ast::Name(_) | Ast::Test(_, _) | Ast::Set(_, _) | Ast::Dup | Ast::Link(_, _, _, _) => None,
+        Ast::Name(_)
+        | Ast::Test(_, _)
+        | Ast::Range(_, _, _)
+        | Ast::Set(_, _)
+        | Ast::Dup
+        | Ast::Link(_, _, _, _) => None,
     }
 }
 
@@ -162,7 +181,8 @@ pub(crate) fn depth(fields: &Fields, lets: &Lets, ast: &Ast) -> u64
         },
         Ast::Sum(ps) | Ast::Seq(ps) => deepest(fields, lets, ps.as_slice()).saturating_add(1),
         Ast::Not(q, _) | Ast::Star(q) => depth(fields, lets, q).saturating_add(1),
-        Ast::Test(_, _) | Ast::Set(_, _) | Ast::Dup | Ast::Link(_, _, _, _) => 1,
+        Ast::Test(_, _) | Ast::Range(_, _, _) | Ast::Set(_, _) | Ast::Dup | Ast::Link(_, _, _, _) =>
+            1,
     }
 }
 
@@ -194,7 +214,8 @@ pub(crate) fn size(fields: &Fields, lets: &Lets, ast: &Ast) -> u64
         },
         Ast::Sum(ps) | Ast::Seq(ps) => total_size(fields, lets, ps.as_slice()).saturating_add(1),
         Ast::Not(q, _) | Ast::Star(q) => size(fields, lets, q).saturating_add(1),
-        Ast::Test(_, _) | Ast::Set(_, _) | Ast::Dup | Ast::Link(_, _, _, _) => 1,
+        Ast::Test(_, _) | Ast::Range(_, _, _) | Ast::Set(_, _) | Ast::Dup | Ast::Link(_, _, _, _) =>
+            1,
     }
 }
 

@@ -2,7 +2,7 @@
 use Rattle.std.proofs.Common.{◌≡◌, ℕ, ◌+◌, Bool, true, false, inl, inr, ⊎_elim, [], ◌∷◌, ◌++◌, refl, sym, ap, subst, ◌∙◌, append_assoc, append-nil}
 use Rattle.std.specs.Prelude.{◌==◌, if◌then◌else◌}
 use Rattle.nk_field.specs.declared.packet.Packet.{Packet}
-use Rattle.nk_policy.specs.Policy.{Policy, Policies, test, assign, sum_of, seq_of, not_of, star_of, dup, link, no_part, part, link_parts}
+use Rattle.nk_policy.specs.Policy.{Policy, Policies, test, range, assign, sum_of, seq_of, not_of, star_of, dup, link, no_part, part, link_parts}
 use Rattle.nk_policy.specs.Meaning.{way_of, way_of_all}
 use Rattle.nk_policy.specs.Progress.{Marked, numbered, RecordsAt}
 use Rattle.nk_policy.specs.After.{id_policy, drop_policy, has_dup, some_has_dup, after, after_some, after_all}
@@ -136,6 +136,14 @@ none_again k = record {
 -- a test
 test_again : (f n k : ℕ) → Again (test f n) k
 test_again f n k = record {
+  holds = λ pk u x l r. absurd r;
+  splits_too = λ pk u x l v y r. absurd r;
+  joins_too = λ pk u x l v y r s. absurd r;
+}
+
+-- a range
+range_again : (f lo hi k : ℕ) → Again (range f lo hi) k
+range_again f lo hi k = record {
   holds = λ pk u x l r. absurd r;
   splits_too = λ pk u x l v y r. absurd r;
   joins_too = λ pk u x l v y r s. absurd r;
@@ -328,6 +336,7 @@ mutual
   -- each policy whose dups differ
   pub again : (p : Policy) → HasDistinct p → (k : ℕ) → Again p k
   again (test f n) d k = test_again f n k
+  again (range f lo hi) d k = range_again f lo hi k
   again (assign f n) d k = assign_again f n k
   again (sum_of ps) d k =
       let g = some_again ps d k in record { holds = g.holds; splits_too = g.splits_too; joins_too = g.joins_too }

@@ -4,7 +4,7 @@ use Rattle.std.specs.Prelude.{◌==◌, ◌||◌, if◌then◌else◌, All}
 use Rattle.std.proofs.lemmas.List.Elements.{All-append, All-nil}
 use Rattle.nk_field.specs.declared.packet.Packet.{Packet}
 use Rattle.nk_field.proofs.Ascending.{all_from_members}
-use Rattle.nk_policy.specs.Policy.{Policy, Policies, test, assign, sum_of, seq_of, not_of, star_of, dup, link, no_part, part, link_parts}
+use Rattle.nk_policy.specs.Policy.{Policy, Policies, test, range, assign, sum_of, seq_of, not_of, star_of, dup, link, no_part, part, link_parts}
 use Rattle.nk_policy.specs.Meaning.{Way, rounds, way_of, some_way_of, way_of_all}
 use Rattle.nk_policy.specs.Progress.{Marked, numbered, RecordsAt, SomeRecordsAt, AllRecordAt}
 use Rattle.nk_policy.specs.After.{id_policy, drop_policy, has_dup, some_has_dup, after_dup, after, after_some, after_all}
@@ -63,6 +63,10 @@ cons_pass p ps a b pk v y r =
 test_pass : (f n : ℕ) → Ways (has_dup (test f n)) (way_of (test f n) numbered)
 test_pass f n pk v y r = pass_none (has_dup (test f n)) v r.1
 
+-- a range
+range_pass : (f lo hi : ℕ) → Ways (has_dup (range f lo hi)) (way_of (range f lo hi) numbered)
+range_pass f lo hi pk v y r = pass_none (has_dup (range f lo hi)) v r.2
+
 -- an assignment
 assign_pass : (f n : ℕ) → Ways (has_dup (assign f n)) (way_of (assign f n) numbered)
 assign_pass f n pk v y r = pass_none (has_dup (assign f n)) v r.0
@@ -94,6 +98,7 @@ mutual
   -- the numbers of a run are numbers of the policy
   pub run_dups : (p : Policy) → Ways (has_dup p) (way_of p numbered)
   run_dups (test f n) = test_pass f n
+  run_dups (range f lo hi) = range_pass f lo hi
   run_dups (assign f n) = assign_pass f n
   run_dups (sum_of ps) = some_run_dups ps
   run_dups (seq_of ps) = all_run_dups ps
@@ -163,6 +168,7 @@ mutual
   -- the numbers of a run so far are numbers of the policy
   pub front_dups : (p : Policy) → Fronts (has_dup p) (RecordsAt p)
   front_dups (test f n) = λ pk u x l r. absurd r
+  front_dups (range f lo hi) = λ pk u x l r. absurd r
   front_dups (assign f n) = λ pk u x l r. absurd r
   front_dups (sum_of ps) = some_front_dups ps
   front_dups (seq_of ps) = all_front_dups ps
@@ -211,6 +217,7 @@ mutual
   -- the dups of what is left are dups of the policy
   pub rest_dups : (p : Policy) (k l : ℕ) → has_dup (after p k) l ≡ true → has_dup p l ≡ true
   rest_dups (test f n) k l h = absurd (false_true h)
+  rest_dups (range f lo hi) k l h = absurd (false_true h)
   rest_dups (assign f n) k l h = absurd (false_true h)
   rest_dups (sum_of ps) k l h = some_rest_dups ps k l h
   rest_dups (seq_of ps) k l h = all_rest_dups ps k l h

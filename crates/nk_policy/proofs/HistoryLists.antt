@@ -1,19 +1,19 @@
 -- The list of histories has exactly those that the policy gives.
 use Rattle.std.proofs.Common.{◌≡◌, ℕ, ◌<◌, ◌≤◌, ◌+◌, Bool, true, false, ◌&&◌, inl, inr, ⊎_elim, List, [], ◌∷◌, ◌++◌, length, refl, sym, ap, subst, ◌∙◌, append_assoc, append-nil, drop, get_or}
-use Rattle.std.specs.Prelude.{◌==◌, ◌↔◌, Contains, if◌then◌else◌, slice_index, slice_set}
+use Rattle.std.specs.Prelude.{◌==◌, ◌↔◌, Contains, nat_le, if◌then◌else◌, slice_index, slice_set}
 use Rattle.std.specs.List.{flat_map}
 use Rattle.std.proofs.lemmas.List.{drop_all}
 use Rattle.nk_field.specs.declared.packet.Packet.{Packet}
 use Rattle.nk_field.specs.declared.history.History.{History}
 use Rattle.nk_field.proofs.Lists.{In, in_left, in_right, in_either, in_joined, from_joined, in_from_contains, contains_from_in}
-use Rattle.nk_policy.specs.Policy.{Policy, Policies, test, assign, sum_of, seq_of, not_of, star_of, dup, link, no_part, part}
+use Rattle.nk_policy.specs.Policy.{Policy, Policies, test, range, assign, sum_of, seq_of, not_of, star_of, dup, link, no_part, part}
 use Rattle.nk_policy.specs.Meaning.{Way, keep, Gives, some_way_of, way_of_all}
 use Rattle.nk_policy.specs.Histories.{at_packet, recorded, unless_any, histories_from, histories_of_some, histories_of_all, histories_of, IsFlat, AllFlat}
 use Rattle.nk_policy.specs.Tree.{tree_of, trees_of}
 use Rattle.nk_policy.specs.declared.policy.Pol.{Pol}
 use Rattle.nk_policy.proofs.Predicates.{predicate_keeps}
 use Rattle.nk_policy.proofs.Steps.{left_is}
-use Rattle.nk_policy.proofs.Tests.{both_true, same_test, same_from}
+use Rattle.nk_policy.proofs.Tests.{both_true, both_pass, same_test, same_from, at_most_test, at_most_from}
 
 -- a recorded packet without its number
 abbrev bare : ℕ → Packet → Packet
@@ -63,11 +63,6 @@ to_unless (f ∷ gs) h g none e = absurd (none f (inl refl))
 -- a list that is joined from an empty one and another is the other
 skip_empty : {A : Type 0} (w u v : List A) → w ≡ u ++ v → u ≡ [] → w ≡ v
 skip_empty w u v e f = e ∙ ap (λ t. t ++ v) f
-
--- two tests that each pass pass together
-and_true : (a b : Bool) → a ≡ true → b ≡ true → a && b ≡ true
-and_true true b h k = k
-and_true false b h k = cc
 
 -- the packet at a port
 abbrev at_port : Packet → ℕ → ℕ → Packet
@@ -136,6 +131,12 @@ mutual
       let t = from_test (slice_index h.last f == n) h g i in
       let s = from_same h g t.1 in
       (s.0, s.1, (same_from (slice_index h.last f) n t.0, s.2.0, s.2.1))
+  from_list (range f lo hi) flat h g i =
+      let v = slice_index h.last f in
+      let t = from_test (nat_le lo v && nat_le v hi) h g i in
+      let k = both_true (nat_le lo v) (nat_le v hi) t.0 in
+      let s = from_same h g t.1 in
+      (s.0, s.1, (at_most_from lo v k.0, at_most_from v hi k.1, s.2.0, s.2.1))
   from_list (assign f n) flat h g i =
       from_same (at_packet h (slice_set h.last f n)) g (⊎_elim (λ e. e) (λ k. absurd k) i)
   from_list (sum_of ps) flat h g i = from_list_of_some ps flat h g i
@@ -192,6 +193,10 @@ mutual
       → In (histories_from p h) g
   to_list (test f n) flat h g r =
       to_test (slice_index h.last f == n) h g (same_test (slice_index h.last f) n r.2.0) (to_same h g (r.0, r.1, (r.2.1, r.2.2)))
+  to_list (range f lo hi) flat h g r =
+      let v = slice_index h.last f in
+      let t = both_pass (nat_le lo v) (nat_le v hi) (at_most_test lo v r.2.0) (at_most_test v hi r.2.1) in
+      to_test (nat_le lo v && nat_le v hi) h g t (to_same h g (r.0, r.1, (r.2.2, r.2.3)))
   to_list (assign f n) flat h g r = inl (to_same (at_packet h (slice_set h.last f n)) g r)
   to_list (sum_of ps) flat h g r = to_list_of_some ps flat h g r
   to_list (seq_of ps) flat h g r = to_list_of_all ps flat h g r
@@ -214,7 +219,7 @@ mutual
       ((slice_index h.last 0 == a) && (slice_index h.last 1 == m))
       (recorded (at_packet (recorded h) y))
       g
-      (and_true (slice_index h.last 0 == a) (slice_index h.last 1 == m) (same_test _ a s.0) (same_test _ m s.1))
+      (both_pass (slice_index h.last 0 == a) (slice_index h.last 1 == m) (same_test _ a s.0) (same_test _ m s.1))
       (history_is g (recorded (at_packet (recorded h) y)) (r.1 ∙ ap (λ t. h.records ++ t) s.2 ∙ sym (append_assoc h.records (h.last ∷ []) (y ∷ []))) s.3)
 
   -- the same of a sum

@@ -2,7 +2,7 @@
 use Rattle.std.proofs.Common.{◌≡◌, ℕ, zero, suc, ◌+◌, Bool, true, false, ⊎_elim, sym, subst}
 use Rattle.std.specs.Prelude.{◌==◌, if◌then◌else◌, slice_set}
 use Rattle.nk_field.specs.declared.packet.Packet.{Packet}
-use Rattle.nk_policy.specs.Policy.{Policy, Policies, test, assign, sum_of, seq_of, not_of, star_of, dup, link, no_part, part}
+use Rattle.nk_policy.specs.Policy.{Policy, Policies, test, range, assign, sum_of, seq_of, not_of, star_of, dup, link, no_part, part}
 use Rattle.nk_policy.specs.Meaning.{Way, followed_by, rounds, way_of, some_way_of, way_of_all}
 use Rattle.nk_policy.specs.Progress.{Marked, Front, numbered, within_either, RecordsAt, SomeRecordsAt, AllRecordAt}
 use Rattle.nk_policy.specs.After.{id_policy, drop_policy, has_dup, after_dup, after, after_some, after_all}
@@ -32,6 +32,7 @@ module _ (Allowed : ℕ → ℕ → Type 0) (P : Packet → Type 0)
     -- each way of a policy keeps it
     pub ways_keep : (p : Policy) → AssignsOnly Allowed p → Keeps (way_of p numbered)
     ways_keep (test f n) q pk w y r h = same_keeps pk y r.2 h
+    ways_keep (range f lo hi) q pk w y r h = same_keeps pk y r.3 h
     ways_keep (assign f n) q pk w y r h = same_keeps (slice_set pk f n) y r.1 (set_keeps pk f n q h)
     ways_keep (sum_of ps) q pk w y r h = some_ways_keep ps q pk w y r h
     ways_keep (seq_of ps) q pk w y r h = all_ways_keep ps q pk w y r h
@@ -93,6 +94,7 @@ module _ (Allowed : ℕ → ℕ → Type 0) (P : Packet → Type 0)
     -- what a policy records has it
     pub records_keep : (p : Policy) → AssignsOnly Allowed p → Records (RecordsAt p)
     records_keep (test f n) q pk u x l r h = absurd r
+    records_keep (range f lo hi) q pk u x l r h = absurd r
     records_keep (assign f n) q pk u x l r h = absurd r
     records_keep (sum_of ps) q pk u x l r h = some_records_keep ps q pk u x l r h
     records_keep (seq_of ps) q pk u x l r h = all_records_keep ps q pk u x l r h
@@ -136,6 +138,7 @@ module _ (Allowed : ℕ → ℕ → Type 0) (P : Packet → Type 0)
     -- of a policy
     pub after_assigns : (p : Policy) (k : ℕ) → AssignsOnly Allowed p → AssignsOnly Allowed (after p k)
     after_assigns (test f n) k q = tt
+    after_assigns (range f lo hi) k q = tt
     after_assigns (assign f n) k q = tt
     after_assigns (sum_of ps) k q = after_some_assigns ps k q
     after_assigns (seq_of ps) k q = after_all_assigns ps k q

@@ -2,7 +2,7 @@
 use Rattle.std.proofs.Common.{◌≡◌, ℕ, zero, suc, ◌+◌, Bool, true, false, inl, inr, ⊎_elim, [], refl, sym, ap, subst, ◌∙◌, get_or-set_other}
 use Rattle.std.specs.Prelude.{◌==◌, ◌||◌, if◌then◌else◌, slice_index, slice_set}
 use Rattle.nk_field.specs.declared.packet.Packet.{Packet}
-use Rattle.nk_policy.specs.Policy.{Policy, Policies, test, assign, sum_of, seq_of, not_of, star_of, dup, link, no_part, part}
+use Rattle.nk_policy.specs.Policy.{Policy, Policies, test, range, assign, sum_of, seq_of, not_of, star_of, dup, link, no_part, part}
 use Rattle.nk_policy.specs.Meaning.{rounds, way_of}
 use Rattle.nk_policy.specs.Progress.{Marked, numbered, RecordsAt}
 use Rattle.nk_policy.specs.After.{id_policy, drop_policy, has_dup, some_has_dup, after, after_some, after_all}
@@ -18,6 +18,7 @@ mutual
   -- the first dup
   pub holds_first : (p : Policy) (k : Literal) → HoldsLiteral p k → has_dup p k.mark ≡ true
   holds_first (test f n) k h = absurd h
+  holds_first (range f lo hi) k h = absurd h
   holds_first (assign f n) k h = absurd h
   holds_first (sum_of ps) k h = some_hold_first ps k h
   holds_first (seq_of ps) k h = some_hold_first ps k h
@@ -41,6 +42,7 @@ mutual
   -- the second dup
   pub holds_second : (p : Policy) (k : Literal) → HoldsLiteral p k → has_dup p (k.mark + 1) ≡ true
   holds_second (test f n) k h = absurd h
+  holds_second (range f lo hi) k h = absurd h
   holds_second (assign f n) k h = absurd h
   holds_second (sum_of ps) k h = some_hold_second ps k h
   holds_second (seq_of ps) k h = some_hold_second ps k h
@@ -149,6 +151,7 @@ mutual
   pub on_link : (p : Policy) → HasDistinct p → (k : Literal) → HoldsLiteral p k
       → IsOnLink k (after p k.mark)
   on_link (test f n) d k h = absurd h
+  on_link (range f lo hi) d k h = absurd h
   on_link (assign f n) d k h = absurd h
   on_link (sum_of ps) d k h = some_on_link ps d k h
   on_link (seq_of ps) d k h = all_on_link ps d k h
@@ -293,6 +296,7 @@ module _ (Near : Packet → Packet → Type 0) (same : (y : Packet) → Near y y
     near_between : (p : Policy) → has_leaf is_dup p ≡ false → has_leaf is p ≡ false
         → NearBetween Near (HoldsLiteral p) p
     near_between (test f n) d s = record { records = λ y x l r. absurd r; ends = λ y z r. equal y z r.2 }
+    near_between (range f lo hi) d s = record { records = λ y x l r. absurd r; ends = λ y z r. equal y z r.3 }
     near_between (assign f n) d s = record {
       records = λ y x l r. absurd r;
       ends = λ y z r. subst (Near y) (sym r.1) (keeps f n y s);
@@ -345,6 +349,7 @@ module _ (Near : Packet → Packet → Type 0) (same : (y : Packet) → Near y y
         → (k : Literal) → HoldsLiteral p k
         → NearBetween Near (HoldsLiteral p) (after p (k.mark + 1))
     near_off_link (test f n) i d s k h = absurd h
+    near_off_link (range f lo hi) i d s k h = absurd h
     near_off_link (assign f n) i d s k h = absurd h
     near_off_link (sum_of ps) i d s k h = some_near_off_link ps i d s k h
     near_off_link (seq_of ps) i d s k h = all_near_off_link ps i d s k h
@@ -444,6 +449,7 @@ mutual
   -- of a policy
   none_passes : (p : Policy) → has_leaf (λ q. false) p ≡ false
   none_passes (test f n) = refl
+  none_passes (range f lo hi) = refl
   none_passes (assign f n) = refl
   none_passes (sum_of ps) = none_of_parts ps
   none_passes (seq_of ps) = none_of_parts ps

@@ -2,8 +2,8 @@
 use Rattle.std.proofs.Common.{◌≡◌, ℕ, zero, suc, ◌+◌, inl, inr, ⊎_elim, List, [], ◌∷◌, ◌++◌, refl, sym, ap, subst, ◌∙◌}
 use Rattle.std.specs.Prelude.{map}
 use Rattle.nk_field.specs.declared.packet.Packet.{Packet}
-use Rattle.nk_policy.specs.Policy.{Policy, Policies, test, assign, sum_of, seq_of, not_of, star_of, dup, link, no_part, part}
-use Rattle.nk_policy.specs.Meaning.{Way, keep, keep_where, set_field, record_as, followed_by, rounds, way_of, some_way_of, way_of_all}
+use Rattle.nk_policy.specs.Policy.{Policy, Policies, test, range, assign, sum_of, seq_of, not_of, star_of, dup, link, no_part, part}
+use Rattle.nk_policy.specs.Meaning.{Way, keep, keep_where, keep_within, set_field, record_as, followed_by, rounds, way_of, some_way_of, way_of_all}
 use Rattle.nk_field.proofs.Lists.{map_joined}
 use Rattle.nk_policy.proofs.ListParts.{map_empty}
 
@@ -21,6 +21,13 @@ module _ {A B : Type 0} (f : A → B) where
   -- a test
   keep_where_agrees : (g n : ℕ) → Agree (keep_where g n) (keep_where g n)
   keep_where_agrees g n pk y = (λ v r. (r.0, ap (map f) r.1, r.2), λ w r. ([], sym r.1, (r.0, refl, r.2)))
+
+  -- a range
+  keep_within_agrees : (g lo hi : ℕ) → Agree (keep_within g lo hi) (keep_within g lo hi)
+  keep_within_agrees g lo hi pk y = (
+    λ v r. (r.0, r.1, ap (map f) r.2, r.3),
+    λ w r. ([], sym r.2, (r.0, r.1, refl, r.3)),
+  )
 
   -- an assignment
   set_agrees : (g n : ℕ) → Agree (set_field g n) (set_field g n)
@@ -55,6 +62,7 @@ module _ {A B : Type 0} (f : A → B) where
       -- a policy
       pub ways_agree : (p : Policy) → Agree (way_of p mark) (way_of p marked_too)
       ways_agree (test g n) = keep_where_agrees g n
+      ways_agree (range g lo hi) = keep_within_agrees g lo hi
       ways_agree (assign g n) = set_agrees g n
       ways_agree (sum_of ps) = some_ways_agree ps
       ways_agree (seq_of ps) = all_ways_agree ps

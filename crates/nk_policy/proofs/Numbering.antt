@@ -1,7 +1,7 @@
 -- Dups numbered in text order have different numbers, from the first one on.
 use Rattle.std.proofs.Common.{◌≡◌, ℕ, ◌+◌, ◌<◌, ◌≤◌, true, ⊎_elim, ap, subst, ◌∙◌, arith}
 use Rattle.std.specs.Prelude.{◌==◌}
-use Rattle.nk_policy.specs.Policy.{Policy, Policies, test, assign, sum_of, seq_of, not_of, star_of, dup, link, no_part, part, dups_of, dups_of_all, marked_from, all_marked_from}
+use Rattle.nk_policy.specs.Policy.{Policy, Policies, test, range, assign, sum_of, seq_of, not_of, star_of, dup, link, no_part, part, dups_of, dups_of_all, marked_from, all_marked_from}
 use Rattle.nk_policy.specs.After.{has_dup, some_has_dup}
 use Rattle.nk_policy.specs.Distinct.{HasDistinct, AllDistinct}
 use Rattle.nk_policy.specs.PositionSets.{IsNumbered, AreSides}
@@ -12,6 +12,7 @@ mutual
   pub number_within : (p : Policy) (n l : ℕ) → has_dup (marked_from p n) l ≡ true
       → (n ≤ l) × (l < n + dups_of p)
   number_within (test f m) n l h = absurd (false_true h)
+  number_within (range f lo hi) n l h = absurd (false_true h)
   number_within (assign f m) n l h = absurd (false_true h)
   number_within (sum_of ps) n l h = numbers_within ps n l h
   number_within (seq_of ps) n l h = numbers_within ps n l h
@@ -38,6 +39,7 @@ mutual
   -- they differ
   pub marked_distinct : (p : Policy) (n : ℕ) → HasDistinct (marked_from p n)
   marked_distinct (test f m) n = tt
+  marked_distinct (range f lo hi) n = tt
   marked_distinct (assign f m) n = tt
   marked_distinct (sum_of ps) n = all_marked_distinct ps n
   marked_distinct (seq_of ps) n = all_marked_distinct ps n

@@ -3,7 +3,7 @@
 use Rattle.std.proofs.Common.{◌≡◌, ℕ, zero, suc, ◌+◌, ◌*◌, ◌<◌, true, false, ⊎_elim, List, [], ◌∷◌, ◌++◌, length, refl, sym, ap, subst, ◌∙◌, arith, length-append}
 use Rattle.std.specs.Prelude.{◌==◌, map}
 use Rattle.nk_field.specs.declared.packet.Packet.{Packet}
-use Rattle.nk_policy.specs.Policy.{Policy, Policies, test, assign, sum_of, seq_of, not_of, star_of, dup, link, no_part, part}
+use Rattle.nk_policy.specs.Policy.{Policy, Policies, test, range, assign, sum_of, seq_of, not_of, star_of, dup, link, no_part, part}
 use Rattle.nk_policy.specs.Meaning.{Gives, Runs}
 use Rattle.nk_policy.specs.Progress.{Marked, RecordsAt}
 use Rattle.nk_policy.specs.After.{has_dup, some_has_dup, after}
@@ -21,6 +21,7 @@ abbrev mutual
   -- of one policy
   pub bound_of : Policy → ℕ
   bound_of (test f n) = 0
+  bound_of (range f lo hi) = 0
   bound_of (assign f n) = 0
   bound_of (sum_of ps) = bound_of_all ps
   bound_of (seq_of ps) = bound_of_all ps
@@ -38,6 +39,7 @@ mutual
   -- each dup is below it
   pub dups_below : (p : Policy) (l : ℕ) → has_dup p l ≡ true → l < bound_of p
   dups_below (test f n) l h = absurd (false_true h)
+  dups_below (range f lo hi) l h = absurd (false_true h)
   dups_below (assign f n) l h = absurd (false_true h)
   dups_below (sum_of ps) l h = all_dups_below ps l h
   dups_below (seq_of ps) l h = all_dups_below ps l h

@@ -4,7 +4,7 @@ use Rattle.std.specs.Prelude.{◌==◌, if◌then◌else◌, ◌↔◌, Contains
 use Rattle.nk_field.specs.declared.packet.Packet.{Packet}
 use Rattle.nk_field.proofs.Lists.{in_from_contains, contains_from_in}
 use Rattle.nk_field.proofs.Ascending.{rising_from, increasing_from, one_list}
-use Rattle.nk_policy.specs.Policy.{Policy, Policies, test, assign, sum_of, seq_of, not_of, star_of, dup, link, no_part, part}
+use Rattle.nk_policy.specs.Policy.{Policy, Policies, test, range, assign, sum_of, seq_of, not_of, star_of, dup, link, no_part, part}
 use Rattle.nk_policy.specs.Meaning.{Gives, way_of}
 use Rattle.nk_policy.specs.Progress.{numbered, RecordsAt}
 use Rattle.nk_policy.specs.After.{id_policy, drop_policy, has_dup, some_has_dup, after_dup, after, after_some, after_all}
@@ -200,6 +200,7 @@ mutual
   -- nothing is left after a dup that the policy hasn't
   nothing_left : (p : Policy) (k : ℕ) → has_dup p k ≡ false → Nothing (after p k)
   nothing_left (test f n) k h = drop_nothing
+  nothing_left (range f lo hi) k h = drop_nothing
   nothing_left (assign f n) k h = drop_nothing
   nothing_left (sum_of ps) k h = nothing_of_some ps k h
   nothing_left (seq_of ps) k h = nothing_of_all ps k h

@@ -3,7 +3,7 @@
 use Rattle.std.proofs.Common.{◌≡◌, ℕ, zero, suc, ◌+◌, Bool, true, false, inl, inr, ⊎_elim, ◌∷◌, ◌++◌, refl, sym, ap, subst, ◌∙◌, append_assoc}
 use Rattle.std.specs.Prelude.{◌==◌, if◌then◌else◌}
 use Rattle.nk_field.specs.declared.packet.Packet.{Packet}
-use Rattle.nk_policy.specs.Policy.{Policy, Policies, test, assign, sum_of, seq_of, not_of, star_of, dup, link, no_part, part}
+use Rattle.nk_policy.specs.Policy.{Policy, Policies, test, range, assign, sum_of, seq_of, not_of, star_of, dup, link, no_part, part}
 use Rattle.nk_policy.specs.Meaning.{rounds, way_of}
 use Rattle.nk_policy.specs.Progress.{Marked, numbered, RecordsAt, SomeRecordsAt, AllRecordAt}
 use Rattle.nk_policy.specs.After.{id_policy, drop_policy, has_dup, after, after_some, after_all}
@@ -99,9 +99,17 @@ none_go_on pk u x k v y l r s = absurd r
 test_passes : (f n : ℕ) → Passes (test f n)
 test_passes f n pk u x k v y l r = absurd r
 
+-- a range
+range_passes : (f lo hi : ℕ) → Passes (range f lo hi)
+range_passes f lo hi pk u x k v y l r = absurd r
+
 -- and the other way
 test_goes_on : (f n : ℕ) → GoesOn (test f n)
 test_goes_on f n pk u x k v y l r s = absurd r
+
+-- and the other way
+range_goes_on : (f lo hi : ℕ) → GoesOn (range f lo hi)
+range_goes_on f lo hi pk u x k v y l r s = absurd r
 
 -- an assignment
 assign_passes : (f n : ℕ) → Passes (assign f n)
@@ -206,6 +214,7 @@ mutual
   -- each policy whose dups differ
   pub passes : (p : Policy) → HasDistinct p → Passes p
   passes (test f n) d = test_passes f n
+  passes (range f lo hi) d = range_passes f lo hi
   passes (assign f n) d = assign_passes f n
   passes (sum_of ps) d = λ pk u x k v y l r. some_pass ps d pk u x k v y l r
   passes (seq_of ps) d = λ pk u x k v y l r. all_pass ps d pk u x k v y l r
@@ -239,6 +248,7 @@ mutual
   -- and the other way
   pub goes_on : (p : Policy) → HasDistinct p → GoesOn p
   goes_on (test f n) d = test_goes_on f n
+  goes_on (range f lo hi) d = range_goes_on f lo hi
   goes_on (assign f n) d = assign_goes_on f n
   goes_on (sum_of ps) d = λ pk u x k v y l r s. some_go_on ps d pk u x k v y l r s
   goes_on (seq_of ps) d = λ pk u x k v y l r s. all_go_on ps d pk u x k v y l r s

@@ -1,7 +1,7 @@
 -- A predicate keeps the packet and records nothing.
 use Rattle.std.proofs.Common.{◌≡◌, ℕ, true, ⊎_elim, List, [], ◌++◌, ap, ◌∙◌}
 use Rattle.nk_field.specs.declared.packet.Packet.{Packet}
-use Rattle.nk_policy.specs.Policy.{Policy, Policies, test, assign, sum_of, seq_of, not_of, star_of, dup, link, no_part, part, is_predicate, are_predicates}
+use Rattle.nk_policy.specs.Policy.{Policy, Policies, test, range, assign, sum_of, seq_of, not_of, star_of, dup, link, no_part, part, is_predicate, are_predicates}
 use Rattle.nk_policy.specs.Meaning.{way_of, some_way_of, way_of_all}
 use Rattle.nk_policy.proofs.Tests.{both_true}
 
@@ -11,6 +11,7 @@ module _ {A : Type 0} (mark : ℕ → Packet → A) where
     pub predicate_keeps : (p : Policy) → is_predicate p ≡ true
         → (pk : Packet) (w : List A) (y : Packet) → way_of p mark pk w y → (w ≡ []) × (y ≡ pk)
     predicate_keeps (test f n) h pk w y r = (r.1, r.2)
+    predicate_keeps (range f lo hi) h pk w y r = (r.2, r.3)
     predicate_keeps (assign f n) h pk w y r = cc
     predicate_keeps (sum_of ps) h pk w y r = some_predicate_keeps ps h pk w y r
     predicate_keeps (seq_of ps) h pk w y r = predicates_keep ps h pk w y r

@@ -4,7 +4,7 @@ use Rattle.std.specs.Prelude.{◌==◌, ◌||◌, ◌&&◌, ◌↔◌, Contains}
 use Rattle.std.specs.List.{range_with_len}
 use Rattle.nk_field.specs.declared.packet.Packet.{Packet}
 use Rattle.nk_field.proofs.Lists.{In, in_left, in_right, in_either, in_from_contains, contains_from_in}
-use Rattle.nk_policy.specs.Policy.{Policy, Policies, test, assign, sum_of, seq_of, not_of, star_of, dup, link, no_part, part, depth_of, depths_of, size_of, sizes_of, dups_of, dups_of_all, numbers_of, numbers_of_all, is_predicate, are_predicates, marked_from, all_marked_from, without_links, all_without_links}
+use Rattle.nk_policy.specs.Policy.{Policy, Policies, test, range, assign, sum_of, seq_of, not_of, star_of, dup, link, no_part, part, depth_of, depths_of, size_of, sizes_of, dups_of, dups_of_all, numbers_of, numbers_of_all, is_predicate, are_predicates, marked_from, all_marked_from, without_links, all_without_links}
 use Rattle.nk_policy.specs.Meaning.{Way, keep, followed_by, rounds, way_of, some_way_of, way_of_all}
 use Rattle.nk_policy.specs.Progress.{Front, numbered, no_dup, within_either, RecordsAt, SomeRecordsAt, AllRecordAt}
 use Rattle.nk_policy.specs.After.{has_dup, some_has_dup}
@@ -34,6 +34,7 @@ module _ {A : Type 0} (f : Packet → A) where
     -- a policy that is numbered anew
     pub marked_ways : (p : Policy) (n : ℕ) → way_of (marked_from p n) bare ≡ way_of p bare
     marked_ways (test g m) n = refl
+    marked_ways (range g lo hi) n = refl
     marked_ways (assign g m) n = refl
     marked_ways (sum_of ps) n = some_marked_ways ps n
     marked_ways (seq_of ps) n = all_marked_ways ps n
@@ -64,6 +65,7 @@ module _ {A : Type 0} (mark : ℕ → Packet → A) where
     -- a policy
     pub written_ways : (p : Policy) → way_of (without_links p) mark ≡ way_of p mark
     written_ways (test g m) = refl
+    written_ways (range g lo hi) = refl
     written_ways (assign g m) = refl
     written_ways (sum_of ps) = some_written_ways ps
     written_ways (seq_of ps) = all_written_ways ps
@@ -98,6 +100,7 @@ mutual
   -- and the same runs so far
   pub written_records : (p : Policy) → RecordsAt (without_links p) ≡ RecordsAt p
   written_records (test g m) = refl
+  written_records (range g lo hi) = refl
   written_records (assign g m) = refl
   written_records (sum_of ps) = some_written_records ps
   written_records (seq_of ps) = all_written_records ps
@@ -132,6 +135,7 @@ mutual
   -- and the same dups
   pub written_dups : (p : Policy) (l : ℕ) → has_dup (without_links p) l ≡ has_dup p l
   written_dups (test g m) l = refl
+  written_dups (range g lo hi) l = refl
   written_dups (assign g m) l = refl
   written_dups (sum_of ps) l = all_written_dups ps l
   written_dups (seq_of ps) l = all_written_dups ps l
@@ -151,6 +155,7 @@ mutual
   -- the depth
   pub marked_depth : (p : Policy) (n : ℕ) → depth_of (marked_from p n) ≡ depth_of p
   marked_depth (test g m) n = refl
+  marked_depth (range g lo hi) n = refl
   marked_depth (assign g m) n = refl
   marked_depth (sum_of ps) n = ap (λ d. 1 + d) (marked_depths ps n)
   marked_depth (seq_of ps) n = ap (λ d. 1 + d) (marked_depths ps n)
@@ -170,6 +175,7 @@ mutual
   -- the size
   pub marked_size : (p : Policy) (n : ℕ) → size_of (marked_from p n) ≡ size_of p
   marked_size (test g m) n = refl
+  marked_size (range g lo hi) n = refl
   marked_size (assign g m) n = refl
   marked_size (sum_of ps) n = ap (λ d. 1 + d) (marked_sizes ps n)
   marked_size (seq_of ps) n = ap (λ d. 1 + d) (marked_sizes ps n)
@@ -189,6 +195,7 @@ mutual
   -- how many dups
   pub marked_dups : (p : Policy) (n : ℕ) → dups_of (marked_from p n) ≡ dups_of p
   marked_dups (test g m) n = refl
+  marked_dups (range g lo hi) n = refl
   marked_dups (assign g m) n = refl
   marked_dups (sum_of ps) n = all_marked_dups ps n
   marked_dups (seq_of ps) n = all_marked_dups ps n
@@ -208,6 +215,7 @@ mutual
   -- whether it is a predicate
   pub marked_predicate : (p : Policy) (n : ℕ) → is_predicate (marked_from p n) ≡ is_predicate p
   marked_predicate (test g m) n = refl
+  marked_predicate (range g lo hi) n = refl
   marked_predicate (assign g m) n = refl
   marked_predicate (sum_of ps) n = marked_predicates ps n
   marked_predicate (seq_of ps) n = marked_predicates ps n
@@ -239,6 +247,7 @@ mutual
   pub marked_numbers : (p : Policy) (n : ℕ)
       → numbers_of (marked_from p n) ≡ range_with_len n (dups_of p)
   marked_numbers (test g m) n = refl
+  marked_numbers (range g lo hi) n = refl
   marked_numbers (assign g m) n = refl
   marked_numbers (sum_of ps) n = all_marked_numbers ps n
   marked_numbers (seq_of ps) n = all_marked_numbers ps n
@@ -260,6 +269,7 @@ mutual
   -- a dup's number stands among the numbers
   number_listed : (p : Policy) (l : ℕ) → has_dup p l ≡ true → In (numbers_of p) l
   number_listed (test g m) l h = absurd (false_true h)
+  number_listed (range g lo hi) l h = absurd (false_true h)
   number_listed (assign g m) l h = absurd (false_true h)
   number_listed (sum_of ps) l h = number_of_part ps l h
   number_listed (seq_of ps) l h = number_of_part ps l h
@@ -282,6 +292,7 @@ mutual
   -- a listed number is a dup's
   listed_number : (p : Policy) (l : ℕ) → In (numbers_of p) l → has_dup p l ≡ true
   listed_number (test g m) l h = absurd h
+  listed_number (range g lo hi) l h = absurd h
   listed_number (assign g m) l h = absurd h
   listed_number (sum_of ps) l h = part_of_number ps l h
   listed_number (seq_of ps) l h = part_of_number ps l h
@@ -314,6 +325,7 @@ mutual
   -- to number a policy once more is to number it once
   pub marked_again : (p : Policy) (m n : ℕ) → marked_from (marked_from p m) n ≡ marked_from p n
   marked_again (test g k) m n = refl
+  marked_again (range g lo hi) m n = refl
   marked_again (assign g k) m n = refl
   marked_again (sum_of ps) m n = ap sum_of (all_marked_again ps m n)
   marked_again (seq_of ps) m n = ap seq_of (all_marked_again ps m n)

@@ -2,7 +2,7 @@
 use Rattle.std.proofs.Common.{◌≡◌, ℕ, ◌+◌, Bool, true, false, inl, inr, ⊎_elim, ◌∷◌, ◌++◌, sym, ap, subst, ◌∙◌, append_assoc, refl}
 use Rattle.std.specs.Prelude.{◌==◌, if◌then◌else◌}
 use Rattle.nk_field.specs.declared.packet.Packet.{Packet}
-use Rattle.nk_policy.specs.Policy.{Policy, Policies, test, assign, sum_of, seq_of, not_of, star_of, dup, link, no_part, part}
+use Rattle.nk_policy.specs.Policy.{Policy, Policies, test, range, assign, sum_of, seq_of, not_of, star_of, dup, link, no_part, part}
 use Rattle.nk_policy.specs.Meaning.{way_of}
 use Rattle.nk_policy.specs.Progress.{Marked, numbered, RecordsAt, AllRecordAt}
 use Rattle.nk_policy.specs.After.{has_dup, after, after_some, after_all}
@@ -188,6 +188,10 @@ module _ (p : Policy) (d : HasDistinct p) (k : ℕ) (one : Again p k)
 test_on : (f n k : ℕ) → GoesBy (after (test f n) k) (after (test f n))
 test_on f n k = silent_goes (after (test f n) k) (after (test f n)) (λ pk u x l r. r)
 
+-- what is left of a range goes on as the range
+range_on : (f lo hi k : ℕ) → GoesBy (after (range f lo hi) k) (after (range f lo hi))
+range_on f lo hi k = silent_goes (after (range f lo hi) k) (after (range f lo hi)) (λ pk u x l r. r)
+
 -- of an assignment
 assign_on : (f n k : ℕ) → GoesBy (after (assign f n) k) (after (assign f n))
 assign_on f n k = silent_goes (after (assign f n) k) (after (assign f n)) (λ pk u x l r. r)
@@ -224,6 +228,7 @@ mutual
   -- what is left after any dup goes on as the policy does
   pub rest_goes : (p : Policy) → HasDistinct p → (k : ℕ) → GoesBy (after p k) (after p)
   rest_goes (test f n) d k = test_on f n k
+  rest_goes (range f lo hi) d k = range_on f lo hi k
   rest_goes (assign f n) d k = assign_on f n k
   rest_goes (sum_of ps) d k = let g = some_rest_goes ps d k in record { pass = g.pass; go = g.go }
   rest_goes (seq_of ps) d k = let g = all_rest_goes ps d k in record { pass = g.pass; go = g.go }

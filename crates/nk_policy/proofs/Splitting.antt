@@ -1,7 +1,7 @@
 -- A run that records something at a dup is a run up to that dup, and a run of what is left after it.
 use Rattle.std.proofs.Common.{◌≡◌, ℕ, zero, suc, ◌+◌, Bool, true, false, inl, inr, ⊎_elim, [], ◌∷◌, ◌++◌, refl, sym, ap, subst, ◌∙◌, arith, append_assoc, append-nil}
 use Rattle.std.specs.Prelude.{◌==◌, ◌||◌, if◌then◌else◌}
-use Rattle.nk_policy.specs.Policy.{Policy, Policies, test, assign, sum_of, seq_of, not_of, star_of, dup, link, no_part, part, link_parts}
+use Rattle.nk_policy.specs.Policy.{Policy, Policies, test, range, assign, sum_of, seq_of, not_of, star_of, dup, link, no_part, part, link_parts}
 use Rattle.nk_field.specs.declared.packet.Packet.{Packet}
 use Rattle.nk_policy.specs.Meaning.{followed_by, rounds, way_of, some_way_of, way_of_all}
 use Rattle.nk_policy.specs.Progress.{Marked, numbered, no_dup, within_either, RecordsAt, SomeRecordsAt, AllRecordAt}
@@ -81,6 +81,7 @@ mutual
   -- a policy
   pub holds_dup : (p : Policy) → HoldsDup p
   holds_dup (test f n) pk u x l r = absurd r
+  holds_dup (range f lo hi) pk u x l r = absurd r
   holds_dup (assign f n) pk u x l r = absurd r
   holds_dup (sum_of ps) pk u x l r = some_hold_dup ps pk u x l r
   holds_dup (seq_of ps) pk u x l r = all_hold_dup ps pk u x l r
@@ -145,6 +146,10 @@ cons_splits p ps apart h hs split splits pk u x l v y r =
 -- a test
 pub test_splits : (f n : ℕ) → Splits (test f n)
 test_splits f n pk u x l v y r = absurd (no_middle u (x, l) v r.1)
+
+-- a range
+pub range_splits : (f lo hi : ℕ) → Splits (range f lo hi)
+range_splits f lo hi pk u x l v y r = absurd (no_middle u (x, l) v r.2)
 
 -- an assignment
 pub assign_splits : (f n : ℕ) → Splits (assign f n)
@@ -215,6 +220,7 @@ mutual
   -- each policy whose dups differ
   pub splits : (p : Policy) → HasDistinct p → Splits p
   splits (test f n) d = test_splits f n
+  splits (range f lo hi) d = range_splits f lo hi
   splits (assign f n) d = assign_splits f n
   splits (sum_of ps) d = λ pk u x l v y r. some_split ps d pk u x l v y r
   splits (seq_of ps) d = λ pk u x l v y r. all_split ps d pk u x l v y r
@@ -277,6 +283,10 @@ cons_joins p ps apart h hs join joins pk u x l v y at rest =
 pub test_joins : (f n : ℕ) → Joins (test f n)
 test_joins f n pk u x l v y at rest = absurd at
 
+-- a range
+pub range_joins : (f lo hi : ℕ) → Joins (range f lo hi)
+range_joins f lo hi pk u x l v y at rest = absurd at
+
 -- an assignment
 pub assign_joins : (f n : ℕ) → Joins (assign f n)
 assign_joins f n pk u x l v y at rest = absurd at
@@ -338,6 +348,7 @@ mutual
   -- each policy whose dups differ
   pub joins : (p : Policy) → HasDistinct p → Joins p
   joins (test f n) d = test_joins f n
+  joins (range f lo hi) d = range_joins f lo hi
   joins (assign f n) d = assign_joins f n
   joins (sum_of ps) d = λ pk u x l v y at rest. some_join ps d pk u x l v y at rest
   joins (seq_of ps) d = λ pk u x l v y at rest. all_join ps d pk u x l v y at rest

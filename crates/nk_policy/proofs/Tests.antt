@@ -1,6 +1,7 @@
 -- Tests: alternatives, conjunctions and equality of numbers.
-use Rattle.std.proofs.Common.{◌≡◌, ℕ, ◌+◌, Bool, true, false, ◌⊎◌, inl, inr, ◌&&◌, refl, arith}
-use Rattle.std.specs.Prelude.{◌==◌, ◌||◌}
+use Rattle.std.proofs.Common.{◌≡◌, ℕ, ◌+◌, ◌≤◌, Bool, true, false, ◌⊎◌, inl, inr, ◌&&◌, refl, arith}
+use Rattle.std.specs.Prelude.{◌==◌, ◌||◌, nat_le}
+use Rattle.std.proofs.lemmas.Bool.Decides.{nat_tests}
 
 -- a test that fails doesn't pass
 pub false_true : false ≡ true → ⊥
@@ -42,6 +43,11 @@ pub both_true : (a b : Bool) → a && b ≡ true → (a ≡ true) × (b ≡ true
 both_true true b h = (refl, h)
 both_true false b h = cc
 
+-- two tests that each pass pass together
+pub both_pass : (a b : Bool) → a ≡ true → b ≡ true → a && b ≡ true
+both_pass true b h k = k
+both_pass false b h k = cc
+
 -- a number passes the test with itself
 pub same_number : (l : ℕ) → l == l ≡ true
 same_number l = grind arith
@@ -57,6 +63,14 @@ same_test l k e = grind (arith, e)
 -- numbers that pass the test are equal
 pub same_from : (l k : ℕ) → l == k ≡ true → l ≡ k
 same_from l k h = grind (arith, h)
+
+-- a number that is at most another passes the test for that
+pub at_most_test : (m n : ℕ) → m ≤ n → nat_le m n ≡ true
+at_most_test m n h = grind (arith, nat_tests)
+
+-- and one that passes it is
+pub at_most_from : (m n : ℕ) → nat_le m n ≡ true → m ≤ n
+at_most_from m n h = grind (arith, nat_tests)
 
 -- numbers that fail the test differ
 pub other_from : (l k : ℕ) → l == k ≡ false → l ≡ k → ⊥

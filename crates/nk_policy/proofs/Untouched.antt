@@ -3,7 +3,7 @@ use Rattle.std.proofs.Common.{◌≡◌, ◌≢◌, ℕ, ◌≤◌, false, ap, �
 use Rattle.std.specs.Prelude.{◌==◌, slice_set}
 use Rattle.std.proofs.lemmas.List.{set_comm}
 use Rattle.nk_field.specs.declared.packet.Packet.{Packet}
-use Rattle.nk_policy.specs.Policy.{Policy, Policies, test, assign, sum_of, seq_of, not_of, star_of, dup, link, no_part, part}
+use Rattle.nk_policy.specs.Policy.{Policy, Policies, test, range, assign, sum_of, seq_of, not_of, star_of, dup, link, no_part, part}
 use Rattle.nk_policy.specs.Leaves.{has_leaf, some_has_leaf, is_on_field}
 use Rattle.nk_policy.specs.Ranges.{AssignsOnly, AllAssignOnly}
 use Rattle.nk_policy.proofs.Tests.{both_false}
@@ -22,6 +22,7 @@ module _ (tag : ℕ) (past : 2 ≤ tag) where
     pub assigns_others : (p : Policy) → has_leaf (is_on_field tag) p ≡ false
         → AssignsOnly (IsOther tag) p
     assigns_others (test f n) h = tt
+    assigns_others (range f lo hi) h = tt
     assigns_others (assign f n) h = other_field tag f h
     assigns_others (sum_of ps) h = all_assign_others ps h
     assigns_others (seq_of ps) h = all_assign_others ps h

@@ -1,7 +1,7 @@
 -- The tests and assignments of a policy: those of policies made from it are among them.
 use Rattle.std.proofs.Common.{ℕ, ◌+◌, Bool, true, false}
 use Rattle.std.specs.Prelude.{◌==◌, ◌↔◌, if◌then◌else◌}
-use Rattle.nk_policy.specs.Policy.{Policy, Policies, test, assign, sum_of, seq_of, not_of, star_of, dup, link, no_part, part, dups_of, marked_from, all_marked_from, without_links, all_without_links}
+use Rattle.nk_policy.specs.Policy.{Policy, Policies, test, range, assign, sum_of, seq_of, not_of, star_of, dup, link, no_part, part, dups_of, marked_from, all_marked_from, without_links, all_without_links}
 use Rattle.nk_policy.specs.After.{id_policy, drop_policy, has_dup, after_dup, after, after_some, after_all}
 use Rattle.nk_policy.specs.Ranges.{AssignsOnly, AllAssignOnly, UsesOnly, AllUseOnly}
 
@@ -10,6 +10,7 @@ module _ (Allowed More : ℕ → ℕ → Type 0) (more : (f n : ℕ) → Allowed
     -- the assignments are among the tests and assignments
     pub assigns_from_uses : (p : Policy) → UsesOnly Allowed p → AssignsOnly More p
     assigns_from_uses (test f n) u = tt
+    assigns_from_uses (range f lo hi) u = tt
     assigns_from_uses (assign f n) u = more f n u
     assigns_from_uses (sum_of ps) u = all_assign_from_uses ps u
     assigns_from_uses (seq_of ps) u = all_assign_from_uses ps u
@@ -28,6 +29,7 @@ module _ (Allowed : ℕ → ℕ → Type 0) where
     -- a policy that is numbered anew has the same ones
     pub marked_uses : (p : Policy) (n : ℕ) → UsesOnly Allowed (marked_from p n) ↔ UsesOnly Allowed p
     marked_uses (test f m) n = (λ u. u, λ u. u)
+    marked_uses (range f lo hi) n = (λ u. u, λ u. u)
     marked_uses (assign f m) n = (λ u. u, λ u. u)
     marked_uses (sum_of ps) n = all_marked_use ps n
     marked_uses (seq_of ps) n = all_marked_use ps n
@@ -49,6 +51,7 @@ module _ (Allowed : ℕ → ℕ → Type 0) where
     -- with its link literals written out too
     pub written_uses : (p : Policy) → UsesOnly Allowed (without_links p) ↔ UsesOnly Allowed p
     written_uses (test f m) = (λ u. u, λ u. u)
+    written_uses (range f lo hi) = (λ u. u, λ u. u)
     written_uses (assign f m) = (λ u. u, λ u. u)
     written_uses (sum_of ps) = all_written_use ps
     written_uses (seq_of ps) = all_written_use ps
@@ -79,6 +82,7 @@ module _ (Allowed : ℕ → ℕ → Type 0) where
     -- what is left after a dup has some of them
     pub rest_uses : (p : Policy) (k : ℕ) → UsesOnly Allowed p → UsesOnly Allowed (after p k)
     rest_uses (test f n) k u = tt
+    rest_uses (range f lo hi) k u = tt
     rest_uses (assign f n) k u = tt
     rest_uses (sum_of ps) k u = some_rest_uses ps k u
     rest_uses (seq_of ps) k u = all_rest_uses ps k u

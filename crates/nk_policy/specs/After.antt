@@ -1,6 +1,6 @@
 -- What is left of a policy after one of its dups (Foster et al., POPL 2015: the derivative at an occurrence of dup).
 use Rattle.std.specs.Prelude.{ℕ, ◌+◌, ◌==◌, ◌||◌, Bool, false, if◌then◌else◌}
-use Rattle.nk_policy.specs.Policy.{Policy, Policies, test, assign, sum_of, seq_of, not_of, star_of, dup, link, no_part, part}
+use Rattle.nk_policy.specs.Policy.{Policy, Policies, test, range, assign, sum_of, seq_of, not_of, star_of, dup, link, no_part, part}
 
 -- the policy that keeps each packet
 abbrev pub id_policy : Policy
@@ -14,6 +14,7 @@ drop_policy = sum_of no_part
 abbrev mutual
   pub has_dup : Policy → ℕ → Bool
   has_dup (test f n) l = false
+  has_dup (range f lo hi) l = false
   has_dup (assign f n) l = false
   has_dup (sum_of ps) l = some_has_dup ps l
   has_dup (seq_of ps) l = some_has_dup ps l
@@ -43,6 +44,7 @@ after_link b n k l =
 abbrev mutual
   pub after : Policy → ℕ → Policy
   after (test f n) l = drop_policy
+  after (range f lo hi) l = drop_policy
   after (assign f n) l = drop_policy
   after (sum_of ps) l = after_some ps l
   after (seq_of ps) l = after_all ps l

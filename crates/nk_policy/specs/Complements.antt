@@ -1,11 +1,12 @@
 -- Policies in which each complement is of a predicate.
 use Rattle.std.specs.Prelude.{◌≡◌, true}
-use Rattle.nk_policy.specs.Policy.{Policy, Policies, test, assign, sum_of, seq_of, not_of, star_of, dup, link, no_part, part, is_predicate}
+use Rattle.nk_policy.specs.Policy.{Policy, Policies, test, range, assign, sum_of, seq_of, not_of, star_of, dup, link, no_part, part, is_predicate}
 
 -- each complement is of a predicate
 abbrev mutual
   pub NegatesPredicates : Policy → Type 0
   NegatesPredicates (test f n) = Unit {0}
+  NegatesPredicates (range f lo hi) = Unit {0}
   NegatesPredicates (assign f n) = Unit {0}
   NegatesPredicates (sum_of ps) = AllNegatePredicates ps
   NegatesPredicates (seq_of ps) = AllNegatePredicates ps

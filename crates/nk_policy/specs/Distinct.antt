@@ -1,6 +1,6 @@
 -- Policies no two dups of which have the same number.
 use Rattle.std.specs.Prelude.{◌≡◌, ℕ, true, false}
-use Rattle.nk_policy.specs.Policy.{Policy, Policies, test, assign, sum_of, seq_of, not_of, star_of, dup, link, no_part, part}
+use Rattle.nk_policy.specs.Policy.{Policy, Policies, test, range, assign, sum_of, seq_of, not_of, star_of, dup, link, no_part, part}
 use Rattle.nk_policy.specs.After.{has_dup, some_has_dup}
 
 -- the dups of a policy and of the parts behind it are different ones
@@ -11,6 +11,7 @@ abbrev mutual
   -- no two dups outside complements have one number, in sums, sequences and stars
   pub HasDistinct : Policy → Type 0
   HasDistinct (test f n) = Unit {0}
+  HasDistinct (range f lo hi) = Unit {0}
   HasDistinct (assign f n) = Unit {0}
   HasDistinct (sum_of ps) = AllDistinct ps
   HasDistinct (seq_of ps) = AllDistinct ps

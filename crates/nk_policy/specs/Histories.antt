@@ -1,9 +1,9 @@
 -- The histories of a policy as a list: the plain, slow way, for small policies without a star.
-use Rattle.std.specs.Prelude.{◌≡◌, ◌==◌, ◌&&◌, true, if◌then◌else◌, List, [], ◌∷◌, ◌++◌, slice_index, slice_set}
+use Rattle.std.specs.Prelude.{◌≡◌, ◌==◌, ◌&&◌, true, nat_le, if◌then◌else◌, List, [], ◌∷◌, ◌++◌, slice_index, slice_set}
 use Rattle.std.specs.List.{flat_map}
 use Rattle.nk_field.specs.declared.packet.Packet.{Packet}
 use Rattle.nk_field.specs.declared.history.History.{History}
-use Rattle.nk_policy.specs.Policy.{Policy, Policies, test, assign, sum_of, seq_of, not_of, star_of, dup, link, no_part, part, is_predicate}
+use Rattle.nk_policy.specs.Policy.{Policy, Policies, test, range, assign, sum_of, seq_of, not_of, star_of, dup, link, no_part, part, is_predicate}
 
 -- a history that ends at another packet
 abbrev pub at_packet : History → Packet → History
@@ -22,6 +22,8 @@ unless_any (g ∷ gs) h = []
 abbrev mutual
   pub histories_from : Policy → History → List History
   histories_from (test f n) h = if slice_index h.last f == n then h ∷ [] else []
+  histories_from (range f lo hi) h =
+      if nat_le lo (slice_index h.last f) && nat_le (slice_index h.last f) hi then h ∷ [] else []
   histories_from (assign f n) h = at_packet h (slice_set h.last f n) ∷ []
   histories_from (sum_of ps) h = histories_of_some ps h
   histories_from (seq_of ps) h = histories_of_all ps h
@@ -52,6 +54,7 @@ histories_of p pk = histories_from p record { records = []; last = pk }
 abbrev mutual
   pub IsFlat : Policy → Type 0
   IsFlat (test f n) = Unit {0}
+  IsFlat (range f lo hi) = Unit {0}
   IsFlat (assign f n) = Unit {0}
   IsFlat (sum_of ps) = AllFlat ps
   IsFlat (seq_of ps) = AllFlat ps

@@ -1,11 +1,12 @@
 -- What stands at the leaves of a policy, under complements too.
 use Rattle.std.specs.Prelude.{ℕ, ◌==◌, ◌||◌, Bool, true, false}
-use Rattle.nk_policy.specs.Policy.{Policy, Policies, test, assign, sum_of, seq_of, not_of, star_of, dup, link, no_part, part}
+use Rattle.nk_policy.specs.Policy.{Policy, Policies, test, range, assign, sum_of, seq_of, not_of, star_of, dup, link, no_part, part}
 
 -- some leaf of the policy passes the test
 abbrev mutual
   pub has_leaf : (Policy → Bool) → Policy → Bool
   has_leaf is (test f n) = is (test f n)
+  has_leaf is (range f lo hi) = is (range f lo hi)
   has_leaf is (assign f n) = is (assign f n)
   has_leaf is (sum_of ps) = some_has_leaf is ps
   has_leaf is (seq_of ps) = some_has_leaf is ps
@@ -19,9 +20,10 @@ abbrev mutual
   some_has_leaf is no_part = false
   some_has_leaf is (part p ps) = has_leaf is p || some_has_leaf is ps
 
--- a test or an assignment of the field
+-- a test, a range or an assignment of the field
 abbrev pub is_on_field : ℕ → Policy → Bool
 is_on_field f (test g n) = f == g
+is_on_field f (range g lo hi) = f == g
 is_on_field f (assign g n) = f == g
 is_on_field f _ = false
 

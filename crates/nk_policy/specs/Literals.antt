@@ -1,7 +1,7 @@
 -- The link literals of a policy: a packet is recorded at the source port, moved to the target port, and recorded there.
 use Rattle.std.specs.Prelude.{◌≡◌, ℕ, ◌⊎◌, slice_index, slice_set}
 use Rattle.nk_field.specs.declared.packet.Packet.{Packet}
-use Rattle.nk_policy.specs.Policy.{Policy, Policies, test, assign, sum_of, seq_of, not_of, star_of, dup, link, no_part, part}
+use Rattle.nk_policy.specs.Policy.{Policy, Policies, test, range, assign, sum_of, seq_of, not_of, star_of, dup, link, no_part, part}
 
 -- a link literal: its source, its target and the number of its first dup
 pub record Literal : Type 0 where
@@ -15,6 +15,7 @@ pub record Literal : Type 0 where
 abbrev mutual
   pub HoldsLiteral : Policy → Literal → Type 0
   HoldsLiteral (test f n) k = ⊥
+  HoldsLiteral (range f lo hi) k = ⊥
   HoldsLiteral (assign f n) k = ⊥
   HoldsLiteral (sum_of ps) k = SomeHoldsLiteral ps k
   HoldsLiteral (seq_of ps) k = SomeHoldsLiteral ps k

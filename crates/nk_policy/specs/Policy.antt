@@ -6,6 +6,7 @@ mutual
   -- a policy
   pub data Policy : Type 0 where
     test : (field value : ℕ) → Policy
+    range : (field low high : ℕ) → Policy
     assign : (field value : ℕ) → Policy
     sum_of : Policies → Policy
     seq_of : Policies → Policy
@@ -23,6 +24,7 @@ mutual
 abbrev mutual
   pub depth_of : Policy → ℕ
   depth_of (test f n) = 1
+  depth_of (range f lo hi) = 1
   depth_of (assign f n) = 1
   depth_of (sum_of ps) = 1 + depths_of ps
   depth_of (seq_of ps) = 1 + depths_of ps
@@ -40,6 +42,7 @@ abbrev mutual
 abbrev mutual
   pub size_of : Policy → ℕ
   size_of (test f n) = 1
+  size_of (range f lo hi) = 1
   size_of (assign f n) = 1
   size_of (sum_of ps) = 1 + sizes_of ps
   size_of (seq_of ps) = 1 + sizes_of ps
@@ -57,6 +60,7 @@ abbrev mutual
 abbrev mutual
   pub dups_of : Policy → ℕ
   dups_of (test f n) = 0
+  dups_of (range f lo hi) = 0
   dups_of (assign f n) = 0
   dups_of (sum_of ps) = dups_of_all ps
   dups_of (seq_of ps) = dups_of_all ps
@@ -74,6 +78,7 @@ abbrev mutual
 abbrev mutual
   pub numbers_of : Policy → List ℕ
   numbers_of (test f n) = []
+  numbers_of (range f lo hi) = []
   numbers_of (assign f n) = []
   numbers_of (sum_of ps) = numbers_of_all ps
   numbers_of (seq_of ps) = numbers_of_all ps
@@ -87,10 +92,11 @@ abbrev mutual
   numbers_of_all no_part = []
   numbers_of_all (part p ps) = numbers_of p ++ numbers_of_all ps
 
--- tests, and sums, sequences and complements of predicates
+-- tests, ranges, and sums, sequences and complements of predicates
 abbrev mutual
   pub is_predicate : Policy → Bool
   is_predicate (test f n) = true
+  is_predicate (range f lo hi) = true
   is_predicate (assign f n) = false
   is_predicate (sum_of ps) = are_predicates ps
   is_predicate (seq_of ps) = are_predicates ps
@@ -108,6 +114,7 @@ abbrev mutual
 abbrev mutual
   pub marked_from : Policy → ℕ → Policy
   marked_from (test f n) first = test f n
+  marked_from (range f lo hi) first = range f lo hi
   marked_from (assign f n) first = assign f n
   marked_from (sum_of ps) first = sum_of (all_marked_from ps first)
   marked_from (seq_of ps) first = seq_of (all_marked_from ps first)
@@ -130,6 +137,7 @@ link_parts a m b n l =
 abbrev mutual
   pub without_links : Policy → Policy
   without_links (test f n) = test f n
+  without_links (range f lo hi) = range f lo hi
   without_links (assign f n) = assign f n
   without_links (sum_of ps) = sum_of (all_without_links ps)
   without_links (seq_of ps) = seq_of (all_without_links ps)
@@ -147,6 +155,7 @@ abbrev mutual
 abbrev mutual
   pub MarksBelow : Policy → ℕ → Type 0
   MarksBelow (test f n) most = Unit {0}
+  MarksBelow (range f lo hi) most = Unit {0}
   MarksBelow (assign f n) most = Unit {0}
   MarksBelow (sum_of ps) most = AllMarksBelow ps most
   MarksBelow (seq_of ps) most = AllMarksBelow ps most

@@ -1,7 +1,7 @@
 -- How far a run of a policy has come: the positions of its dups, as the states of a NetKAT automaton
 -- (Foster et al., POPL 2015: one state for each occurrence of dup).
 use Rattle.std.specs.Prelude.{◌≡◌, ℕ, ◌+◌, ◌⊎◌, List, [], ◌++◌}
-use Rattle.nk_policy.specs.Policy.{Policy, Policies, test, assign, sum_of, seq_of, not_of, star_of, dup, link, no_part, part}
+use Rattle.nk_policy.specs.Policy.{Policy, Policies, test, range, assign, sum_of, seq_of, not_of, star_of, dup, link, no_part, part}
 use Rattle.nk_field.specs.declared.packet.Packet.{Packet}
 use Rattle.nk_policy.specs.Meaning.{Way, keep_where, set_field, record_as, rounds, way_of}
 
@@ -35,6 +35,7 @@ within_either front way rest pk u x l =
 abbrev mutual
   pub RecordsAt : Policy → Front
   RecordsAt (test f n) pk u x l = ⊥
+  RecordsAt (range f lo hi) pk u x l = ⊥
   RecordsAt (assign f n) pk u x l = ⊥
   RecordsAt (sum_of ps) pk u x l = SomeRecordsAt ps pk u x l
   RecordsAt (seq_of ps) pk u x l = AllRecordAt ps pk u x l

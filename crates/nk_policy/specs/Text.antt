@@ -2,7 +2,7 @@
 use Rattle.std.specs.Prelude.{ℕ, ◌||◌, Bool, true, false, if◌then◌else◌, List, [], ◌++◌, codes, decimal}
 use Rattle.nk_field.specs.Packet.{FieldTable}
 pub use Rattle.nk_field.specs.Texts.{name_of}
-use Rattle.nk_policy.specs.Policy.{Policy, Policies, test, assign, sum_of, seq_of, not_of, star_of, dup, link, no_part, part}
+use Rattle.nk_policy.specs.Policy.{Policy, Policies, test, range, assign, sum_of, seq_of, not_of, star_of, dup, link, no_part, part}
 
 -- there is a part
 abbrev pub has_part : Policies → Bool
@@ -33,6 +33,7 @@ enclosed wanted text = if wanted then codes "(" ++ text ++ codes ")" else text
 abbrev mutual
   pub pol_bytes : FieldTable → Policy → List ℕ
   pol_bytes fields (test f n) = name_of fields f ++ codes "=" ++ decimal n
+  pol_bytes fields (range f lo hi) = name_of fields f ++ codes " in " ++ decimal lo ++ codes ".." ++ decimal hi
   pol_bytes fields (assign f n) = name_of fields f ++ codes ":=" ++ decimal n
   pol_bytes fields (sum_of ps) = if has_part ps then sum_bytes fields [] ps else codes "drop"
   pol_bytes fields (seq_of ps) = if has_part ps then seq_bytes fields [] ps else codes "id"

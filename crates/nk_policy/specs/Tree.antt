@@ -1,12 +1,13 @@
 -- The plain tree of a policy that the program holds.
 use Rattle.std.specs.Prelude.{List, [], ◌∷◌}
-use Rattle.nk_policy.specs.Policy.{Policy, Policies, test, assign, sum_of, seq_of, not_of, star_of, dup, link, no_part, part}
-use Rattle.nk_policy.specs.declared.policy.Pol.{Pol, Test, Set, Sum', Seq', Not', Star', Dup, Link, Row_of-Pol, end_of-Pol, more_of-Pol}
+use Rattle.nk_policy.specs.Policy.{Policy, Policies, test, range, assign, sum_of, seq_of, not_of, star_of, dup, link, no_part, part}
+use Rattle.nk_policy.specs.declared.policy.Pol.{Pol, Test, Range, Set, Sum', Seq', Not', Star', Dup, Link, Row_of-Pol, end_of-Pol, more_of-Pol}
 
 abbrev mutual
   -- the tree of a policy
   pub tree_of : Pol → Policy
   tree_of (Test f n) = test f n
+  tree_of (Range f lo hi) = range f lo hi
   tree_of (Set f n) = assign f n
   tree_of (Sum' shape ps) = sum_of (trees_of_row ps)
   tree_of (Seq' shape ps) = seq_of (trees_of_row ps)

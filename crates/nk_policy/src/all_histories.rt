@@ -37,6 +37,10 @@ fn push_histories(
 {
     match p {
         Pol::Test(f, n) => push_where(out, h, h.last.get(*f) == *n),
+        Pol::Range(f, lo, hi) => {
+            let value = h.last.get(*f);
+            push_where(out, h, *lo <= value && value <= *hi)
+        }
         Pol::Set(f, n) => {
             let last = with_field(alloc, &h.last, *f, *n)?;
             out.push(moved(h, last)?)?;

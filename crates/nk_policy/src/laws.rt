@@ -7,7 +7,7 @@ ghost use Rattle.std.specs.Prelude.{◌≡◌, ◌≤◌, ◌+◌, ◌*◌, true
 ghost use Rattle.std.specs.List.{range_with_len};
 ghost use Rattle.nk_field.specs.declared.packet.Packet.{Packet};
 ghost use Rattle.nk_field.specs.Packet.{FieldTable, IsPacket};
-ghost use Rattle.nk_policy.specs.Policy.{Policy, test, assign, sum_of, seq_of, not_of, dup, link, no_part, part, marked_from, without_links, depth_of, size_of, dups_of, numbers_of, is_predicate};
+ghost use Rattle.nk_policy.specs.Policy.{Policy, test, range, assign, sum_of, seq_of, not_of, dup, link, no_part, part, marked_from, without_links, depth_of, size_of, dups_of, numbers_of, is_predicate};
 ghost use Rattle.nk_policy.specs.Meaning.{Gives, Runs};
 ghost use Rattle.nk_policy.specs.Progress.{Marked, RecordsAt};
 ghost use Rattle.nk_policy.specs.After.{after, has_dup};
@@ -268,6 +268,9 @@ pub fn worked_histories()
     ensures drop { Drops (sum_of no_part) }
     ensures test_passes { Keeps (test 2 3) }
     ensures test_fails { Drops (test 2 2) }
+    ensures range_passes { Keeps (range 2 3 3) × Keeps (range 2 0 7) }
+    ensures range_fails { Drops (range 2 0 2) × Drops (range 2 4 7) }
+    ensures range_of_no_value { Drops (range 2 4 3) × Drops (range 2 3 2) }
     ensures complement_of_true { Drops (not_of (test 2 3)) }
     ensures complement_of_false { Keeps (not_of (test 2 2)) }
     ensures assignment { HasHistories (assign 1 2) (ending [] (packet 1 2 3) ∷ []) }

@@ -15,6 +15,7 @@ pub fn size(p: &Pol) -> u64
 {
     match p {
         Pol::Link(_, _, _, _, _) | Pol::Test(_, _) | Pol::Set(_, _) | Pol::Dup(_) => 1,
+        Pol::Range(_, _, _) => 1,
         Pol::Sum(ps) | Pol::Seq(ps) => sizes(ps.as_slice()).saturating_add(1),
         Pol::Not(q) | Pol::Star(q) => size(q).saturating_add(1),
     }
@@ -39,7 +40,7 @@ pub fn depth(p: &Pol) -> u64
 {
     match p {
         Pol::Test(_, _) | Pol::Set(_, _) | Pol::Dup(_) => 1,
-        Pol::Link(_, _, _, _, _) => 1,
+        Pol::Link(_, _, _, _, _) | Pol::Range(_, _, _) => 1,
         Pol::Sum(ps) | Pol::Seq(ps) => deepest(ps.as_slice()).saturating_add(1),
         Pol::Not(q) | Pol::Star(q) => depth(q).saturating_add(1),
     }
@@ -66,7 +67,7 @@ pub fn dups(p: &Pol) -> u64
     ensures { result ≡ min (dups_of (tree_of p.now)) LAST }
 {
     match p {
-        Pol::Test(_, _) | Pol::Set(_, _) => 0,
+        Pol::Test(_, _) | Pol::Range(_, _, _) | Pol::Set(_, _) => 0,
         Pol::Dup(_) => 1,
         Pol::Link(_, _, _, _, _) => 2,
         Pol::Sum(ps) | Pol::Seq(ps) => dups_all(ps.as_slice()),
@@ -85,14 +86,14 @@ fn dups_all(ps: &[Pol]) -> u64
     total
 }
 
-/// Whether it has tests, sums, sequences and complements alone.
+/// Whether it has tests, ranges, sums, sequences and complements alone.
 #[cycle(is_predicate)]
 #[tactic(auto, using(crate::proofs::Trees::tree_of_sum, crate::proofs::Trees::tree_of_seq))]
 pub fn is_predicate(p: &Pol) -> bool
     ensures { result ≡ is_predicate_tree (tree_of p.now) }
 {
     match p {
-        Pol::Test(_, _) => true,
+        Pol::Test(_, _) | Pol::Range(_, _, _) => true,
         Pol::Set(_, _) | Pol::Dup(_) | Pol::Link(_, _, _, _, _) => false,
         Pol::Star(_) => false,
         Pol::Sum(ps) | Pol::Seq(ps) => all_predicates(ps.as_slice()),

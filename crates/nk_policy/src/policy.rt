@@ -16,6 +16,8 @@ pub struct Pols {
 pub enum Pol {
     /// Keeps the packet where the field has the value.
     Test(Fid, u64),
+    /// Keeps the packet where the field's value is from the first to the second; never where the first is above the second.
+    Range(Fid, u64, u64),
     /// Sets the field to the value.
     Set(Fid, u64),
     /// All that the parts give.

@@ -26,6 +26,7 @@ fn renumbered(alloc: Global, p: &Pol, next: &mut u64) -> Result<Pol, AllocError>
 {
     match p {
         Pol::Test(f, n) => Ok(Pol::Test(*f, *n)),
+        Pol::Range(f, lo, hi) => Ok(Pol::Range(*f, *lo, *hi)),
         Pol::Set(f, n) => Ok(Pol::Set(*f, *n)),
         Pol::Sum(ps) => Ok(Pol::Sum(Pols::new(all_renumbered(alloc, ps.as_slice(), next)?))),
         Pol::Seq(ps) => Ok(Pol::Seq(Pols::new(all_renumbered(alloc, ps.as_slice(), next)?))),
@@ -67,6 +68,7 @@ pub fn expand_links(alloc: Global, p: &Pol) -> Result<Pol, AllocError>
 {
     match p {
         Pol::Test(f, n) => Ok(Pol::Test(*f, *n)),
+        Pol::Range(f, lo, hi) => Ok(Pol::Range(*f, *lo, *hi)),
         Pol::Set(f, n) => Ok(Pol::Set(*f, *n)),
         Pol::Sum(ps) => Ok(Pol::Sum(Pols::new(all_expanded(alloc, ps.as_slice())?))),
         Pol::Seq(ps) => Ok(Pol::Seq(Pols::new(all_expanded(alloc, ps.as_slice())?))),
@@ -124,6 +126,7 @@ fn copied(alloc: Global, p: &Pol) -> Result<Pol, AllocError>
 {
     match p {
         Pol::Test(f, n) => Ok(Pol::Test(*f, *n)),
+        Pol::Range(f, lo, hi) => Ok(Pol::Range(*f, *lo, *hi)),
         Pol::Set(f, n) => Ok(Pol::Set(*f, *n)),
         Pol::Sum(ps) => Ok(Pol::Sum(Pols::new(all_copied(alloc, ps.as_slice())?))),
         Pol::Seq(ps) => Ok(Pol::Seq(Pols::new(all_copied(alloc, ps.as_slice())?))),

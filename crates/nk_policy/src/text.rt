@@ -27,6 +27,7 @@ fn push_policy(out: &mut Vec<u8>, fields: &Fields, p: &Pol) -> Result<(), AllocE
 {
     match p {
         Pol::Test(f, n) => push_field(out, fields, *f, b"=", *n),
+        Pol::Range(f, lo, hi) => push_range(out, fields, *f, (*lo, *hi)),
         Pol::Set(f, n) => push_field(out, fields, *f, b":=", *n),
         Pol::Sum(ps) => push_sum(out, fields, ps.as_slice()),
         Pol::Seq(ps) => push_seq(out, fields, ps.as_slice()),
@@ -114,6 +115,21 @@ fn push_field(
     out.extend_from_slice(fields.name(f).as_bytes())?;
     out.extend_from_slice(operator)?;
     push_number(out, n)
+}
+
+/// Appends a field's name, `in` and the ends of a range, with `..` between.
+fn push_range(
+    out: &mut Vec<u8>,
+    fields: &Fields,
+    f: Fid,
+    ends: (u64, u64),
+) -> Result<(), AllocError>
+    ensures { OnOk result (out.new.items
+        ≡ out.old.items ++ (name_of fields.now f ++ codes " in " ++ decimal ends.0 ++ codes ".." ++ decimal ends.1)) }
+{
+    push_field(out, fields, f, b" in ", ends.0)?;
+    out.extend_from_slice(b"..")?;
+    push_number(out, ends.1)
 }
 
 /// Appends a link literal: its source and its target, each a switch and a port.

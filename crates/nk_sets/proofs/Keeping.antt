@@ -1,20 +1,19 @@
 -- The predicate of a set's reduced tree keeps exactly the packets at which its leaf is not empty.
-use Rattle.std.proofs.Common.{◌≡◌, ℕ, zero, suc, ◌+◌, ◌-◌, ◌<◌, ◌≤◌, ◌⊎◌, Bool, true, false, cond, inl, inr, List, [], ◌∷◌, ◌++◌, refl, sym, ap, subst, ◌∙◌, arith}
-use Rattle.std.specs.Prelude.{◌↔◌, map, nat_le, nat_lt, slice_index}
+use Rattle.std.proofs.Common.{◌≡◌, ℕ, ◌+◌, ◌<◌, ◌≤◌, ◌⊎◌, Bool, true, false, cond, inl, inr, List, [], ◌∷◌, ◌++◌, refl, sym, ap, subst, ◌∙◌, arith}
+use Rattle.std.specs.Prelude.{◌↔◌, nat_le, nat_lt, slice_index}
 use Rattle.std.specs.List.{flat_map}
 use Rattle.std.proofs.lemmas.Bool.Decides.{eqb_tells, leb_tells}
-use Rattle.nk_policy.specs.Policy.{Policy, test, seq_of, not_of, no_part, part}
+use Rattle.nk_policy.specs.Policy.{Policy, test, range, seq_of, not_of, no_part, part}
 use Rattle.nk_policy.specs.Meaning.{Gives, way_of, some_way_of}
 use Rattle.nk_store.specs.declared.node.Out.{Out}
 use Rattle.nk_store.specs.Nodes.{Sound, InRange}
 use Rattle.nk_store.specs.Held.{Held, IsId, IsPacket}
 use Rattle.nk_store.specs.Diagram.{Branches, leaf, case, no_branch, branch, leaf_at, leaf_among, IsReduced, AreReduced, AreTwo}
-use Rattle.nk_store.specs.Intervals.{same_tree, with_most, values_with, values_outside, values_in, counted}
+use Rattle.nk_store.specs.Intervals.{same_tree, with_most, values_with}
 use Rattle.nk_sets.specs.PacketSets.{has_out, is_in}
-use Rattle.nk_sets.specs.Predicate.{SetTree, SetInterval, same_outs, is_empty_set, is_full_set, parts_of, sum_of_terms, guarded, terms_of, else_condition, else_terms, predicate_of, intervals_of}
+use Rattle.nk_sets.specs.Predicate.{SetTree, SetInterval, same_outs, is_empty_set, is_full_set, parts_of, sum_of_terms, guarded, within, terms_of, conditions_of, else_condition, else_terms, predicate_of, intervals_of}
 use Rattle.nk_sets.specs.Trees.{set_tree}
 use Rattle.nk_sets.proofs.SetTrees.{same_looks, set_reduced, set_leaves}
-use Rattle.nk_sets.proofs.Printing.{mapped_flat, outside_tests}
 
 -- the policy keeps the packet
 abbrev Keeps : Policy → List ℕ → Type 0
@@ -53,30 +52,34 @@ append_keeps (p ∷ ps) qs pk =
       (λ k. elim k [ inl a ↦ elim a [ inl b ↦ inl b | inr c ↦ inr (rest.1 (inl c)) ] | inr d ↦ inr (rest.1 (inr d)) ]),
     )
 
--- of the policies of several values
-values_keep :
-    (g : ℕ → Policy) (from n : ℕ) (pk : List ℕ)
-    → SomeKeeps (map g (counted from n)) pk ↔ ((w : ℕ) × (from ≤ w) × (w < from + n) × Keeps (g w) pk)
-values_keep g from zero pk = ((λ k. absurd k), (λ k. absurd (omega (arith, k.1, k.2))))
-values_keep g from (suc n) pk =
-    let rest = values_keep g (from + 1) n pk in (
-      (λ k. elim k [
-        | inl a ↦ (from, omega arith, omega arith, a)
-        | inr b ↦ let r = rest.0 b in (r.0, omega (arith, r.1), omega (arith, r.2), r.3)
-      ]),
-      (λ k. elim (eqb_tells k.0 from) [
-        | inl same ↦ inl (subst (λ w. Keeps (g w) pk) same.1 k.3)
-        | inr other ↦ let ne = other.1 in inr (rest.1 (k.0, omega (arith, k.1, ne), omega (arith, k.2), k.3))
-      ]),
-    )
+-- of one policy
+one_keeps : (p : Policy) (pk : List ℕ) → SomeKeeps (p ∷ []) pk ↔ Keeps p pk
+one_keeps p pk = ((λ k. elim k [ inl a ↦ a | inr b ↦ absurd b ]), (λ k. inl k))
 
 -- a policy keeps a packet exactly where P holds, and does nothing else
 record Tells (p : Policy) (pk : List ℕ) (P : Type 0) : Type 0 where
   does : (w : List (List ℕ)) (x : List ℕ) → way_of p (λ l y. y) pk w x → P × (w ≡ []) × (x ≡ pk)
   keeps : P → Keeps p pk
 
-test_tells : (f n : ℕ) (pk : List ℕ) → Tells (test f n) pk (slice_index pk f ≡ n)
-test_tells f n pk = record { does = λ w x k. (k.0, k.1, k.2); keeps = λ e. (e, refl, refl) }
+within_tells :
+    (f first last : ℕ) (pk : List ℕ)
+    → Tells (within f first last) pk ((first ≤ slice_index pk f) × (slice_index pk f ≤ last))
+within_tells f first last pk = elim (eqb_tells first last) [
+  | inl same ↦ subst (λ b. Tells (cond b (test f first) (range f first last)) pk ((first ≤ slice_index pk f) × (slice_index pk f ≤ last))) (sym same.0) (one same.1)
+  | inr other ↦ subst (λ b. Tells (cond b (test f first) (range f first last)) pk ((first ≤ slice_index pk f) × (slice_index pk f ≤ last))) (sym other.0) several
+]
+  where
+    one : first ≡ last → Tells (test f first) pk ((first ≤ slice_index pk f) × (slice_index pk f ≤ last))
+    one same = record {
+      does = λ w x k. let is = k.0 in ((omega (arith, is), omega (arith, is, same)), k.1, k.2);
+      keeps = λ h. let low = h.0 in let high = h.1 in (omega (arith, low, high, same), refl, refl);
+    }
+
+    several : Tells (range f first last) pk ((first ≤ slice_index pk f) × (slice_index pk f ≤ last))
+    several = record {
+      does = λ w x k. ((k.0, k.1), k.2, k.3);
+      keeps = λ h. (h.0, h.1, refl, refl);
+    }
 
 not_tells : (p : Policy) (pk : List ℕ) → Tells (not_of p) pk (¬ (Keeps p pk))
 not_tells p pk = record { does = λ w x k. (k.1, k.0.0, k.0.1); keeps = λ n. ((refl, refl), n) }
@@ -170,7 +173,7 @@ rising_all maxima f (branch end d bs) two r = rising maxima f end 0 d bs (omega 
 abbrev interval_of : ℕ → ℕ → SetTree → SetInterval
 interval_of first last d = record { first = first; last = last; child = d; made = predicate_of d }
 
-module _ (pk : List ℕ) (v : ℕ) (h : SetInterval → List Policy) (H : SetTree → Type 0) (hk : (d : SetTree) (first last : ℕ) → IsExact pk d → first ≤ last → SomeKeeps (h (interval_of first last d)) pk ↔ ((first ≤ v) × (v ≤ last) × H d)) where
+module _ (pk : List ℕ) (v : ℕ) (h : SetInterval → List Policy) (H : SetTree → Type 0) (hk : (d : SetTree) (first last : ℕ) → IsExact pk d → SomeKeeps (h (interval_of first last d)) pk ↔ ((first ≤ v) × (v ≤ last) × H d)) where
   -- intervals above the value have nothing
   none_below :
       (most from : ℕ) (bs : Branches (List Out)) → Rising most from bs → EachTree (IsExact pk) bs → v < from
@@ -178,7 +181,7 @@ module _ (pk : List ℕ) (v : ℕ) (h : SetInterval → List Policy) (H : SetTre
   none_below most from no_branch r e l k = k
   none_below most from (branch end d bs) r e l k =
       elim ((append_keeps (h (interval_of from end d)) (flat_map h (intervals_of bs (end + 1))) pk).0 k) [
-        | inl a ↦ let x = (hk d from end e.0 r.0).0 a in omega (arith, x.0, l)
+        | inl a ↦ let x = (hk d from end e.0).0 a in omega (arith, x.0, l)
         | inr b ↦ none_below most (end + 1) bs r.1 e.1 (omega (arith, r.0, l)) b
       ]
 
@@ -189,7 +192,7 @@ module _ (pk : List ℕ) (v : ℕ) (h : SetInterval → List Policy) (H : SetTre
   some_at most from no_branch r e lo hi = absurd (omega (arith, r, lo, hi))
   some_at most from (branch end d bs) r e lo hi =
       let both = append_keeps (h (interval_of from end d)) (flat_map h (intervals_of bs (end + 1))) pk in
-      let here = hk d from end e.0 r.0 in
+      let here = hk d from end e.0 in
       elim (leb_tells v end) [
         | inl within ↦ (
           (λ k. subst (λ b. H (cond b d (child_in bs v))) (sym within.0) (elim (both.0 k) [
@@ -210,13 +213,10 @@ module _ (pk : List ℕ) (v : ℕ) (h : SetInterval → List Policy) (H : SetTre
 
 -- the terms of an interval
 terms_keep :
-    (pk : List ℕ) (f : ℕ) (other d : SetTree) (first last : ℕ) → IsExact pk d → first ≤ last
+    (pk : List ℕ) (f : ℕ) (other d : SetTree) (first last : ℕ) → IsExact pk d
     → SomeKeeps (terms_of f other (interval_of first last d)) pk ↔ ((first ≤ slice_index pk f) × (slice_index pk f ≤ last) × ((same_tree other same_outs d ≡ false) × IsAtTree d pk))
-terms_keep pk f other d first last exact order = by (same_tree other same_outs d) refl (is_empty_set d) refl
+terms_keep pk f other d first last exact = by (same_tree other same_outs d) refl (is_empty_set d) refl
   where
-    v : ℕ
-    v = slice_index pk f
-
     empty : (t : SetTree) → is_empty_set t ≡ true → IsAtTree t pk → ⊥
     empty (leaf []) e k = absurd cc
     empty (leaf (o ∷ os)) e k = absurd cc
@@ -224,33 +224,31 @@ terms_keep pk f other d first last exact order = by (same_tree other same_outs d
 
     by :
         (b : Bool) → same_tree other same_outs d ≡ b → (n : Bool) → is_empty_set d ≡ n
-        → SomeKeeps (cond b [] (cond n [] (map (λ w. guarded (test f w) d (predicate_of d)) (counted first (last + 1 - first))))) pk ↔ ((first ≤ slice_index pk f) × (slice_index pk f ≤ last) × ((same_tree other same_outs d ≡ false) × IsAtTree d pk))
+        → SomeKeeps (cond b [] (cond n [] (guarded (within f first last) d (predicate_of d) ∷ []))) pk ↔ ((first ≤ slice_index pk f) × (slice_index pk f ≤ last) × ((same_tree other same_outs d ≡ false) × IsAtTree d pk))
     by true s n e = ((λ k. absurd k), (λ k. let x : true ≡ false = sym s ∙ k.2.0 in cc))
     by false s true e = ((λ k. absurd k), (λ k. absurd (empty d e k.2.1)))
     by false s false e =
-        let values = values_keep (λ w. guarded (test f w) d (predicate_of d)) first (last + 1 - first) pk in (
-          (λ k.
-              let x = values.0 k in
-              let y = (guarded_keeps (test f x.0) (predicate_of d) d pk (slice_index pk f ≡ x.0) (test_tells f x.0 pk) exact).0 x.3 in
-              let is = y.0 in
-              (omega (arith, is, x.1), omega (arith, is, x.2, order), (s, y.1))),
-          (λ k. values.1 (slice_index pk f, k.0, omega (arith, k.0, k.1, order), (guarded_keeps (test f (slice_index pk f)) (predicate_of d) d pk (slice_index pk f ≡ slice_index pk f) (test_tells f (slice_index pk f) pk) exact).1 (refl, k.2.1))),
+        let one = one_keeps (guarded (within f first last) d (predicate_of d)) pk in
+        let both = guarded_keeps (within f first last) (predicate_of d) d pk ((first ≤ slice_index pk f) × (slice_index pk f ≤ last)) (within_tells f first last pk) exact in (
+          (λ k. let x = both.0 (one.0 k) in (x.0.0, x.0.1, (s, x.1))),
+          (λ k. one.1 (both.1 ((k.0, k.1), k.2.1))),
         )
 
--- the tests of an interval outside the else-child
-tests_keep :
-    (pk : List ℕ) (f : ℕ) (other d : SetTree) (first last : ℕ) → IsExact pk d → first ≤ last
-    → SomeKeeps (outside_tests f other (interval_of first last d)) pk ↔ ((first ≤ slice_index pk f) × (slice_index pk f ≤ last) × (same_tree other same_outs d ≡ false))
-tests_keep pk f other d first last exact order = by (same_tree other same_outs d) refl
+-- the condition of an interval
+conditions_keep :
+    (pk : List ℕ) (f : ℕ) (other d : SetTree) (first last : ℕ)
+    → SomeKeeps (conditions_of f other (interval_of first last d)) pk ↔ ((first ≤ slice_index pk f) × (slice_index pk f ≤ last) × (same_tree other same_outs d ≡ false))
+conditions_keep pk f other d first last = by (same_tree other same_outs d) refl
   where
     by :
         (b : Bool) → same_tree other same_outs d ≡ b
-        → SomeKeeps (map (λ w. test f w) (cond b [] (counted first (last + 1 - first)))) pk ↔ ((first ≤ slice_index pk f) × (slice_index pk f ≤ last) × (same_tree other same_outs d ≡ false))
+        → SomeKeeps (cond b [] (within f first last ∷ [])) pk ↔ ((first ≤ slice_index pk f) × (slice_index pk f ≤ last) × (same_tree other same_outs d ≡ false))
     by true s = ((λ k. absurd k), (λ k. let x : true ≡ false = sym s ∙ k.2 in cc))
     by false s =
-        let values = values_keep (λ w. test f w) first (last + 1 - first) pk in (
-          (λ k. let x = values.0 k in let is = x.3.0 in (omega (arith, is, x.1), omega (arith, is, x.2, order), s)),
-          (λ k. values.1 (slice_index pk f, k.0, omega (arith, k.0, k.1, order), (refl, refl, refl))),
+        let one = one_keeps (within f first last) pk in
+        let tells = within_tells f first last pk in (
+          (λ k. let x = (tells.does [] pk (one.0 k)).0 in (x.0, x.1, s)),
+          (λ k. one.1 (tells.keeps (k.0, k.1))),
         )
 
 -- what holds of each interval holds of the one with the most values
@@ -276,7 +274,7 @@ each_weaker P Q no_branch f e = tt
 each_weaker P Q (branch end d bs) f e = (f d e.0, each_weaker P Q bs f e.1)
 
 -- the terms of a node keep what the child at the packet's value has
-module _ (pk : List ℕ) (f most : ℕ) (bs : Branches (List Out)) (rise : Rising most 0 bs) (each : EachTree (IsExact pk) bs) (within : slice_index pk f ≤ most) (other : SetInterval) (exact : Keeps other.made pk ↔ IsAtTree other.child pk) where
+module _ (pk : List ℕ) (f most : ℕ) (bs : Branches (List Out)) (rise : Rising most 0 bs) (each : EachTree (IsExact pk) bs) (within_most : slice_index pk f ≤ most) (other : SetInterval) (exact : Keeps other.made pk ↔ IsAtTree other.child pk) where
   abbrev value : ℕ
   value = slice_index pk f
 
@@ -287,25 +285,19 @@ module _ (pk : List ℕ) (f most : ℕ) (bs : Branches (List Out)) (rise : Risin
   there = child_in bs value
 
   terms_have : SomeKeeps (flat_map (terms_of f other.child) all) pk ↔ ((same_tree other.child same_outs there ≡ false) × IsAtTree there pk)
-  terms_have = some_at pk value (terms_of f other.child) (λ d. (same_tree other.child same_outs d ≡ false) × IsAtTree d pk) (λ d first last e o. terms_keep pk f other.child d first last e o) most 0 bs rise each (omega arith) within
+  terms_have = some_at pk value (terms_of f other.child) (λ d. (same_tree other.child same_outs d ≡ false) × IsAtTree d pk) (λ d first last e. terms_keep pk f other.child d first last e) most 0 bs rise each (omega arith) within_most
 
-  tests_have : SomeKeeps (flat_map (outside_tests f other.child) all) pk ↔ (same_tree other.child same_outs there ≡ false)
-  tests_have = some_at pk value (outside_tests f other.child) (λ d. same_tree other.child same_outs d ≡ false) (λ d first last e o. tests_keep pk f other.child d first last e o) most 0 bs rise each (omega arith) within
+  conditions_have : SomeKeeps (flat_map (conditions_of f other.child) all) pk ↔ (same_tree other.child same_outs there ≡ false)
+  conditions_have = some_at pk value (conditions_of f other.child) (λ d. same_tree other.child same_outs d ≡ false) (λ d first last e. conditions_keep pk f other.child d first last) most 0 bs rise each (omega arith) within_most
 
-  abbrev tests : List Policy
-  tests = map (λ v. test f v) (values_outside same_outs other all)
+  abbrev conditions : List Policy
+  conditions = flat_map (conditions_of f other.child) all
 
-  tests_same : tests ≡ flat_map (outside_tests f other.child) all
-  tests_same = mapped_flat (λ v. test f v) (λ (i : SetInterval). cond (same_tree other.child same_outs i.child) [] (values_in i)) all
+  outside : Keeps (sum_of_terms conditions) pk ↔ (same_tree other.child same_outs there ≡ false)
+  outside = ((λ k. conditions_have.0 ((sum_keeps conditions pk).0 k)), (λ e. (sum_keeps conditions pk).1 (conditions_have.1 e)))
 
-  outside : Keeps (sum_of_terms tests) pk ↔ (same_tree other.child same_outs there ≡ false)
-  outside = (
-    (λ k. tests_have.0 (subst (λ l. SomeKeeps l pk) tests_same ((sum_keeps tests pk).0 k))),
-    (λ e. (sum_keeps tests pk).1 (subst (λ l. SomeKeeps l pk) (sym tests_same) (tests_have.1 e))),
-  )
-
-  else_keeps : Keeps (guarded (else_condition f other all) other.child other.made) pk ↔ ((¬ (Keeps (sum_of_terms tests) pk)) × IsAtTree other.child pk)
-  else_keeps = guarded_keeps (else_condition f other all) other.made other.child pk (¬ (Keeps (sum_of_terms tests) pk)) (not_tells (sum_of_terms tests) pk) exact
+  else_keeps : Keeps (guarded (else_condition f other all) other.child other.made) pk ↔ ((¬ (Keeps (sum_of_terms conditions) pk)) × IsAtTree other.child pk)
+  else_keeps = guarded_keeps (else_condition f other all) other.made other.child pk (¬ (Keeps (sum_of_terms conditions) pk)) (not_tells (sum_of_terms conditions) pk) exact
 
   forth : SomeKeeps (flat_map (terms_of f other.child) all ++ else_terms f other all) pk → IsAtTree there pk
   forth k =
@@ -314,7 +306,7 @@ module _ (pk : List ℕ) (f most : ℕ) (bs : Branches (List Out)) (rise : Risin
         | inr b ↦ last (is_empty_set other.child) b
       ]
     where
-      by : (b : Bool) → same_tree other.child same_outs there ≡ b → (¬ (Keeps (sum_of_terms tests) pk)) × IsAtTree other.child pk → IsAtTree there pk
+      by : (b : Bool) → same_tree other.child same_outs there ≡ b → (¬ (Keeps (sum_of_terms conditions) pk)) × IsAtTree other.child pk → IsAtTree there pk
       by true s x = sym (same_looks other.child there pk s) ∙ x.1
       by false s x = absurd (x.0 (outside.1 s))
 
@@ -345,12 +337,12 @@ mutual
   pub tree_exact :
       (maxima : List ℕ) (low : ℕ) (d : SetTree) (pk : List ℕ) → IsReduced d maxima low → InRange maxima pk
       → Gives (predicate_of d) pk [] pk ↔ (has_out (leaf_at d [] pk) ≡ true)
-  tree_exact maxima low (leaf []) pk r range = ((λ k. absurd k), (λ e. absurd cc))
-  tree_exact maxima low (leaf (o ∷ os)) pk r range = ((λ k. refl), (λ e. (refl, refl)))
-  tree_exact maxima low (case f no_branch) pk r range = absurd r.1
-  tree_exact maxima low (case f (branch end d bs)) pk r range =
+  tree_exact maxima low (leaf []) pk r inside = ((λ k. absurd k), (λ e. absurd cc))
+  tree_exact maxima low (leaf (o ∷ os)) pk r inside = ((λ k. refl), (λ e. (refl, refl)))
+  tree_exact maxima low (case f no_branch) pk r inside = absurd r.1
+  tree_exact maxima low (case f (branch end d bs)) pk r inside =
       let all = intervals_of (branch end d bs) 0 in
-      let each = trees_exact maxima f (branch end d bs) pk r.2 range in
+      let each = trees_exact maxima f (branch end d bs) pk r.2 inside in
       let rise = rising_all maxima f (branch end d bs) r.1 r.2 in
       let other = with_most same_outs all (interval_of 0 end d) (intervals_of bs (end + 1)) in
       let exact : Keeps other.made pk ↔ IsAtTree other.child pk =
@@ -358,16 +350,16 @@ mutual
       (each_weaker (IsExact pk) (λ t. ((first last : ℕ) → IsExact pk t)) bs (λ t e first last. e) each.1) in
       let terms = flat_map (terms_of f other.child) all ++ else_terms f other all in
       let leaf_is = among_child (branch end d bs) (slice_index pk f) pk in (
-        (λ k. ap has_out leaf_is ∙ forth pk f (slice_index maxima f) (branch end d bs) rise each (range.1 f) other exact ((sum_keeps terms pk).0 k)),
-        (λ e. (sum_keeps terms pk).1 (back pk f (slice_index maxima f) (branch end d bs) rise each (range.1 f) other exact (ap has_out (sym leaf_is) ∙ e))),
+        (λ k. ap has_out leaf_is ∙ forth pk f (slice_index maxima f) (branch end d bs) rise each (inside.1 f) other exact ((sum_keeps terms pk).0 k)),
+        (λ e. (sum_keeps terms pk).1 (back pk f (slice_index maxima f) (branch end d bs) rise each (inside.1 f) other exact (ap has_out (sym leaf_is) ∙ e))),
       )
 
   -- likewise each child of branches
   trees_exact :
       (maxima : List ℕ) (f : ℕ) (bs : Branches (List Out)) (pk : List ℕ) → AreReduced bs maxima f
       → InRange maxima pk → EachTree (IsExact pk) bs
-  trees_exact maxima f no_branch pk r range = tt
-  trees_exact maxima f (branch end d bs) pk r range = (tree_exact maxima (f + 1) d pk r.1 range, trees_exact maxima f bs pk r.3 range)
+  trees_exact maxima f no_branch pk r inside = tt
+  trees_exact maxima f (branch end d bs) pk r inside = (tree_exact maxima (f + 1) d pk r.1 inside, trees_exact maxima f bs pk r.3 inside)
 
 -- the predicate of a set of the store keeps exactly the set's packets
 pub set_exact :

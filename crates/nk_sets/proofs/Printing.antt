@@ -1,10 +1,10 @@
 -- The policy that is made for a set is the predicate of its tree, term by term.
-use Rattle.std.proofs.Common.{◌≡◌, ◌≢◌, ℕ, suc, ◌+◌, ◌-◌, ◌<◌, ◌≤◌, Bool, true, false, cond, List, [], ◌∷◌, ◌++◌, length, refl, sym, ap, subst, ◌∙◌, arith, eqb, append_assoc, append-nil}
+use Rattle.std.proofs.Common.{◌≡◌, ◌≢◌, ℕ, ◌+◌, ◌-◌, ◌<◌, Bool, true, false, cond, List, [], ◌∷◌, ◌++◌, length, refl, sym, ap, subst, ◌∙◌, arith, eqb, append_assoc, append-nil}
 use Rattle.std.specs.Prelude.{◌==◌, map, nat_lt}
 use Rattle.std.specs.List.{flat_map}
 use Rattle.std.proofs.lemmas.Bool.Decides.{nat_tests}
 use Rattle.nk_policy.specs.declared.policy.Pol.{Pol}
-use Rattle.nk_policy.specs.Policy.{Policy, test, sum_of, not_of, part}
+use Rattle.nk_policy.specs.Policy.{Policy, sum_of, not_of, part}
 use Rattle.nk_policy.specs.Tree.{tree_of, trees_of}
 use Rattle.nk_policy.specs.After.{id_policy, drop_policy}
 use Rattle.nk_store.specs.declared.node.Node.{Node}
@@ -13,10 +13,10 @@ use Rattle.nk_store.specs.declared.node.Out.{Out}
 use Rattle.nk_store.specs.Nodes.{is_empty_leaf, Each, Sound}
 use Rattle.nk_store.specs.Held.{Held, IsId, node_of, IsNodeOf}
 use Rattle.nk_store.specs.Diagram.{leaf, case}
-use Rattle.nk_store.specs.Intervals.{same_tree, with_most, values_with, values_in, counted}
+use Rattle.nk_store.specs.Intervals.{same_tree, with_most, values_with}
 use Rattle.nk_store.specs.ElseChild.{Span, spans, size_of, largest, else_of}
 use Rattle.nk_sets.specs.PacketSets.{has_out, IsSet}
-use Rattle.nk_sets.specs.Predicate.{SetTree, SetInterval, same_outs, is_empty_set, parts_of, sum_of_terms, guarded, terms_of, else_condition, else_terms, predicate_of}
+use Rattle.nk_sets.specs.Predicate.{SetTree, SetInterval, same_outs, is_empty_set, parts_of, sum_of_terms, guarded, within, terms_of, conditions_of, else_terms, predicate_of}
 use Rattle.nk_sets.specs.Trees.{branches_of, set_tree}
 use Rattle.nk_sets.specs.PolicyOf.{interval_at, intervals_at}
 use Rattle.nk_sets.proofs.SetTrees.{set_leaf, set_case, same_is}
@@ -45,22 +45,6 @@ pub mapped_push : {A B : Type 0} (g : A → B) (xs : List A) (y : A) → map g (
 mapped_push g [] y = refl
 mapped_push g (x ∷ xs) y = ap (λ l. g x ∷ l) (mapped_push g xs y)
 
--- images of two lists
-mapped_append : {A B : Type 0} (g : A → B) (xs ys : List A) → map g (xs ++ ys) ≡ map g xs ++ map g ys
-mapped_append g [] ys = refl
-mapped_append g (x ∷ xs) ys = ap (λ l. g x ∷ l) (mapped_append g xs ys)
-
--- images of a list of lists
-pub mapped_flat :
-    {A B C : Type 0} (g : B → C) (h : A → List B) (xs : List A)
-    → map g (flat_map h xs) ≡ flat_map (λ x. map g (h x)) xs
-mapped_flat g h [] = refl
-mapped_flat g h (x ∷ xs) = mapped_append g (h x) (flat_map h xs) ∙ ap (λ l. map g (h x) ++ l) (mapped_flat g h xs)
-
--- the tests of an interval's values, where its child is not the else-child
-abbrev pub outside_tests : ℕ → SetTree → SetInterval → List Policy
-outside_tests f other i = map (λ v. test f v) (cond (same_tree other same_outs i.child) [] (values_in i))
-
 -- the parts of policies
 trees_are : (xs : List Pol) → trees_of xs ≡ parts_of (map tree_of xs)
 trees_are [] = refl
@@ -71,26 +55,6 @@ pub sum_is : (xs : List Pol) → length xs ≢ 1 → sum_of (trees_of xs) ≡ su
 sum_is [] n = refl
 sum_is (x ∷ []) n = absurd (n (omega arith))
 sum_is (x ∷ y ∷ ys) n = ap sum_of (trees_are (x ∷ y ∷ ys))
-
--- a step of a loop over values
-pub values_step :
-    (g : ℕ → Policy) (mid more all : List Policy) (v last : ℕ) → v ≤ last
-    → mid ++ map g (counted v (last + 1 - v)) ≡ all → more ≡ mid ++ g v ∷ []
-    → more ++ map g (counted (v + 1) (last + 1 - (v + 1))) ≡ all
-values_step g mid more all v last h made e =
-    let one : last + 1 - v ≡ suc (last + 1 - (v + 1)) = omega (arith, h) in
-    ap (λ l. l ++ map g (counted (v + 1) (last + 1 - (v + 1)))) e
-    ∙ append_assoc mid (g v ∷ []) (map g (counted (v + 1) (last + 1 - (v + 1))))
-    ∙ ap (λ n. mid ++ map g (counted v n)) (sym one)
-    ∙ made
-
--- its end
-pub values_end :
-    (g : ℕ → Policy) (mid more all : List Policy) (v last : ℕ) → v ≡ last
-    → mid ++ map g (counted v (last + 1 - v)) ≡ all → more ≡ mid ++ g v ∷ [] → more ≡ all
-values_end g mid more all v last h made e =
-    let none : last + 1 - (v + 1) ≡ 0 = omega (arith, h) in
-    sym (append-nil more) ∙ ap (λ n. more ++ map g (counted (v + 1) n)) (sym none) ∙ values_step g mid more all v last (omega (arith, h)) made e
 
 -- a step of a loop over parts
 pub part_step :
@@ -111,14 +75,6 @@ pub parts_end :
 parts_end st g mid all rest from none made =
     sym (append-nil mid) ∙ ap (λ l. mid ++ flat_map g (intervals_at st l from)) (sym none) ∙ made
 
--- the condition of the else-child, by the tests that were made
-pub condition_is :
-    (st : Held) (f other : ℕ) (ps : List (ℕ × ℕ)) (tests : List Policy)
-    → tests ≡ flat_map (outside_tests f (set_tree st other)) (intervals_at st ps 0)
-    → not_of (sum_of_terms tests) ≡ else_condition f (interval_at st 0 0 other) (intervals_at st ps 0)
-condition_is st f other ps tests e =
-    ap (λ l. not_of (sum_of_terms l)) (e ∙ sym (mapped_flat (λ v. test f v) (λ (i : SetInterval). cond (same_tree (set_tree st other) same_outs i.child) [] (values_in i)) (intervals_at st ps 0)))
-
 module _ (st : Held) (sound : Sound st.maxes st.nodes) where
   -- in either order
   same_back :
@@ -128,27 +84,27 @@ module _ (st : Held) (sound : Sound st.maxes st.nodes) where
       turn : (m n : ℕ) → (m == n) ≡ (n == m)
       turn m n = grind (arith, nat_tests)
 
-  -- the else-child's interval has no tests
-  pub tests_none :
+  -- the else-child's interval has no condition
+  pub conditions_none :
       (f other first last c : ℕ) (items : List Policy) → IsSet st other → IsSet st c → eqb c other ≡ true
-      → items ≡ items ++ map (λ v. test f v) (cond (same_tree (set_tree st other) same_outs (set_tree st c)) [] (counted first (last + 1 - first)))
-  tests_none f other first last c items g h e =
-      sym (append-nil items) ∙ ap (λ b. items ++ map (λ v. test f v) (cond b [] (counted first (last + 1 - first)))) (sym (same_back other c g h ∙ e))
+      → items ≡ items ++ conditions_of f (set_tree st other) (interval_at st first last c)
+  conditions_none f other first last c items g h e =
+      sym (append-nil items) ∙ ap (λ b. items ++ cond b [] (within f first last ∷ [])) (sym (same_back other c g h ∙ e))
 
-  -- another one's has all
-  pub tests_all :
+  -- another one's has one
+  pub conditions_one :
       (f other first last c : ℕ) (items more : List Policy) → IsSet st other → IsSet st c → eqb c other ≡ false
-      → more ≡ items ++ map (λ v. test f v) (counted first (last + 1 - first))
-      → more ≡ items ++ map (λ v. test f v) (cond (same_tree (set_tree st other) same_outs (set_tree st c)) [] (counted first (last + 1 - first)))
-  tests_all f other first last c items more g h e made =
-      made ∙ ap (λ b. items ++ map (λ v. test f v) (cond b [] (counted first (last + 1 - first)))) (sym (same_back other c g h ∙ e))
+      → more ≡ items ++ within f first last ∷ []
+      → more ≡ items ++ conditions_of f (set_tree st other) (interval_at st first last c)
+  conditions_one f other first last c items more g h e made =
+      made ∙ ap (λ b. items ++ cond b [] (within f first last ∷ [])) (sym (same_back other c g h ∙ e))
 
-  -- the else-child's interval has no terms
+  -- the else-child's interval has no term
   pub terms_none :
       (f other first last c : ℕ) (items : List Policy) → IsSet st other → IsSet st c → eqb c other ≡ true
       → items ≡ items ++ terms_of f (set_tree st other) (interval_at st first last c)
   terms_none f other first last c items g h e =
-      sym (append-nil items) ∙ ap (λ b. items ++ cond b [] (cond (is_empty_set (set_tree st c)) [] (map (λ v. guarded (test f v) (set_tree st c) (predicate_of (set_tree st c))) (counted first (last + 1 - first))))) (sym (same_back other c g h ∙ e))
+      sym (append-nil items) ∙ ap (λ b. items ++ cond b [] (cond (is_empty_set (set_tree st c)) [] (guarded (within f first last) (set_tree st c) (predicate_of (set_tree st c)) ∷ []))) (sym (same_back other c g h ∙ e))
 
   -- an empty one's has none
   pub terms_empty :
@@ -157,19 +113,19 @@ module _ (st : Held) (sound : Sound st.maxes st.nodes) where
       → items ≡ items ++ terms_of f (set_tree st other) (interval_at st first last c)
   terms_empty f other first last c items g h e n =
       sym (append-nil items)
-      ∙ ap (λ b. items ++ cond b [] (map (λ v. guarded (test f v) (set_tree st c) (predicate_of (set_tree st c))) (counted first (last + 1 - first)))) (sym n)
-      ∙ ap (λ b. items ++ cond b [] (cond (is_empty_set (set_tree st c)) [] (map (λ v. guarded (test f v) (set_tree st c) (predicate_of (set_tree st c))) (counted first (last + 1 - first))))) (sym (same_back other c g h ∙ e))
+      ∙ ap (λ b. items ++ cond b [] (guarded (within f first last) (set_tree st c) (predicate_of (set_tree st c)) ∷ [])) (sym n)
+      ∙ ap (λ b. items ++ cond b [] (cond (is_empty_set (set_tree st c)) [] (guarded (within f first last) (set_tree st c) (predicate_of (set_tree st c)) ∷ []))) (sym (same_back other c g h ∙ e))
 
-  -- another one's has one for each value
-  pub terms_all :
+  -- another one's has one
+  pub terms_one :
       (f other first last c : ℕ) (items more : List Policy) → IsSet st other → IsSet st c → eqb c other ≡ false
       → is_empty_set (set_tree st c) ≡ false
-      → more ≡ items ++ map (λ v. guarded (test f v) (set_tree st c) (predicate_of (set_tree st c))) (counted first (last + 1 - first))
+      → more ≡ items ++ guarded (within f first last) (set_tree st c) (predicate_of (set_tree st c)) ∷ []
       → more ≡ items ++ terms_of f (set_tree st other) (interval_at st first last c)
-  terms_all f other first last c items more g h e n made =
+  terms_one f other first last c items more g h e n made =
       made
-      ∙ ap (λ b. items ++ cond b [] (map (λ v. guarded (test f v) (set_tree st c) (predicate_of (set_tree st c))) (counted first (last + 1 - first)))) (sym n)
-      ∙ ap (λ b. items ++ cond b [] (cond (is_empty_set (set_tree st c)) [] (map (λ v. guarded (test f v) (set_tree st c) (predicate_of (set_tree st c))) (counted first (last + 1 - first))))) (sym (same_back other c g h ∙ e))
+      ∙ ap (λ b. items ++ cond b [] (guarded (within f first last) (set_tree st c) (predicate_of (set_tree st c)) ∷ [])) (sym n)
+      ∙ ap (λ b. items ++ cond b [] (cond (is_empty_set (set_tree st c)) [] (guarded (within f first last) (set_tree st c) (predicate_of (set_tree st c)) ∷ []))) (sym (same_back other c g h ∙ e))
 
   -- as many values have a tree as have its number
   size_is :
@@ -219,7 +175,7 @@ module _ (st : Held) (sound : Sound st.maxes st.nodes) where
       ap (λ t. term t i.made) c ∙ ap (λ p. term j.child p) m
     where
       term : SetTree → Policy → List Policy
-      term t p = cond (is_empty_set t) [] (guarded (not_of (sum_of_terms (map (λ v. test f v) (flat_map (λ (k : SetInterval). cond (same_tree t same_outs k.child) [] (values_in k)) is)))) t p ∷ [])
+      term t p = cond (is_empty_set t) [] (guarded (not_of (sum_of_terms (flat_map (conditions_of f t) is))) t p ∷ [])
 
   -- the predicate of a choice, by the else-child's number
   pub choice_is :

@@ -1,13 +1,14 @@
 -- The predicate that is printed for a packet set, by recursion on the set's reduced tree (NetKAT's predicates: Anderson et
--- al., POPL 2014). At a node each value that is not of the else-child and whose child is not empty has a term of its own,
--- and the last term excludes the values that are not of the else-child.
-use Rattle.std.specs.Prelude.{ℕ, ◌+◌, Bool, false, not, if◌then◌else◌, List, [], ◌∷◌, ◌++◌, map}
+-- al., POPL 2014). A part of a node is a maximal interval of neighbouring values that have one child, which is not the
+-- else-child: since neighbouring children of a reduced tree differ, each interval with another child is one part. A part
+-- whose child is not empty has a term of its own, and the last term excludes all parts.
+use Rattle.std.specs.Prelude.{ℕ, ◌+◌, ◌==◌, Bool, false, not, if◌then◌else◌, List, [], ◌∷◌, ◌++◌}
 use Rattle.std.specs.List.{flat_map}
-use Rattle.nk_policy.specs.Policy.{Policy, Policies, test, sum_of, seq_of, not_of, no_part, part}
+use Rattle.nk_policy.specs.Policy.{Policy, Policies, test, range, sum_of, seq_of, not_of, no_part, part}
 use Rattle.nk_policy.specs.After.{id_policy, drop_policy}
 use Rattle.nk_store.specs.declared.node.Out.{Out}
 use Rattle.nk_store.specs.Diagram.{Diagram, Branches, leaf, case, no_branch, branch}
-use Rattle.nk_store.specs.Intervals.{Interval, same_tree, with_most, values_in, values_outside}
+use Rattle.nk_store.specs.Intervals.{Interval, same_tree, with_most}
 use Rattle.nk_sets.specs.PacketSets.{has_out}
 
 -- two leaves of sets: both with an out or both without
@@ -47,15 +48,31 @@ sum_of_terms (p ∷ q ∷ ps) = sum_of (parts_of (p ∷ q ∷ ps))
 abbrev pub guarded : Policy → SetTree → Policy → Policy
 guarded condition child rest = if is_full_set child then condition else seq_of (part condition (part rest no_part))
 
--- the terms of the values of one interval
+-- the field's value is from the first to the last: a test of one value, or a range of several
+abbrev pub within : ℕ → ℕ → ℕ → Policy
+within f first last = if first == last then test f first else range f first last
+
+-- a part as a condition: the field's value is in it
+abbrev pub part_of : ℕ → SetInterval → Policy
+part_of f i = within f i.first i.last
+
+-- the term of an interval, where it is a part whose child is not empty
 abbrev pub terms_of : ℕ → SetTree → SetInterval → List Policy
 terms_of f other i =
     if same_tree other same_outs i.child then []
-    else (if is_empty_set i.child then [] else map (λ v. guarded (test f v) i.child i.made) (values_in i))
+    else (if is_empty_set i.child then [] else guarded (part_of f i) i.child i.made ∷ [])
 
--- the condition that the value is none that is not of the else-child
+-- the condition of an interval, where it is a part
+abbrev pub conditions_of : ℕ → SetTree → SetInterval → List Policy
+conditions_of f other i = if same_tree other same_outs i.child then [] else part_of f i ∷ []
+
+-- the conditions of all parts, ascending
+abbrev pub parts_outside : ℕ → SetTree → List SetInterval → List Policy
+parts_outside f other is = flat_map (conditions_of f other) is
+
+-- the condition that the value is in no part
 abbrev pub else_condition : ℕ → SetInterval → List SetInterval → Policy
-else_condition f other is = not_of (sum_of_terms (map (λ v. test f v) (values_outside same_outs other is)))
+else_condition f other is = not_of (sum_of_terms (parts_outside f other.child is))
 
 -- the term of the else-child, unless that is empty
 abbrev pub else_terms : ℕ → SetInterval → List SetInterval → List Policy

@@ -18,7 +18,7 @@ pub use images::{image, preimage};
 pub use lowest::least;
 pub use predicate::set_pol;
 
-/// Five small sets with their predicates.
+/// Nine small sets with their predicates.
 pub fn worked_predicates()
     ensures { WorkedPredicates }
 {}

@@ -1,14 +1,13 @@
 //! The policy that is printed for a set.
-ghost use Rattle.std.specs.Prelude.{◌≡◌, ◌+◌, ◌-◌, ◌≤◌, ◌++◌, map, IfOk, OnOk, slice_index, if◌then◌else◌, []};
-ghost use Rattle.nk_policy.specs.Policy.{test, seq_of, part, no_part};
+ghost use Rattle.std.specs.Prelude.{◌≡◌, ◌++◌, map, IfOk, OnOk, slice_index};
+ghost use Rattle.nk_policy.specs.Policy.{seq_of, part, no_part};
 ghost use Rattle.nk_policy.specs.Tree.{tree_of};
 ghost use Rattle.nk_policy.specs.After.{id_policy, drop_policy};
 ghost use Rattle.nk_store.specs.Held.{IsCase, IsId};
 ghost use Rattle.nk_store.specs.Nodes.{Each, Rises};
 ghost use Rattle.nk_store.specs.Diagram.{case};
-ghost use Rattle.nk_store.specs.Intervals.{same_tree, counted};
 ghost use Rattle.nk_sets.specs.PacketSets.{IsSet};
-ghost use Rattle.nk_sets.specs.Predicate.{same_outs, is_empty_set, is_full_set, sum_of_terms, guarded as guarded_by, terms_of, else_condition, else_terms, predicate_of};
+ghost use Rattle.nk_sets.specs.Predicate.{is_empty_set, is_full_set, sum_of_terms, guarded as guarded_by, within as is_within, terms_of, conditions_of, else_condition, else_terms, predicate_of};
 ghost use Rattle.nk_sets.specs.Trees.{branches_of, set_tree};
 ghost use Rattle.nk_sets.specs.PolicyOf.{IsPolicyOf, interval_at, intervals_at};
 
@@ -60,8 +59,8 @@ fn everything(alloc: Global) -> Pol
     Pol::Seq(Pols::new(Vec::new(alloc)))
 }
 
-/// The predicate of a set that tests a field: a term for each value that is not of the else-child and whose child is not
-/// empty, and then the else-child's.
+/// The predicate of a set that tests a field: a term for each interval whose child is neither the else-child nor empty, and
+/// then the else-child's.
 #[cycle(policy)]
 fn choice_policy(st: &Store, s: Id, f: Fid, parts: &[(u64, Id)]) -> Result<Pol, AllocError>
     requires set { IsSet st.now s }
@@ -104,7 +103,7 @@ fn push_else(
     Ok(())
 }
 
-/// Puts the terms of an interval's values at the end: none where its child is the else-child or empty.
+/// Puts the term of an interval at the end: none where its child is the else-child or empty.
 #[cycle(policy)]
 fn push_part(
     st: &Store,
@@ -117,7 +116,6 @@ fn push_part(
 ) -> Result<(), AllocError>
     requires child { IsSet st.now c }
     requires other { IsSet st.now other }
-    requires order { first ≤ last }
     ensures { OnOk result (map tree_of terms.new.items
         ≡ map tree_of terms.old.items ++ terms_of f (set_tree st.now other) (interval_at st.now first last c)) }
 {
@@ -128,13 +126,18 @@ fn push_part(
     if is_none(st, c) {
         return Ok(());
     }
-    let mut v = first;
-    loop {
-        terms.push(guarded(st, Pol::Test(f, v), c)?)?;
-        if v == last {
-            return Ok(());
-        }
-        v += 1;
+    terms.push(guarded(st, within(f, first, last), c)?)?;
+    Ok(())
+}
+
+/// The condition that the field's value is from the first to the last.
+fn within(f: Fid, first: u64, last: u64) -> Pol
+    ensures { tree_of result ≡ is_within f first last }
+{
+    if first == last {
+        Pol::Test(f, first)
+    } else {
+        Pol::Range(f, first, last)
     }
 }
 
@@ -161,7 +164,7 @@ fn pair(alloc: Global, first: Pol, second: Pol) -> Result<Pol, AllocError>
     Ok(Pol::Seq(Pols::new(parts)))
 }
 
-/// The condition that the field's value is none that is not of the else-child.
+/// The condition that the field's value is in no interval whose child is not the else-child.
 fn else_test(st: &Store, f: Fid, parts: &[(u64, Id)], other: Id) -> Result<Pol, AllocError>
     requires rise { Rises (slice_index st.now.maxes f) 0 parts.now }
     requires children { Each (IsSet st.now) parts.now }
@@ -170,44 +173,36 @@ fn else_test(st: &Store, f: Fid, parts: &[(u64, Id)], other: Id) -> Result<Pol, 
         ≡ else_condition f (interval_at st.now 0 0 other) (intervals_at st.now parts.now 0)) }
 {
     let _most = st.max(f);
-    let mut tests = Vec::new(st.alloc());
+    let mut conditions = Vec::new(st.alloc());
     let mut from: u128 = 0;
     for (end, c) in parts {
-        push_tests(st, f, other, from as u64, *end, *c, &mut tests)?;
+        push_condition(st, f, other, from as u64, *end, *c, &mut conditions)?;
         from = *end as u128 + 1;
     }
-    Ok(Pol::Not(Box::new(st.alloc(), sum(tests))?))
+    Ok(Pol::Not(Box::new(st.alloc(), sum(conditions))?))
 }
 
-/// Puts the tests of an interval's values at the end: none where its child is the else-child.
-fn push_tests(
+/// Puts the condition of an interval at the end: none where its child is the else-child.
+fn push_condition(
     st: &Store,
     f: Fid,
     other: Id,
     first: u64,
     last: u64,
     c: Id,
-    tests: &mut Vec<Pol>,
+    conditions: &mut Vec<Pol>,
 ) -> Result<(), AllocError>
     requires child { IsSet st.now c }
     requires other { IsSet st.now other }
-    requires order { first ≤ last }
-    ensures { OnOk result (map tree_of tests.new.items ≡ map tree_of tests.old.items
-        ++ map (λ v. test f v) (if same_tree (set_tree st.now other) same_outs (set_tree st.now c) then []
-        else counted first (last + 1 - first))) }
+    ensures { OnOk result (map tree_of conditions.new.items
+        ≡ map tree_of conditions.old.items ++ conditions_of f (set_tree st.now other) (interval_at st.now first last c)) }
 {
     let _laws = st.laws();
     if c == other {
         return Ok(());
     }
-    let mut v = first;
-    loop {
-        tests.push(Pol::Test(f, v))?;
-        if v == last {
-            return Ok(());
-        }
-        v += 1;
-    }
+    conditions.push(within(f, first, last))?;
+    Ok(())
 }
 
 /// The sum of terms, of which one alone stands for itself.

@@ -1,19 +1,9 @@
-use Rattle.std.proofs.Common.{ℕ, sym, subst, ap, arith, get_or}
+use Rattle.std.proofs.Common.{ℕ, sym, subst, ap}
 use Rattle.std.proofs.lemmas.Result.{IfOk-weaker}
 use Rattle.nk_store.specs.Held.{IsId}
 use Rattle.nk_algebra.proofs.Chosen.{each_place}
-use Rattle.nk_algebra.proofs.Halved.{end_within, chosen_one}
+use Rattle.nk_algebra.proofs.Halved.{chosen_one}
 use Rattle.nk_algebra.proofs.halves.choose_one.Goals as goal
-
-pub range-requires-clause-order : goal.range-requires-clause-order
-range-requires-clause-order c =
-    let ends = end_within (get_or c.args.st.now.maxes c.args.f 0) 0 c.args.parts.now c.args.k c.at.result.now c.requires.choices.rise c.requires.within in
-    omega (arith, ends.0, c.first_value-from.ensures, ap (λ (p : ℕ × ℕ). p.0) c.at.ensures)
-
-pub range-requires-clause-within : goal.range-requires-clause-within
-range-requires-clause-within c =
-    let ends = end_within (get_or c.args.st.now.maxes c.args.f 0) 0 c.args.parts.now c.args.k c.at.result.now c.requires.choices.rise c.requires.within in
-    omega (arith, ends.1, ap (λ (p : ℕ × ℕ). p.0) c.at.ensures)
 
 pub both-requires-clause-right : goal.both-requires-clause-right
 both-requires-clause-right c = c.range.ensures.grows.ids _ (subst (λ (p : ℕ × ℕ). IsId c.args.st.now p.1) (sym c.at.ensures) (each_place (IsId c.args.st.now) c.args.parts.now c.args.k c.at.result.now c.requires.choices.ids c.requires.within))

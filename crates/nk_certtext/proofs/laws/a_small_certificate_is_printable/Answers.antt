@@ -5,10 +5,9 @@ use Rattle.std.proofs.lemmas.Fmt.{decimal_digit}
 use Rattle.std.proofs.lemmas.List.Elements.{All-nil, All-cons}
 use Rattle.nk_field.specs.Packet.{built_in}
 use Rattle.nk_lex.specs.Lex.{largest}
-use Rattle.nk_policy.specs.Policy.{test}
 use Rattle.nk_cert.specs.Certificates.{RowValue}
 use Rattle.nk_certtext.specs.Text.{cert_bytes}
-use Rattle.nk_certtext.specs.ReadBack.{IsRowOf, IsPrintable, small}
+use Rattle.nk_certtext.specs.ReadBack.{IsRowOf, IsPrintable, small_predicate, small}
 use Rattle.nk_certtext.proofs.laws.a_small_certificate_is_printable.Goals as goal
 
 up : IsStrictlyIncreasing (1 ∷ 3 ∷ [])
@@ -16,7 +15,7 @@ up zero lt = omega arith
 up (suc k) lt = absurd (omega (arith, lt))
 
 abbrev later : RowValue
-later = record { positions = 1 ∷ 3 ∷ []; predicate = test 0 1 }
+later = record { positions = 1 ∷ 3 ∷ []; predicate = small_predicate }
 
 is_row : IsRowOf built_in later
 is_row = record {
@@ -24,7 +23,12 @@ is_row = record {
   small = All-cons (λ n. n ≤ largest) 1 (3 ∷ []) (omega arith)
       (All-cons (λ n. n ≤ largest) 3 [] (omega arith) (All-nil (λ n. n ≤ largest)));
   ascend = up;
-  predicate = record { predicate = refl; over = (omega arith, omega arith); shallow = omega arith; no_lone_part = tt };
+  predicate = record {
+    predicate = refl;
+    over = ((omega arith, omega arith), (((omega arith, omega arith), (omega arith, omega arith)), tt));
+    shallow = omega arith;
+    no_lone_part = (tt, (tt, (tt, tt)));
+  };
 }
 
 apart : AllPairs (λ r s. r.positions ≢ s.positions) (later ∷ [])
@@ -37,11 +41,12 @@ printable = record {
   apart = apart;
 }
 
-text : cert_bytes built_in small ≡ codes "certificate\nrow start : id\nrow 1 3 : sw=1\n"
+text : cert_bytes built_in small ≡ codes "certificate\nrow start : id\nrow 1 3 : sw=1;~pt in 2..3\n"
 text =
     let one : decimal 1 ≡ 49 ∷ [] = decimal_digit 1 (omega arith) in
+    let two : decimal 2 ≡ 50 ∷ [] = decimal_digit 2 (omega arith) in
     let three : decimal 3 ≡ 51 ∷ [] = decimal_digit 3 (omega arith) in
-    rw (one, three) refl
+    rw (one, two, three) refl
 
 pub returns : goal.returns
 returns c = record { printable = printable; text = text }

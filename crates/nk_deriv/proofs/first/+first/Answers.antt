@@ -5,8 +5,12 @@ use Rattle.nk_policy.specs.declared.policy.Pol.TheViews.{the_lemmas}
 use Rattle.nk_policy.proofs.Trees.{tree_of_sum}
 use Rattle.nk_deriv.specs.Part.{NegatesPredicates}
 use Rattle.nk_deriv.specs.Turns.{IsCollected, ArePutBehind, AreInTurn}
-use Rattle.nk_deriv.proofs.Collected.{sum_tree, seq_tree, collected_as, collected_test, collected_assign, collected_not, collected_seq, collected_star, collected_dup, collected_link, summing_none, summing_more, summing_done, complements_at, parts_next, part_is}
+use Rattle.nk_deriv.proofs.Collected.{sum_tree, seq_tree, collected_as, collected_range, collected_test, collected_assign, collected_not, collected_seq, collected_star, collected_dup, collected_link, summing_none, summing_more, summing_done, complements_at, parts_next, part_is}
 use Rattle.nk_deriv.proofs.first.+first.Goals as goal
+
+pub collected-returns-in-Range : goal.collected-returns-in-Range
+collected-returns-in-Range t c =
+    collected_as _ _ _ _ _ (sym (ap tree_of c.in-Range.is)) (collected_range _ c.in-Range.f c.in-Range.lo c.in-Range.hi)
 
 pub collected-returns-in-Test : goal.collected-returns-in-Test
 collected-returns-in-Test t c = collected_as _ _ _ _ _ (sym (ap tree_of c.in-Test.is)) (collected_test _ c.in-Test.f c.in-Test.n)

@@ -10,7 +10,7 @@ readable : IsReadable built_in small_policy
 readable = record {
   over = (
     ((omega arith, omega arith), ((omega arith, omega arith), (((omega arith, omega arith), (omega arith, omega arith), (omega arith, omega arith), (omega arith, omega arith)), tt))),
-    (((omega arith, omega arith), ((omega arith, omega arith), tt)), tt),
+    (((omega arith, omega arith), (((omega arith, omega arith), (omega arith, omega arith)), tt)), tt),
   );
   shallow = omega arith;
   small = omega arith;
@@ -18,11 +18,12 @@ readable = record {
   no_lone_part = (tt, ((tt, (tt, (tt, (tt, tt)))), ((tt, (tt, (tt, tt))), tt)));
 }
 
-text : pol_bytes built_in small_policy ≡ codes "(sw=1;pt:=2;1:2=>2:1 + ~(pt=1 + pt=2))*"
+text : pol_bytes built_in small_policy ≡ codes "(sw=1;pt:=2;1:2=>2:1 + ~(pt=1 + pt in 2..3))*"
 text =
     let one : decimal 1 ≡ 49 ∷ [] = decimal_digit 1 (omega arith) in
     let two : decimal 2 ≡ 50 ∷ [] = decimal_digit 2 (omega arith) in
-    rw (one, two) refl
+    let three : decimal 3 ≡ 51 ∷ [] = decimal_digit 3 (omega arith) in
+    rw (one, two, three) refl
 
 pub returns : goal.returns
 returns c = record { writable = built_in_writable; readable = readable; text = text }

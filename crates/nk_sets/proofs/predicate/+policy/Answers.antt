@@ -1,9 +1,9 @@
-use Rattle.std.proofs.Common.{◌≡◌, ◌<◌, ◌∙◌, ◌+◌, ◌∷◌, ◌++◌, sym, ap, subst, arith, drop, cond, [], ℕ}
+use Rattle.std.proofs.Common.{◌≡◌, ◌<◌, ◌∙◌, ◌+◌, ◌∷◌, ◌++◌, sym, ap, subst, arith, drop, cond, []}
 use Rattle.std.specs.Prelude.{map}
 use Rattle.std.specs.List.{flat_map}
 use Rattle.std.proofs.lemmas.List.{drop_all}
 use Rattle.std.proofs.lemmas.Result.{IfOk-weaker}
-use Rattle.nk_policy.specs.Policy.{test, seq_of, part, no_part}
+use Rattle.nk_policy.specs.Policy.{seq_of, part, no_part}
 use Rattle.nk_policy.specs.Tree.{tree_of}
 use Rattle.nk_store.specs.Nodes.{Rises, Each}
 use Rattle.nk_store.proofs.Looks.{joined_some}
@@ -15,7 +15,7 @@ use Rattle.nk_sets.specs.Trees.{branches_of, set_tree}
 use Rattle.nk_sets.specs.PolicyOf.{interval_at, intervals_at}
 use Rattle.nk_sets.proofs.Cases.{case_sets}
 use Rattle.nk_sets.proofs.SetTrees.{set_leaf}
-use Rattle.nk_sets.proofs.Printing.{mapped_push, values_step, values_end, terms_none, terms_empty, terms_all, part_step, parts_end, choice_is, case_kind, none_is, some_is}
+use Rattle.nk_sets.proofs.Printing.{mapped_push, terms_none, terms_empty, terms_one, part_step, parts_end, choice_is, case_kind, none_is, some_is}
 use Rattle.nk_sets.proofs.predicate.+policy.Goals as goal
 
 pub choice_policy-push_part-requires : goal.choice_policy-push_part-requires
@@ -26,9 +26,7 @@ choice_policy-push_part-requires t c =
     let below : p.1 < c.args.s = item_has (λ k. k < c.args.s) ps c.loop-end.end-index p c.loop-end-test.true c.loop-end-item.is c.requires.case.below in
     let child : IsSet c.args.st.now p.1 = item_has (IsSet c.args.st.now) ps c.loop-end.end-index p c.loop-end-test.true c.loop-end-item.is sets in
     let other : IsSet c.args.st.now c.in_ok-other.other = subst (IsSet c.args.st.now) (sym c.in_ok-other.ensures) (else_has (IsSet c.args.st.now) ps (joined_some ps c.requires.case.joined) sets) in
-    let rest = drop (c.loop-end.end-index + 1) ps in
-    let rise : Rises c.max-high.result c.loop-end.from (p ∷ rest) = subst (Rises c.max-high.result c.loop-end.from) (rest_is ps c.loop-end.end-index p c.loop-end-test.true c.loop-end-item.is) c.loop-end.invariant.rise in
-    (omega (arith, below, c.decreases), (child, (other, rise.0)))
+    (omega (arith, below, c.decreases), (child, other))
 
 pub choice_policy-loop-end-preserved : goal.choice_policy-loop-end-preserved
 choice_policy-loop-end-preserved t c =
@@ -88,22 +86,12 @@ pub push_part-returns-then-is_none : goal.push_part-returns-then-is_none
 push_part-returns-then-is_none t c =
     terms_empty c.args.st.now c.laws-laws.ensures.sound c.args.f c.args.other c.args.first c.args.last c.args.c (map tree_of c.args.terms.now.items) c.requires.other c.requires.child (sym c.eq.ensures ∙ c.if-eq.false) (sym c.is_none.ensures ∙ c.if-is_none.true)
 
-pub push_part-returns-then-v-last : goal.push_part-returns-then-v-last
-push_part-returns-then-v-last t c =
-    let g : ℕ → _ = λ v. guarded (test c.args.f v) (set_tree c.args.st.now c.args.c) (predicate_of (set_tree c.args.st.now c.args.c)) in
-    terms_all c.args.st.now c.laws-laws.ensures.sound c.args.f c.args.other c.args.first c.args.last c.args.c (map tree_of c.args.terms.now.items) (map tree_of c.push.new.self.items) c.requires.other c.requires.child (sym c.eq.ensures ∙ c.if-eq.false) (sym c.is_none.ensures ∙ c.if-is_none.false)
-    (values_end g (map tree_of c.loop-v.terms.items) (map tree_of c.push.new.self.items) _ c.loop-v.v c.args.last c.if-v-last.true c.loop-v.invariant.made (ap (λ l. map tree_of l) c.in_ok-push.ensures.items ∙ mapped_push tree_of c.loop-v.terms.items _ ∙ ap (λ x. map tree_of c.loop-v.terms.items ++ x ∷ []) c.in_ok-guarded.ensures))
-
-pub push_part-loop-v-preserved : goal.push_part-loop-v-preserved
-push_part-loop-v-preserved t c =
-    let high = c.loop-v.invariant.high in
-    let low = c.loop-v.invariant.low in
-    let ne = c.if-v-last.false in
-    record {
-      low = omega (arith, low);
-      high = omega (arith, high, ne);
-      made = values_step (λ v. guarded (test c.args.f v) (set_tree c.args.st.now c.args.c) (predicate_of (set_tree c.args.st.now c.args.c))) (map tree_of c.loop-v.terms.items) (map tree_of c.push.new.self.items) _ c.loop-v.v c.args.last high c.loop-v.invariant.made (ap (λ l. map tree_of l) c.in_ok-push.ensures.items ∙ mapped_push tree_of c.loop-v.terms.items _ ∙ ap (λ x. map tree_of c.loop-v.terms.items ++ x ∷ []) c.in_ok-guarded.ensures);
-    }
+pub push_part-returns : goal.push_part-returns
+push_part-returns t c =
+    terms_one c.args.st.now c.laws-laws.ensures.sound c.args.f c.args.other c.args.first c.args.last c.args.c (map tree_of c.args.terms.now.items) (map tree_of c.push.new.self.items) c.requires.other c.requires.child (sym c.eq.ensures ∙ c.if-eq.false) (sym c.is_none.ensures ∙ c.if-is_none.false)
+    (ap (λ l. map tree_of l) c.in_ok-push.ensures.items
+    ∙ mapped_push tree_of c.args.terms.now.items _
+    ∙ ap (λ x. map tree_of c.args.terms.now.items ++ x ∷ []) (c.in_ok-guarded.ensures ∙ ap (λ p. guarded p (set_tree c.args.st.now c.args.c) (predicate_of (set_tree c.args.st.now c.args.c))) c.within.ensures))
 
 pub policy-returns-then-len-eq0 : goal.policy-returns-then-len-eq0
 policy-returns-then-len-eq0 t c =

@@ -1,11 +1,9 @@
-use Rattle.std.proofs.Common.{◌≡◌, ◌≤◌, ◌+◌, ◌-◌, ◌*◌, ◌++◌, drop}
+use Rattle.std.proofs.Common.{◌≡◌, ◌+◌, ◌*◌, ◌++◌, drop}
 use Rattle.std.specs.Prelude.{map}
 use Rattle.std.specs.List.{flat_map}
-use Rattle.nk_policy.specs.Policy.{test}
 use Rattle.nk_policy.specs.Tree.{tree_of}
 use Rattle.nk_store.specs.Nodes.{Rises}
-use Rattle.nk_store.specs.Intervals.{counted}
-use Rattle.nk_sets.specs.Predicate.{guarded, terms_of, predicate_of}
+use Rattle.nk_sets.specs.Predicate.{terms_of}
 use Rattle.nk_sets.specs.Trees.{set_tree}
 use Rattle.nk_sets.specs.PolicyOf.{intervals_at}
 use Rattle.nk_sets.proofs.predicate.+policy.Given as goal
@@ -27,16 +25,6 @@ invariant-choice_policy-loop-end l = record {
   rise : Rises l.high l.from (drop l.end-index l.parts);
   made : map tree_of l.terms.items ++ flat_map (terms_of l.f (set_tree l.st l.other)) (intervals_at l.st (drop l.end-index l.parts) l.from) ≡ flat_map (terms_of l.f (set_tree l.st l.other)) (intervals_at l.st l.parts 0);
 }
-
-abbrev pub invariant-push_part-loop-v : goal.invariant-push_part-loop-v
-invariant-push_part-loop-v l = record {
-  low : l.first ≤ l.v;
-  high : l.v ≤ l.last;
-  made : map tree_of l.terms.items ++ map (λ v. guarded (test l.f v) (set_tree l.st l.c) (predicate_of (set_tree l.st l.c))) (counted l.v (l.last + 1 - l.v)) ≡ map tree_of l.fn.terms.items ++ map (λ v. guarded (test l.f v) (set_tree l.st l.c) (predicate_of (set_tree l.st l.c))) (counted l.first (l.last + 1 - l.first));
-}
-
-abbrev pub decreases-push_part-loop-v : goal.decreases-push_part-loop-v
-decreases-push_part-loop-v l = l.last - l.v
 
 abbrev pub decreases-push_else : goal.decreases-push_else
 decreases-push_else l = 4 * l.other + 5
