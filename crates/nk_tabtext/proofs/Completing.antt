@@ -2,8 +2,8 @@
 use Rattle.std.proofs.Common.{◌≡◌, subst, List, [], ◌∷◌, ◌++◌, refl, sym, ◌∙◌, ap, append_assoc, append-nil}
 use Rattle.std.specs.Prelude.{None, Some}
 use Rattle.nk_lex.specs.declared.kind.Kind.TheVariants as kind
-use Rattle.nk_tabtext.specs.declared.written.Word.{Word}
-use Rattle.nk_tabtext.specs.declared.written.Number.{Number}
+use Rattle.nk_grammar.specs.declared.ast.Word.{Word}
+use Rattle.nk_grammar.specs.declared.ast.Number.{Number}
 use Rattle.nk_tabtext.specs.declared.written.Pair.{Pair}
 use Rattle.nk_tabtext.specs.declared.written.Declaration.{Declaration}
 use Rattle.nk_tabtext.specs.declared.written.Declaration.TheVariants as declared
@@ -22,6 +22,9 @@ use Rattle.nk_tabtext.specs.declared.stage.Owner.{Owner}
 use Rattle.nk_tabtext.specs.declared.stage.Owner.TheVariants as owner
 use Rattle.nk_tabtext.specs.declared.stage.Stage.{Stage}
 use Rattle.nk_tabtext.specs.declared.stage.Stage.TheVariants as stage
+use Rattle.nk_tabtext.specs.declared.stage.Declaring.TheVariants as declaring
+use Rattle.nk_tabtext.specs.declared.stage.Grouping.TheVariants as grouping
+use Rattle.nk_tabtext.specs.declared.stage.InRow.TheVariants as in_row
 use Rattle.nk_tabtext.specs.Terminal.{Terminal, name, number, mark}
 use Rattle.nk_tabtext.specs.Spelling.{GoesOn}
 use Rattle.nk_tabtext.specs.Machine.{Reading, reading, opened, opened_table, no_number, with_declaration, with_row, with_match, row_of, bucket_done, next_reading, text_ended}
@@ -56,11 +59,11 @@ module _ (x : WrittenTables) (c : WrittenTable) where
   rows : Completes (reading stage.Rows x c)
   rows = ended stage.Rows x c _ refl
 
-  port_read : (n p : Number) (ps : List Number) → Completes (reading (stage.PortRead n p ps) x c)
-  port_read n p ps = ended (stage.PortRead n p ps) x c _ refl
+  port_read : (n p : Number) (ps : List Number) → Completes (reading (stage.Declared (declaring.PortRead n p ps)) x c)
+  port_read n p ps = ended (stage.Declared (declaring.PortRead n p ps)) x c _ refl
 
-  bucket_read : (g : WrittenGroup) → Completes (reading (stage.BucketRead g) x c)
-  bucket_read g = ended (stage.BucketRead g) x c _ refl
+  bucket_read : (g : WrittenGroup) → Completes (reading (stage.Grouped (grouping.BucketRead g)) x c)
+  bucket_read g = ended (stage.Grouped (grouping.BucketRead g)) x c _ refl
 
 -- one more declaration
 declared_more : (x : WrittenTables) (c : WrittenTable) (d : Declaration) → Completes (reading stage.Between (with_declaration x d) c)
@@ -71,47 +74,47 @@ row_more : (x : WrittenTables) (c : WrittenTable) (p : Number) (ms : List Writte
 row_more x c p ms t = rows x (with_row c (row_of p ms t))
 
 module _ (x : WrittenTables) (c : WrittenTable) where
-  field_named : (w : Word) → Completes (reading (stage.FieldNamed w) x c)
-  field_named w = by_token (stage.FieldNamed w) x c (number no_number) _ refl (declared_more x c (declared.Field w no_number))
+  field_named : (w : Word) → Completes (reading (stage.Declared (declaring.FieldNamed w)) x c)
+  field_named w = by_token (stage.Declared (declaring.FieldNamed w)) x c (number no_number) _ refl (declared_more x c (declared.Field w no_number))
 
-  field : Completes (reading stage.Field x c)
-  field = by_token stage.Field x c (name a_word) _ refl (field_named a_word)
+  field : Completes (reading (stage.Declared declaring.Field) x c)
+  field = by_token (stage.Declared declaring.Field) x c (name a_word) _ refl (field_named a_word)
 
-  tag : Completes (reading stage.Tag x c)
-  tag = by_token stage.Tag x c (name a_word) _ refl (declared_more x c (declared.Tag a_word))
+  tag : Completes (reading (stage.Declared declaring.Tag) x c)
+  tag = by_token (stage.Declared declaring.Tag) x c (name a_word) _ refl (declared_more x c (declared.Tag a_word))
 
-  first_port : (n : Number) → Completes (reading (stage.FirstPort n) x c)
-  first_port n = by_token (stage.FirstPort n) x c (number n) _ refl (port_read x c n n [])
+  first_port : (n : Number) → Completes (reading (stage.Declared (declaring.FirstPort n)) x c)
+  first_port n = by_token (stage.Declared (declaring.FirstPort n)) x c (number n) _ refl (port_read x c n n [])
 
-  next_port : (n p : Number) (ps : List Number) → Completes (reading (stage.NextPort n p ps) x c)
-  next_port n p ps = by_token (stage.NextPort n p ps) x c (number n) _ refl (port_read x c n p (ps ++ n ∷ []))
+  next_port : (n p : Number) (ps : List Number) → Completes (reading (stage.Declared (declaring.NextPort n p ps)) x c)
+  next_port n p ps = by_token (stage.Declared (declaring.NextPort n p ps)) x c (number n) _ refl (port_read x c n p (ps ++ n ∷ []))
 
-  switch_numbered : (n : Number) → Completes (reading (stage.SwitchNumbered n) x c)
-  switch_numbered n = by_token (stage.SwitchNumbered n) x c (mark kind.Ports) _ refl (first_port n)
+  switch_numbered : (n : Number) → Completes (reading (stage.Declared (declaring.SwitchNumbered n)) x c)
+  switch_numbered n = by_token (stage.Declared (declaring.SwitchNumbered n)) x c (mark kind.Ports) _ refl (first_port n)
 
-  switch : Completes (reading stage.Switch x c)
-  switch = by_token stage.Switch x c (number no_number) _ refl (switch_numbered no_number)
+  switch : Completes (reading (stage.Declared declaring.Switch) x c)
+  switch = by_token (stage.Declared declaring.Switch) x c (number no_number) _ refl (switch_numbered no_number)
 
-  to_colon : (a m b : Number) → Completes (reading (stage.Link (quad.ToColon a m b)) x c)
-  to_colon a m b = by_token (stage.Link (quad.ToColon a m b)) x c (number a) _ refl (declared_more x c (declared.Link a m b a))
+  to_colon : (a m b : Number) → Completes (reading (stage.Declared (declaring.Link (quad.ToColon a m b))) x c)
+  to_colon a m b = by_token (stage.Declared (declaring.Link (quad.ToColon a m b))) x c (number a) _ refl (declared_more x c (declared.Link a m b a))
 
-  to_switch : (a m b : Number) → Completes (reading (stage.Link (quad.ToSwitch a m b)) x c)
-  to_switch a m b = by_token (stage.Link (quad.ToSwitch a m b)) x c (mark kind.Colon) _ refl (to_colon a m b)
+  to_switch : (a m b : Number) → Completes (reading (stage.Declared (declaring.Link (quad.ToSwitch a m b))) x c)
+  to_switch a m b = by_token (stage.Declared (declaring.Link (quad.ToSwitch a m b))) x c (mark kind.Colon) _ refl (to_colon a m b)
 
-  arrow : (a m : Number) → Completes (reading (stage.Link (quad.Arrow a m)) x c)
-  arrow a m = by_token (stage.Link (quad.Arrow a m)) x c (number a) _ refl (to_switch a m a)
+  arrow : (a m : Number) → Completes (reading (stage.Declared (declaring.Link (quad.Arrow a m))) x c)
+  arrow a m = by_token (stage.Declared (declaring.Link (quad.Arrow a m))) x c (number a) _ refl (to_switch a m a)
 
-  port : (a m : Number) → Completes (reading (stage.Link (quad.Port a m)) x c)
-  port a m = by_token (stage.Link (quad.Port a m)) x c (mark kind.Arrow) _ refl (arrow a m)
+  port : (a m : Number) → Completes (reading (stage.Declared (declaring.Link (quad.Port a m))) x c)
+  port a m = by_token (stage.Declared (declaring.Link (quad.Port a m))) x c (mark kind.Arrow) _ refl (arrow a m)
 
-  switch_colon : (a : Number) → Completes (reading (stage.Link (quad.SwitchColon a)) x c)
-  switch_colon a = by_token (stage.Link (quad.SwitchColon a)) x c (number a) _ refl (port a a)
+  switch_colon : (a : Number) → Completes (reading (stage.Declared (declaring.Link (quad.SwitchColon a))) x c)
+  switch_colon a = by_token (stage.Declared (declaring.Link (quad.SwitchColon a))) x c (number a) _ refl (port a a)
 
-  link_switch : (a : Number) → Completes (reading (stage.Link (quad.Switch a)) x c)
-  link_switch a = by_token (stage.Link (quad.Switch a)) x c (mark kind.Colon) _ refl (switch_colon a)
+  link_switch : (a : Number) → Completes (reading (stage.Declared (declaring.Link (quad.Switch a))) x c)
+  link_switch a = by_token (stage.Declared (declaring.Link (quad.Switch a))) x c (mark kind.Colon) _ refl (switch_colon a)
 
-  link_start : Completes (reading (stage.Link quad.Start) x c)
-  link_start = by_token (stage.Link quad.Start) x c (number no_number) _ refl (link_switch no_number)
+  link_start : Completes (reading (stage.Declared (declaring.Link quad.Start)) x c)
+  link_start = by_token (stage.Declared (declaring.Link quad.Start)) x c (number no_number) _ refl (link_switch no_number)
 
   table : Completes (reading stage.Table x c)
   table = by_token stage.Table x c (number no_number) _ refl (groups x (opened_table no_number))
@@ -136,41 +139,41 @@ module _ (x : WrittenTables) (c : WrittenTable) where
   named : (o : Owner) (ps : List Pair) (w : Word) → Completes (reading (stage.InBucket o (place.Named ps w)) x c)
   named o ps w = by_token (stage.InBucket o (place.Named ps w)) x c (mark kind.Assign) _ refl (assigned o ps w)
 
-  first_bucket : (n : Number) → Completes (reading (stage.FirstBucket n) x c)
-  first_bucket n = by_token (stage.FirstBucket n) x c (mark kind.OpenBracket) _ refl (sets (owner.First n) [])
+  first_bucket : (n : Number) → Completes (reading (stage.Grouped (grouping.FirstBucket n)) x c)
+  first_bucket n = by_token (stage.Grouped (grouping.FirstBucket n)) x c (mark kind.OpenBracket) _ refl (sets (owner.First n) [])
 
-  group_numbered : (n : Number) → Completes (reading (stage.GroupNumbered n) x c)
-  group_numbered n = by_token (stage.GroupNumbered n) x c (mark kind.Equal) _ refl (first_bucket n)
+  group_numbered : (n : Number) → Completes (reading (stage.Grouped (grouping.GroupNumbered n)) x c)
+  group_numbered n = by_token (stage.Grouped (grouping.GroupNumbered n)) x c (mark kind.Equal) _ refl (first_bucket n)
 
-  group : Completes (reading stage.Group x c)
-  group = by_token stage.Group x c (number no_number) _ refl (group_numbered no_number)
+  group : Completes (reading (stage.Grouped grouping.Group) x c)
+  group = by_token (stage.Grouped grouping.Group) x c (number no_number) _ refl (group_numbered no_number)
 
-  target_group : (p : Number) (ms : List WrittenMatch) → Completes (reading (stage.TargetGroup p ms) x c)
-  target_group p ms = by_token (stage.TargetGroup p ms) x c (number p) _ refl (row_more x c p ms (target.Group p))
+  target_group : (p : Number) (ms : List WrittenMatch) → Completes (reading (stage.InRow (in_row.TargetGroup p ms)) x c)
+  target_group p ms = by_token (stage.InRow (in_row.TargetGroup p ms)) x c (number p) _ refl (row_more x c p ms (target.Group p))
 
-  target_wanted : (p : Number) (ms : List WrittenMatch) → Completes (reading (stage.Target p ms) x c)
-  target_wanted p ms = by_token (stage.Target p ms) x c (mark kind.Drop) _ refl (row_more x c p ms target.Discard)
+  target_wanted : (p : Number) (ms : List WrittenMatch) → Completes (reading (stage.InRow (in_row.Target p ms)) x c)
+  target_wanted p ms = by_token (stage.InRow (in_row.Target p ms)) x c (mark kind.Drop) _ refl (row_more x c p ms target.Discard)
 
-  matches : (p : Number) (ms : List WrittenMatch) → Completes (reading (stage.Matches p ms) x c)
-  matches p ms = by_token (stage.Matches p ms) x c (mark kind.Arrow) _ refl (target_wanted p ms)
+  matches : (p : Number) (ms : List WrittenMatch) → Completes (reading (stage.InRow (in_row.Matches p ms)) x c)
+  matches p ms = by_token (stage.InRow (in_row.Matches p ms)) x c (mark kind.Arrow) _ refl (target_wanted p ms)
 
-  match_slashed : (p : Number) (ms : List WrittenMatch) (w : Word) (n : Number) → Completes (reading (stage.MatchSlashed p ms w n) x c)
-  match_slashed p ms w n = by_token (stage.MatchSlashed p ms w n) x c (number p) _ refl (matches p (with_match ms w n (Some p)))
+  match_slashed : (p : Number) (ms : List WrittenMatch) (w : Word) (n : Number) → Completes (reading (stage.InRow (in_row.MatchSlashed p ms w n)) x c)
+  match_slashed p ms w n = by_token (stage.InRow (in_row.MatchSlashed p ms w n)) x c (number p) _ refl (matches p (with_match ms w n (Some p)))
 
-  match_valued : (p : Number) (ms : List WrittenMatch) (w : Word) (n : Number) → Completes (reading (stage.MatchValued p ms w n) x c)
-  match_valued p ms w n = by_token (stage.MatchValued p ms w n) x c (mark kind.Arrow) _ refl (target_wanted p (with_match ms w n None))
+  match_valued : (p : Number) (ms : List WrittenMatch) (w : Word) (n : Number) → Completes (reading (stage.InRow (in_row.MatchValued p ms w n)) x c)
+  match_valued p ms w n = by_token (stage.InRow (in_row.MatchValued p ms w n)) x c (mark kind.Arrow) _ refl (target_wanted p (with_match ms w n None))
 
-  match_tested : (p : Number) (ms : List WrittenMatch) (w : Word) → Completes (reading (stage.MatchTested p ms w) x c)
-  match_tested p ms w = by_token (stage.MatchTested p ms w) x c (number p) _ refl (match_valued p ms w p)
+  match_tested : (p : Number) (ms : List WrittenMatch) (w : Word) → Completes (reading (stage.InRow (in_row.MatchTested p ms w)) x c)
+  match_tested p ms w = by_token (stage.InRow (in_row.MatchTested p ms w)) x c (number p) _ refl (match_valued p ms w p)
 
-  match_named : (p : Number) (ms : List WrittenMatch) (w : Word) → Completes (reading (stage.MatchNamed p ms w) x c)
-  match_named p ms w = by_token (stage.MatchNamed p ms w) x c (mark kind.Equal) _ refl (match_tested p ms w)
+  match_named : (p : Number) (ms : List WrittenMatch) (w : Word) → Completes (reading (stage.InRow (in_row.MatchNamed p ms w)) x c)
+  match_named p ms w = by_token (stage.InRow (in_row.MatchNamed p ms w)) x c (mark kind.Equal) _ refl (match_tested p ms w)
 
-  row_numbered : (p : Number) → Completes (reading (stage.RowNumbered p) x c)
-  row_numbered p = by_token (stage.RowNumbered p) x c (mark kind.Colon) _ refl (matches p [])
+  row_numbered : (p : Number) → Completes (reading (stage.InRow (in_row.RowNumbered p)) x c)
+  row_numbered p = by_token (stage.InRow (in_row.RowNumbered p)) x c (mark kind.Colon) _ refl (matches p [])
 
-  row : Completes (reading stage.Row x c)
-  row = by_token stage.Row x c (number no_number) _ refl (row_numbered no_number)
+  row : Completes (reading (stage.InRow in_row.Row) x c)
+  row = by_token (stage.InRow in_row.Row) x c (number no_number) _ refl (row_numbered no_number)
 
   version : Completes (reading stage.Version x c)
   version = by_token stage.Version x c (number no_number) _ refl (between (opened no_number) c)
@@ -183,39 +186,39 @@ pub completes : (s : Stage) (x : WrittenTables) (c : WrittenTable) → Completes
 completes stage.Start x c = start x c
 completes stage.Version x c = version x c
 completes stage.Between x c = between x c
-completes stage.Field x c = field x c
-completes (stage.FieldNamed w) x c = field_named x c w
-completes stage.Tag x c = tag x c
-completes stage.Switch x c = switch x c
-completes (stage.SwitchNumbered n) x c = switch_numbered x c n
-completes (stage.FirstPort n) x c = first_port x c n
-completes (stage.NextPort n p ps) x c = next_port x c n p ps
-completes (stage.PortRead n p ps) x c = port_read x c n p ps
-completes (stage.Link quad.Start) x c = link_start x c
-completes (stage.Link (quad.Switch a)) x c = link_switch x c a
-completes (stage.Link (quad.SwitchColon a)) x c = switch_colon x c a
-completes (stage.Link (quad.Port a m)) x c = port x c a m
-completes (stage.Link (quad.Arrow a m)) x c = arrow x c a m
-completes (stage.Link (quad.ToSwitch a m b)) x c = to_switch x c a m b
-completes (stage.Link (quad.ToColon a m b)) x c = to_colon x c a m b
+completes (stage.Declared declaring.Field) x c = field x c
+completes (stage.Declared (declaring.FieldNamed w)) x c = field_named x c w
+completes (stage.Declared declaring.Tag) x c = tag x c
+completes (stage.Declared declaring.Switch) x c = switch x c
+completes (stage.Declared (declaring.SwitchNumbered n)) x c = switch_numbered x c n
+completes (stage.Declared (declaring.FirstPort n)) x c = first_port x c n
+completes (stage.Declared (declaring.NextPort n p ps)) x c = next_port x c n p ps
+completes (stage.Declared (declaring.PortRead n p ps)) x c = port_read x c n p ps
+completes (stage.Declared (declaring.Link quad.Start)) x c = link_start x c
+completes (stage.Declared (declaring.Link (quad.Switch a))) x c = link_switch x c a
+completes (stage.Declared (declaring.Link (quad.SwitchColon a))) x c = switch_colon x c a
+completes (stage.Declared (declaring.Link (quad.Port a m))) x c = port x c a m
+completes (stage.Declared (declaring.Link (quad.Arrow a m))) x c = arrow x c a m
+completes (stage.Declared (declaring.Link (quad.ToSwitch a m b))) x c = to_switch x c a m b
+completes (stage.Declared (declaring.Link (quad.ToColon a m b))) x c = to_colon x c a m b
 completes stage.Table x c = table x c
 completes stage.Groups x c = groups x c
-completes stage.Group x c = group x c
-completes (stage.GroupNumbered n) x c = group_numbered x c n
-completes (stage.FirstBucket n) x c = first_bucket x c n
-completes (stage.BucketRead g) x c = bucket_read x c g
+completes (stage.Grouped grouping.Group) x c = group x c
+completes (stage.Grouped (grouping.GroupNumbered n)) x c = group_numbered x c n
+completes (stage.Grouped (grouping.FirstBucket n)) x c = first_bucket x c n
+completes (stage.Grouped (grouping.BucketRead g)) x c = bucket_read x c g
 completes (stage.InBucket o (place.Sets ps)) x c = sets x c o ps
 completes (stage.InBucket o (place.Named ps w)) x c = named x c o ps w
 completes (stage.InBucket o (place.Assigned ps w)) x c = assigned x c o ps w
 completes (stage.InBucket o (place.Out ps)) x c = out x c o ps
 completes (stage.InBucket o (place.Left ps e)) x c = left x c o ps e
 completes stage.Rows x c = rows x c
-completes stage.Row x c = row x c
-completes (stage.RowNumbered p) x c = row_numbered x c p
-completes (stage.Matches p ms) x c = matches x c p ms
-completes (stage.MatchNamed p ms w) x c = match_named x c p ms w
-completes (stage.MatchTested p ms w) x c = match_tested x c p ms w
-completes (stage.MatchValued p ms w n) x c = match_valued x c p ms w n
-completes (stage.MatchSlashed p ms w n) x c = match_slashed x c p ms w n
-completes (stage.Target p ms) x c = target_wanted x c p ms
-completes (stage.TargetGroup p ms) x c = target_group x c p ms
+completes (stage.InRow in_row.Row) x c = row x c
+completes (stage.InRow (in_row.RowNumbered p)) x c = row_numbered x c p
+completes (stage.InRow (in_row.Matches p ms)) x c = matches x c p ms
+completes (stage.InRow (in_row.MatchNamed p ms w)) x c = match_named x c p ms w
+completes (stage.InRow (in_row.MatchTested p ms w)) x c = match_tested x c p ms w
+completes (stage.InRow (in_row.MatchValued p ms w n)) x c = match_valued x c p ms w n
+completes (stage.InRow (in_row.MatchSlashed p ms w n)) x c = match_slashed x c p ms w n
+completes (stage.InRow (in_row.Target p ms)) x c = target_wanted x c p ms
+completes (stage.InRow (in_row.TargetGroup p ms)) x c = target_group x c p ms

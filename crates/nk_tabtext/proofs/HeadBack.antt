@@ -1,5 +1,5 @@
 -- The tag and the links that are printed are declared as they are; what printable fields and switches are to the reader.
-use Rattle.std.proofs.Common.{◌≡◌, ◌≢◌, ◌≤◌, ◌<◌, ◌+◌, ℕ, zero, suc, List, [], ◌∷◌, ◌++◌, Bool, true, false, not, cond, length, get_or, take, drop, refl, sym, ap, subst, ◌∙◌, append_assoc, append-nil, Option, Some, None, arith, ◌||◌, ◌&&◌, inl, inr, ⊎_elim, length-append}
+use Rattle.std.proofs.Common.{◌≡◌, ◌≢◌, ◌≤◌, ◌<◌, ◌+◌, ℕ, zero, suc, List, [], ◌∷◌, ◌++◌, Bool, true, false, not, cond, length, get_or, take, drop, refl, sym, ap, subst, ◌∙◌, append_assoc, append-nil, Option, Some, None, arith, ◌||◌, ◌&&◌, inl, inr, ⊎_elim, length-append, map}
 use Rattle.std.specs.Prelude.{◌==◌, Ok, AllPairs, IsTrue, nat_lt, nat_le, is_some, slice_index_or, if◌then◌else◌}
 use Rattle.std.specs.Option.{option_or}
 use Rattle.std.specs.List.{list_any, position_from, AllByRecursion}
@@ -15,8 +15,10 @@ use Rattle.nk_topo.proofs.Members.{In, InOrder, placed_behind}
 use Rattle.nk_topo.proofs.Orders.{passes_for_none}
 use Rattle.nk_tabtext.specs.Text.{name_of}
 use Rattle.nk_tabtext.specs.declared.written.Declaration.TheVariants as declared
-use Rattle.nk_tabtext.specs.Machine.{and_then}
-use Rattle.nk_tabtext.specs.Values.{MaybeFault, Said, fault_if, first_of, unless, is_from, link_fault, said_with, said_after}
+use Rattle.nk_declare.specs.declared.fault.DeclareFault.{DeclareFault}
+use Rattle.nk_declare.specs.declared.fault.DeclareFault.TheVariants as fault
+use Rattle.nk_declare.specs.Declarations.{DeclaredValue, MaybeFault, fault_if, first_of, unless, and_then, is_from, link_fault, declared_with, declared_after}
+use Rattle.nk_tabtext.specs.Values.{plain}
 use Rattle.nk_tabtext.proofs.Lines.{word_on, number_on}
 use Rattle.nk_tabtext.proofs.TableLines.{HasOne}
 use Rattle.nk_tabtext.proofs.Places.{from_front}
@@ -55,8 +57,8 @@ has_one (x ∷ xs) le = tt
 pub both_none : (a b : MaybeFault) → a ≡ None → b ≡ None → first_of a b ≡ None
 both_none a b e f = ap (λ o. option_or o b) e ∙ f
 
-pub no_fault : (b : Bool) (line : ℕ) → b ≡ false → fault_if b line ≡ None
-no_fault b line e = ap (λ c. fault_if c line) e
+pub no_fault : (b : Bool) (k : DeclareFault) (line : ℕ) → b ≡ false → fault_if b k line ≡ None
+no_fault b k line e = ap (λ c. fault_if c k line) e
 
 not_above : (n k : ℕ) → n ≤ k → nat_lt k n ≡ false
 not_above n k le = grind (arith, nat_tests)
@@ -117,15 +119,15 @@ fields_shown (n ∷ ns) (m ∷ ms) a b = (a.0, b.0, fields_shown ns ms a.1 b.1)
 
 -- the tag is declared above its line
 pub tag_back : (fs : FieldTable) (line f : ℕ) → IsFieldTable fs → fs.tag ≡ Some f
-    → said_with (said_of fs.names fs.maxima) (declared.Tag (word_on line (name_of fs f))) ≡ Ok (with_switches fs [])
+    → declared_with (said_of fs.names fs.maxima) (plain (declared.Tag (word_on line (name_of fs f)))) ≡ Ok (with_switches fs [])
 tag_back fs line f is e =
     let at = is.tag_past_port f e in
     let there : field_named fs (name_of fs f) ≡ Some f = name_there fs is f at.1 in
-    ap (λ o. unless (first_of None (fault_if (not (is_from 2 o)) line)) (put o)) there
-    ∙ ap (λ b. unless (fault_if (not b) line) (put (Some f))) (from 2 f at.0)
+    ap (λ o. unless (first_of None (fault_if (not (is_from 2 o)) fault.TagUnknown line)) (put o)) there
+    ∙ ap (λ b. unless (fault_if (not b) fault.TagUnknown line) (put (Some f))) (from 2 f at.0)
     ∙ ap (λ o. Ok (put o)) (sym e)
   where
-    put : Option ℕ → Said
+    put : Option ℕ → DeclaredValue
     put o = record { fields = record { names = fs.names; maxima = fs.maxima; tag = o }; topo = record { switches = []; links = [] } }
 
     from : (a b : ℕ) → a ≤ b → nat_le a b ≡ true
@@ -221,15 +223,15 @@ not_below_itself : (l : Link) → Below l l → ⊥
 not_below_itself l h = grind (arith, nat_tests, h)
 
 -- what is said with these links
-abbrev pub linked : FieldTable → List SwitchPorts → List Link → Said
+abbrev pub linked : FieldTable → List SwitchPorts → List Link → DeclaredValue
 linked fs ss ls = record { fields = fs; topo = record { switches = ss; links = ls } }
 
 pub links_back : (fs : FieldTable) (ss : List SwitchPorts) (line : ℕ) (before ls : List Link) → SwitchesFit 0 ss → AreLinkable ss (before ++ ls)
-    → said_after (written_links line ls) (linked fs ss before) ≡ Ok (linked fs ss (before ++ ls))
+    → declared_after (map plain (written_links line ls)) (linked fs ss before) ≡ Ok (linked fs ss (before ++ ls))
 links_back fs ss line before [] fit good = ap (λ x. Ok (linked fs ss x)) (sym (append-nil before))
 links_back fs ss line before (l ∷ ls) fit good =
-    ap (λ r. and_then r (said_after (written_links (line + 1) ls))) one
-    ∙ ap (λ x. said_after (written_links (line + 1) ls) (linked fs ss x)) (link_last l before below)
+    ap (λ r. and_then r (declared_after (map plain (written_links (line + 1) ls)))) one
+    ∙ ap (λ x. declared_after (map plain (written_links (line + 1) ls)) (linked fs ss x)) (link_last l before below)
     ∙ links_back fs ss (line + 1) (before ++ l ∷ []) ls fit (subst (AreLinkable ss) (sym (append_assoc before (l ∷ []) ls)) good)
     ∙ ap (λ x. Ok (linked fs ss x)) (append_assoc before (l ∷ []) ls)
   where
@@ -259,20 +261,20 @@ links_back fs ss line before (l ∷ ls) fit good =
         both_none _ _
         (both_none _ _
         (both_none _ _
-        (both_none _ _ (no_fault (nat_lt 65535 l.from_switch) line (not_above l.from_switch 65535 from_small.0)) (no_fault (nat_lt 65535 l.from_port) line (not_above l.from_port 65535 from_small.1)))
-        (no_fault (nat_lt 65535 l.to_switch) line (not_above l.to_switch 65535 to_small.0)))
-        (no_fault (nat_lt 65535 l.to_port) line (not_above l.to_port 65535 to_small.1)))
+        (both_none _ _ (no_fault (nat_lt 65535 l.from_switch) fault.ValueOutOfRange line (not_above l.from_switch 65535 from_small.0)) (no_fault (nat_lt 65535 l.from_port) fault.ValueOutOfRange line (not_above l.from_port 65535 from_small.1)))
+        (no_fault (nat_lt 65535 l.to_switch) fault.ValueOutOfRange line (not_above l.to_switch 65535 to_small.0)))
+        (no_fault (nat_lt 65535 l.to_port) fault.ValueOutOfRange line (not_above l.to_port 65535 to_small.1)))
         (both_none _ _
         (both_none _ _
-        (no_fault (not (is_port (alone ss) l.from_switch l.from_port)) line (ap not (good.from_port l here)))
-        (no_fault (not (is_port (alone ss) l.to_switch l.to_port)) line (ap not (good.to_port l here))))
+        (no_fault (not (is_port (alone ss) l.from_switch l.from_port)) fault.NoSuchPort line (ap not (good.from_port l here)))
+        (no_fault (not (is_port (alone ss) l.to_switch l.to_port)) fault.NoSuchPort line (ap not (good.to_port l here))))
         (both_none _ _
-        (no_fault (is_some (target_among before l.from_switch l.from_port)) line (ap is_some (none_from before l.from_switch l.from_port below)))
-        (no_fault (list_any (λ m. (m.to_switch == l.to_switch) && (m.to_port == l.to_port)) before) line
+        (no_fault (is_some (target_among before l.from_switch l.from_port)) fault.SourceTwice line (ap is_some (none_from before l.from_switch l.from_port below)))
+        (no_fault (list_any (λ m. (m.to_switch == l.to_switch) && (m.to_port == l.to_port)) before) fault.TargetTwice line
         (passes_for_none (λ m. (m.to_switch == l.to_switch) && (m.to_port == l.to_port)) before
         (λ k i. other_target k i ((k.to_switch == l.to_switch) && (k.to_port == l.to_port)) refl)))))
 
-    one : said_with (linked fs ss before) (written_link line l) ≡ Ok (linked fs ss (placed (starts_below l.from_switch l.from_port) l before))
+    one : declared_with (linked fs ss before) (plain (written_link line l)) ≡ Ok (linked fs ss (placed (starts_below l.from_switch l.from_port) l before))
     one = ap (λ o. unless o (linked fs ss (placed (starts_below l.from_switch l.from_port) l before))) fine
 
 -- they can be written

@@ -8,8 +8,9 @@ use Rattle.std.proofs.lemmas.List.Quantifiers.{position-Some}
 use Rattle.nk_field.specs.Packet.{FieldTable}
 use Rattle.nk_topo.specs.Topology.{SwitchPorts, placed, ascending}
 use Rattle.nk_topo.proofs.Members.{placed_behind, placed_front}
-use Rattle.nk_tabtext.specs.Machine.{and_then}
-use Rattle.nk_tabtext.specs.Values.{Said, fault_if, first_of, unless, checked, field_fault, port_read, ports_read, said_with, said_after}
+use Rattle.nk_declare.specs.declared.fault.DeclareFault.TheVariants as fault
+use Rattle.nk_declare.specs.Declarations.{DeclaredValue, MaybeFault, fault_if, first_of, unless, and_then, field_fault, ports_fault, values_of, declared_with, declared_after}
+use Rattle.nk_tabtext.specs.Values.{plain}
 use Rattle.nk_tabtext.proofs.Lines.{word_on, number_on}
 use Rattle.nk_tabtext.proofs.TableLines.{HasOne}
 use Rattle.nk_tabtext.proofs.HeadLines.{written_fields, switch_with, written_switches}
@@ -30,7 +31,7 @@ not_there p xs d fails = by (position p xs) refl
 -- ---- fields
 
 -- what is declared, by its parts and without a tag
-abbrev pub said_of : List (List ℕ) → List ℕ → Said
+abbrev pub said_of : List (List ℕ) → List ℕ → DeclaredValue
 said_of ns ms = record { fields = record { names = ns; maxima = ms; tag = None }; topo = record { switches = []; links = [] } }
 
 -- each name is new, and there is room
@@ -42,12 +43,12 @@ FieldsFit ns ms (n ∷ names) (m ∷ maxima) =
     (position (bytes_eq n) ns ≡ None) × (length ms < 18) × FieldsFit (ns ++ n ∷ []) (ms ++ m ∷ []) names maxima
 
 pub fields_back : (line : ℕ) (ns : List (List ℕ)) (ms : List ℕ) (names : List (List ℕ)) (maxima : List ℕ) → FieldsFit ns ms names maxima
-    → said_after (written_fields line names maxima) (said_of ns ms) ≡ Ok (said_of (ns ++ names) (ms ++ maxima))
+    → declared_after (map plain (written_fields line names maxima)) (said_of ns ms) ≡ Ok (said_of (ns ++ names) (ms ++ maxima))
 fields_back line ns ms [] [] h = ap (λ l. Ok (said_of l ms)) (sym (append-nil ns)) ∙ ap (λ l. Ok (said_of (ns ++ []) l)) (sym (append-nil ms))
 fields_back line ns ms [] (m ∷ maxima) h = absurd h
 fields_back line ns ms (n ∷ names) [] h = absurd h
 fields_back line ns ms (n ∷ names) (m ∷ maxima) h =
-    ap (λ r. and_then r (said_after (written_fields (line + 1) names maxima))) one
+    ap (λ r. and_then r (declared_after (map plain (written_fields (line + 1) names maxima)))) one
     ∙ fields_back (line + 1) (ns ++ n ∷ []) (ms ++ m ∷ []) names maxima h.2
     ∙ ap (λ l. Ok (said_of l ((ms ++ m ∷ []) ++ maxima))) (append_assoc ns (n ∷ []) names)
     ∙ ap (λ l. Ok (said_of (ns ++ n ∷ names) l)) (append_assoc ms (m ∷ []) maxima)
@@ -57,8 +58,8 @@ fields_back line ns ms (n ∷ names) (m ∷ maxima) h =
 
     one : unless (field_fault (said_of ns ms).fields (word_on line n)) (said_of (ns ++ n ∷ []) (ms ++ m ∷ [])) ≡ Ok (said_of (ns ++ n ∷ []) (ms ++ m ∷ []))
     one =
-        ap (λ o. unless (first_of (fault_if (is_some o) line) (fault_if (nat_le 18 (length ms)) line)) (said_of (ns ++ n ∷ []) (ms ++ m ∷ []))) h.0
-        ∙ ap (λ b. unless (fault_if b line) (said_of (ns ++ n ∷ []) (ms ++ m ∷ []))) (room (length ms) h.1)
+        ap (λ o. unless (first_of (fault_if (is_some o) fault.FieldTwice line) (fault_if (nat_le 18 (length ms)) fault.TooManyFields line)) (said_of (ns ++ n ∷ []) (ms ++ m ∷ []))) h.0
+        ∙ ap (λ b. unless (fault_if b fault.TooManyFields line) (said_of (ns ++ n ∷ []) (ms ++ m ∷ []))) (room (length ms) h.1)
 
 -- ---- switches
 
@@ -91,17 +92,20 @@ not_above : (n k : ℕ) → n ≤ k → nat_lt k n ≡ false
 not_above n k le = grind (arith, nat_tests)
 
 ports_back : (line low : ℕ) (before ps : List ℕ) → NumbersBelow low before → PortsFrom low ps
-    → ports_read before (map (number_on line) ps) ≡ Ok (before ++ ps)
-ports_back line low before [] b h = ap (λ l. Ok l) (sym (append-nil before))
+    → ports_fault before (map (number_on line) ps) ≡ None
+ports_back line low before [] b h = refl
 ports_back line low before (p ∷ ps) b h =
-    ap (λ r. and_then r (λ n. ports_read (before ++ n ∷ []) (map (number_on line) ps))) one
+    ap (λ x. first_of (first_of (fault_if x fault.ValueOutOfRange line) (fault_if (list_any (λ q. p == q) before) fault.PortTwice line)) rest) (not_above p 65535 h.1)
+    ∙ ap (λ x. first_of (fault_if x fault.PortTwice line) rest) (not_among p before (numbers_more low p before h.0 b))
     ∙ ports_back line (p + 1) (before ++ p ∷ []) ps (numbers_push (p + 1) before p (numbers_more low (p + 1) before (omega (arith, h.0)) b) (omega arith)) h.2
-    ∙ ap (λ l. Ok l) (append_assoc before (p ∷ []) ps)
   where
-    one : port_read before (number_on line p) ≡ Ok p
-    one =
-        ap (λ b. unless (first_of (fault_if b line) (fault_if (list_any (λ q. p == q) before) line)) p) (not_above p 65535 h.1)
-        ∙ ap (λ b. unless (fault_if b line) p) (not_among p before (numbers_more low p before h.0 b))
+    rest : MaybeFault
+    rest = ports_fault (before ++ p ∷ []) (map (number_on line) ps)
+
+-- their numbers
+values_back : (line : ℕ) (ps : List ℕ) → values_of (map (number_on line) ps) ≡ ps
+values_back line [] = refl
+values_back line (p ∷ ps) = ap (λ l. p ∷ l) (values_back line ps)
 
 -- ascending numbers stay
 ascending_is : (low : ℕ) (ps : List ℕ) → PortsFrom low ps → ascending ps ≡ ps
@@ -149,28 +153,31 @@ SwitchesFit low [] = Unit {0}
 SwitchesFit low (s ∷ ss) = ((low ≤ s.switch) × (s.switch ≤ 65535) × PortsFrom 0 s.ports × HasOne s.ports) × SwitchesFit (s.switch + 1) ss
 
 -- fields, and these switches
-abbrev pub with_switches : FieldTable → List SwitchPorts → Said
+abbrev pub with_switches : FieldTable → List SwitchPorts → DeclaredValue
 with_switches fs ss = record { fields = fs; topo = record { switches = ss; links = [] } }
 
 pub switches_back : (fs : FieldTable) (line low : ℕ) (before ss : List SwitchPorts) → SwitchesBelow low before → SwitchesFit low ss
-    → said_after (written_switches line ss) (with_switches fs before) ≡ Ok (with_switches fs (before ++ ss))
+    → declared_after (map plain (written_switches line ss)) (with_switches fs before) ≡ Ok (with_switches fs (before ++ ss))
 switches_back fs line low before [] b h = ap (λ l. Ok (with_switches fs l)) (sym (append-nil before))
 switches_back fs line low before (s ∷ ss) b h =
-    ap (λ r. and_then r (said_after (written_switches (line + 1) ss))) (one s.ports h.0.2 h.0.3)
-    ∙ ap (λ l. said_after (written_switches (line + 1) ss) (with_switches fs l)) (placed_last s before below)
+    ap (λ r. and_then r (declared_after (map plain (written_switches (line + 1) ss)))) (one s.ports h.0.2 h.0.3)
+    ∙ ap (λ l. declared_after (map plain (written_switches (line + 1) ss)) (with_switches fs l)) (placed_last s before below)
     ∙ switches_back fs (line + 1) (s.switch + 1) (before ++ s ∷ []) ss (switches_push (s.switch + 1) before s (switches_more s.switch (s.switch + 1) before (omega arith) below) (omega arith)) h.1
     ∙ ap (λ l. Ok (with_switches fs l)) (append_assoc before (s ∷ []) ss)
   where
     below : SwitchesBelow s.switch before
     below = switches_more low s.switch before h.0.0 b
 
-    put : List ℕ → Said
+    put : List ℕ → DeclaredValue
     put ps = with_switches fs (placed (λ r. nat_lt r.switch s.switch) (record { switch = s.switch; ports = ps }) before)
 
-    one : (ps : List ℕ) → PortsFrom 0 ps → HasOne ps → said_with (with_switches fs before) (switch_with line s.switch ps) ≡ Ok (put ps)
+    one : (ps : List ℕ) → PortsFrom 0 ps → HasOne ps → declared_with (with_switches fs before) (plain (switch_with line s.switch ps)) ≡ Ok (put ps)
     one [] f one' = absurd one'
     one (p ∷ ps) f one' =
-        ap (λ x. checked (first_of (fault_if x line) (fault_if (list_any (λ r. r.switch == s.switch) before) line)) (and_then (ports_read [] (map (number_on line) (p ∷ ps))) (λ numbers. Ok (put (ascending numbers))))) (not_above s.switch 65535 h.0.1)
-        ∙ ap (λ x. checked (fault_if x line) (and_then (ports_read [] (map (number_on line) (p ∷ ps))) (λ numbers. Ok (put (ascending numbers))))) (no_switch s.switch before below)
-        ∙ ap (λ r. and_then r (λ numbers. Ok (put (ascending numbers)))) (ports_back line 0 [] (p ∷ ps) tt f)
+        let ns = map (number_on line) (p ∷ ps) in
+        let twice = list_any (λ r. r.switch == s.switch) before in
+        ap (λ x. unless (first_of (first_of (fault_if x fault.ValueOutOfRange line) (fault_if twice fault.SwitchTwice line)) (ports_fault [] ns)) (put (ascending (values_of ns)))) (not_above s.switch 65535 h.0.1)
+        ∙ ap (λ x. unless (first_of (fault_if x fault.SwitchTwice line) (ports_fault [] ns)) (put (ascending (values_of ns)))) (no_switch s.switch before below)
+        ∙ ap (λ o. unless o (put (ascending (values_of ns)))) (ports_back line 0 [] (p ∷ ps) tt f)
+        ∙ ap (λ l. Ok (put (ascending l))) (values_back line (p ∷ ps))
         ∙ ap (λ l. Ok (put l)) (ascending_is 0 (p ∷ ps) f)

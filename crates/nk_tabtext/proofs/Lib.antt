@@ -1,7 +1,6 @@
 mod Alike
 pub mod Answering
 pub mod Completing
-pub mod Fields
 pub mod HeadBack
 pub mod HeadKept
 pub mod HeadLines
@@ -17,7 +16,6 @@ pub mod Merging
 pub mod Numbers
 pub mod Passing
 pub mod Places
-pub mod Ports
 pub mod Printable
 pub mod ReadingBack
 pub mod Spelled

@@ -10,8 +10,8 @@ use Rattle.nk_field.specs.Packet.{FieldTable}
 use Rattle.nk_table.specs.declared.Bucket.{Bucket}
 use Rattle.nk_table.specs.declared.Exit.{Exit}
 use Rattle.nk_table.specs.declared.Exit.TheVariants as exit
-use Rattle.nk_tabtext.specs.declared.written.Word.{Word}
-use Rattle.nk_tabtext.specs.declared.written.Number.{Number}
+use Rattle.nk_grammar.specs.declared.ast.Word.{Word}
+use Rattle.nk_grammar.specs.declared.ast.Number.{Number}
 use Rattle.nk_tabtext.specs.declared.written.Pair.{Pair}
 use Rattle.nk_tabtext.specs.declared.written.WrittenMatch.{WrittenMatch}
 use Rattle.nk_tabtext.specs.declared.written.Way.{Way}

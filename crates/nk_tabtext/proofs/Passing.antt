@@ -4,8 +4,8 @@ use Rattle.std.specs.Prelude.{None, Some, option_and_then, if◌then◌else◌}
 use Rattle.std.specs.List.{flat_map}
 use Rattle.nk_lex.specs.declared.kind.Kind.{Kind}
 use Rattle.nk_lex.specs.declared.kind.Kind.TheVariants as kind
-use Rattle.nk_tabtext.specs.declared.written.Word.{Word}
-use Rattle.nk_tabtext.specs.declared.written.Number.{Number}
+use Rattle.nk_grammar.specs.declared.ast.Word.{Word}
+use Rattle.nk_grammar.specs.declared.ast.Number.{Number}
 use Rattle.nk_tabtext.specs.declared.written.Pair.{Pair}
 use Rattle.nk_tabtext.specs.declared.written.Declaration.{Declaration}
 use Rattle.nk_tabtext.specs.declared.written.Declaration.TheVariants as declared
@@ -23,6 +23,9 @@ use Rattle.nk_tabtext.specs.declared.stage.Place.TheVariants as place
 use Rattle.nk_tabtext.specs.declared.stage.Owner.{Owner}
 use Rattle.nk_tabtext.specs.declared.stage.Owner.TheVariants as owner
 use Rattle.nk_tabtext.specs.declared.stage.Stage.TheVariants as stage
+use Rattle.nk_tabtext.specs.declared.stage.Declaring.TheVariants as declaring
+use Rattle.nk_tabtext.specs.declared.stage.Grouping.TheVariants as grouping
+use Rattle.nk_tabtext.specs.declared.stage.InRow.TheVariants as in_row
 use Rattle.nk_tabtext.specs.Terminal.{Terminal, mark, is_mark}
 use Rattle.nk_tabtext.specs.Spelling.{spell_port, spell_declaration, spell_match, spell_set, way_token, spell_bucket, spell_target, spell_row, spell_group, spell_table, spell_text}
 use Rattle.nk_tabtext.specs.Machine.{Reading, reading, opened, opened_table, no_table, with_declaration, with_table, with_group, with_row, with_match, match_of, row_of, bucket_done, begin, begin_row, begin_group, read_all, first_reading, written_at_end}
@@ -59,13 +62,13 @@ groups_behind k e (x ∷ gs) r b = e
 
 -- further ports
 ports_pass : (x : WrittenTables) (c : WrittenTable) (n p : Number) (qs ps : List Number) (r : List Terminal) → IsBehind kind.Comma r
-    → finish (read_all (flat_map spell_port ps ++ r) (reading (stage.PortRead n p qs) x c)) ≡ finish (read_all r (reading stage.Between (with_declaration x (declared.Switch n p (qs ++ ps))) c))
+    → finish (read_all (flat_map spell_port ps ++ r) (reading (stage.Declared (declaring.PortRead n p qs)) x c)) ≡ finish (read_all r (reading stage.Between (with_declaration x (declared.Switch n p (qs ++ ps))) c))
 ports_pass x c n p qs (q ∷ ps) r b =
     ports_pass x c n p (qs ++ q ∷ []) ps r b
     ∙ ap (λ l. finish (read_all r (reading stage.Between (with_declaration x (declared.Switch n p l)) c))) (append_assoc qs (q ∷ []) ps)
 ports_pass x c n p qs [] [] b = ap (λ l. Some (with_declaration x (declared.Switch n p l))) (sym (append-nil qs))
 ports_pass x c n p qs [] (t ∷ r) b =
-    ap (λ f. finish (option_and_then (read_all r) (if f then Some (reading (stage.NextPort n p qs) x c) else begin (with_declaration x (declared.Switch n p qs)) c t))) b
+    ap (λ f. finish (option_and_then (read_all r) (if f then Some (reading (stage.Declared (declaring.NextPort n p qs)) x c) else begin (with_declaration x (declared.Switch n p qs)) c t))) b
     ∙ ap (λ l. finish (option_and_then (read_all r) (begin (with_declaration x (declared.Switch n p l)) c t))) (sym (append-nil qs))
 
 -- a declaration
@@ -118,13 +121,13 @@ abbrev with_buckets : WrittenGroup → List WrittenBucket → WrittenGroup
 with_buckets g bs = record g { more = g.more ++ bs }
 
 buckets_pass : (x : WrittenTables) (c : WrittenTable) (g : WrittenGroup) (bs : List WrittenBucket) (r : List Terminal) → IsBehind kind.OpenBracket r
-    → finish (read_all (flat_map spell_bucket bs ++ r) (reading (stage.BucketRead g) x c)) ≡ finish (read_all r (reading stage.Groups x (with_group c (with_buckets g bs))))
+    → finish (read_all (flat_map spell_bucket bs ++ r) (reading (stage.Grouped (grouping.BucketRead g)) x c)) ≡ finish (read_all r (reading stage.Groups x (with_group c (with_buckets g bs))))
 buckets_pass x c g [] [] b = ap (λ l. Some (with_table x (with_group c (record g { more = l })))) (sym (append-nil g.more))
 buckets_pass x c g [] (t ∷ r) b =
     ap (λ f. finish (option_and_then (read_all r) (if f then Some (reading (stage.InBucket (owner.Next g) (place.Sets [])) x c) else begin_group x (with_group c g) t))) b
     ∙ ap (λ l. finish (option_and_then (read_all r) (begin_group x (with_group c (record g { more = l })) t))) (sym (append-nil g.more))
 buckets_pass x c g (y ∷ bs) r b =
-    ap (λ l. finish (read_all l (reading (stage.BucketRead g) x c))) (append_assoc (spell_bucket y) (flat_map spell_bucket bs) r)
+    ap (λ l. finish (read_all l (reading (stage.Grouped (grouping.BucketRead g)) x c))) (append_assoc (spell_bucket y) (flat_map spell_bucket bs) r)
     ∙ ap finish (bucket_passes x c (owner.Next g) y (flat_map spell_bucket bs ++ r))
     ∙ buckets_pass x c (record g { more = g.more ++ y ∷ [] }) bs r b
     ∙ ap (λ l. finish (read_all r (reading stage.Groups x (with_group c (record g { more = l }))))) (append_assoc g.more (y ∷ []) bs)
@@ -133,7 +136,7 @@ buckets_pass x c g (y ∷ bs) r b =
 group_passes : (x : WrittenTables) (c : WrittenTable) (g : WrittenGroup) (r : List Terminal) → IsBehind kind.OpenBracket r
     → finish (read_all (spell_group g ++ r) (reading stage.Groups x c)) ≡ finish (read_all r (reading stage.Groups x (with_group c g)))
 group_passes x c g r b =
-    ap (λ l. finish (read_all l (reading (stage.FirstBucket g.number) x c))) (append_assoc (spell_bucket g.first) (flat_map spell_bucket g.more) r)
+    ap (λ l. finish (read_all l (reading (stage.Grouped (grouping.FirstBucket g.number)) x c))) (append_assoc (spell_bucket g.first) (flat_map spell_bucket g.more) r)
     ∙ ap finish (bucket_passes x c (owner.First g.number) g.first (flat_map spell_bucket g.more ++ r))
     ∙ buckets_pass x c (record { number = g.number; first = g.first; more = [] }) g.more r b
 
@@ -154,7 +157,7 @@ groups_pass x c (g ∷ gs) r b =
 rows_follow : (x : WrittenTables) (c : WrittenTable) (r : List Terminal) → IsBehind kind.Group r
     → finish (read_all r (reading stage.Groups x c)) ≡ finish (read_all r (reading stage.Rows x c))
 rows_follow x c [] b = refl
-rows_follow x c (t ∷ r) b = ap (λ f. finish (option_and_then (read_all r) (if f then Some (reading stage.Group x c) else begin_row x c t))) b
+rows_follow x c (t ∷ r) b = ap (λ f. finish (option_and_then (read_all r) (if f then Some (reading (stage.Grouped grouping.Group) x c) else begin_row x c t))) b
 
 -- matches up to the arrow
 abbrev with_arrow : List WrittenMatch → List Terminal → List Terminal
@@ -162,29 +165,29 @@ with_arrow ms r = flat_map spell_match ms ++ mark kind.Arrow ∷ r
 
 -- behind a value without length stands no `/`
 value_passes : (x : WrittenTables) (c : WrittenTable) (p : Number) (ns : List WrittenMatch) (w : Word) (n : Number) (ms : List WrittenMatch) (r : List Terminal)
-    → read_all (with_arrow ms r) (reading (stage.MatchValued p ns w n) x c) ≡ read_all (with_arrow ms r) (reading (stage.Matches p (with_match ns w n None)) x c)
+    → read_all (with_arrow ms r) (reading (stage.InRow (in_row.MatchValued p ns w n)) x c) ≡ read_all (with_arrow ms r) (reading (stage.InRow (in_row.Matches p (with_match ns w n None))) x c)
 value_passes x c p ns w n [] r = refl
 value_passes x c p ns w n (m ∷ ms) r = refl
 
 -- a match
 match_passes : (x : WrittenTables) (c : WrittenTable) (p : Number) (ns : List WrittenMatch) (w : Word) (n : Number) (l : Option Number) (ms : List WrittenMatch) (r : List Terminal)
-    → read_all (spell_match (match_of w n l) ++ with_arrow ms r) (reading (stage.Matches p ns) x c)
-    ≡ read_all (with_arrow ms r) (reading (stage.Matches p (with_match ns w n l)) x c)
+    → read_all (spell_match (match_of w n l) ++ with_arrow ms r) (reading (stage.InRow (in_row.Matches p ns)) x c)
+    ≡ read_all (with_arrow ms r) (reading (stage.InRow (in_row.Matches p (with_match ns w n l))) x c)
 match_passes x c p ns w n None ms r = value_passes x c p ns w n ms r
 match_passes x c p ns w n (Some l) ms r = refl
 
 matches_pass : (x : WrittenTables) (c : WrittenTable) (p : Number) (ns ms : List WrittenMatch) (r : List Terminal)
-    → read_all (with_arrow ms r) (reading (stage.Matches p ns) x c) ≡ read_all r (reading (stage.Target p (ns ++ ms)) x c)
-matches_pass x c p ns [] r = ap (λ l. read_all r (reading (stage.Target p l) x c)) (sym (append-nil ns))
+    → read_all (with_arrow ms r) (reading (stage.InRow (in_row.Matches p ns)) x c) ≡ read_all r (reading (stage.InRow (in_row.Target p (ns ++ ms))) x c)
+matches_pass x c p ns [] r = ap (λ l. read_all r (reading (stage.InRow (in_row.Target p l)) x c)) (sym (append-nil ns))
 matches_pass x c p ns (m ∷ ms) r =
-    ap (λ l. read_all l (reading (stage.Matches p ns) x c)) (append_assoc (spell_match m) (flat_map spell_match ms) (mark kind.Arrow ∷ r))
+    ap (λ l. read_all l (reading (stage.InRow (in_row.Matches p ns)) x c)) (append_assoc (spell_match m) (flat_map spell_match ms) (mark kind.Arrow ∷ r))
     ∙ match_passes x c p ns m.name m.number m.length ms r
     ∙ matches_pass x c p (ns ++ m ∷ []) ms r
-    ∙ ap (λ l. read_all r (reading (stage.Target p l) x c)) (append_assoc ns (m ∷ []) ms)
+    ∙ ap (λ l. read_all r (reading (stage.InRow (in_row.Target p l)) x c)) (append_assoc ns (m ∷ []) ms)
 
 -- a target
 target_passes : (x : WrittenTables) (c : WrittenTable) (p : Number) (ms : List WrittenMatch) (t : WrittenTarget) (r : List Terminal)
-    → read_all (spell_target t ++ r) (reading (stage.Target p ms) x c) ≡ read_all r (reading stage.Rows x (with_row c (row_of p ms t)))
+    → read_all (spell_target t ++ r) (reading (stage.InRow (in_row.Target p ms)) x c) ≡ read_all r (reading stage.Rows x (with_row c (row_of p ms t)))
 target_passes x c p ms (target.Bucket b) r = bucket_passes x c (owner.Row p ms) b r
 target_passes x c p ms (target.Group n) r = refl
 target_passes x c p ms target.Discard r = refl
@@ -193,7 +196,7 @@ target_passes x c p ms target.Discard r = refl
 row_passes : (x : WrittenTables) (c : WrittenTable) (w : WrittenRow) (r : List Terminal)
     → read_all (spell_row w ++ r) (reading stage.Rows x c) ≡ read_all r (reading stage.Rows x (with_row c w))
 row_passes x c w r =
-    ap (λ l. read_all l (reading (stage.Matches w.priority []) x c)) (append_assoc (flat_map spell_match w.matches) (mark kind.Arrow ∷ spell_target w.target) r)
+    ap (λ l. read_all l (reading (stage.InRow (in_row.Matches w.priority [])) x c)) (append_assoc (flat_map spell_match w.matches) (mark kind.Arrow ∷ spell_target w.target) r)
     ∙ matches_pass x c w.priority [] w.matches (spell_target w.target ++ r)
     ∙ target_passes x c w.priority w.matches w.target r
 

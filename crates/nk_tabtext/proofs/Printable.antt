@@ -8,14 +8,14 @@ use Rattle.nk_lex.specs.declared.token.LexError.{LexError}
 use Rattle.nk_lex.specs.declared.token.LexError.TheVariants as lexical
 use Rattle.nk_lex.specs.Lex.{tokens_of}
 use Rattle.nk_topo.specs.Topology.{numbers_of}
-use Rattle.nk_topo.proofs.Members.{all_from_members}
 use Rattle.nk_table.specs.declared.Tables.{Tables}
 use Rattle.nk_table.specs.declared.Table.{Table}
 use Rattle.nk_tabtext.specs.declared.written.WrittenTables.{WrittenTables}
 use Rattle.nk_tabtext.specs.declared.written.ReadError.{ReadError}
 use Rattle.nk_tabtext.specs.declared.written.ReadError.TheVariants as error
+use Rattle.nk_declare.specs.Declarations.{DeclaredValue, nothing_declared}
 use Rattle.nk_tabtext.specs.Machine.{and_then, written_of, Returns}
-use Rattle.nk_tabtext.specs.Values.{Said, nothing_said, version_fault, fault_if, unless, said_after, tables_read, table_for, whole, tables_from, last_line, lexed, tables_of}
+use Rattle.nk_tabtext.specs.Values.{version_fault, fault_if, unless, said_after, tables_read, table_for, whole, tables_from, last_line, lexed, tables_of}
 use Rattle.nk_tabtext.specs.ReadBack.{IsPrintable, IsTableOf}
 use Rattle.nk_tabtext.proofs.HeadKept.{both_ok, checked_ok, unless_ok, not_wrong, of_text, IsDeclarationOfText, IsTableOfText, IsSaid, declared_fits}
 use Rattle.nk_tabtext.proofs.TablesKept.{IsTableEntry, tables_kept, each_kept}
@@ -27,7 +27,7 @@ some_tag None h = absurd cc
 some_tag (Some f) h = refl
 
 -- what is declared and read makes such tables
-whole_is : (s : Said) (es : List (ℕ × Table)) → IsSaid s → IsSome s.fields.tag → AllByRecursion (IsTableEntry s.fields) es → IsPrintable (whole s es)
+whole_is : (s : DeclaredValue) (es : List (ℕ × Table)) → IsSaid s → IsSome s.fields.tag → AllByRecursion (IsTableEntry s.fields) es → IsPrintable (whole s es)
 whole_is s es h tag all =
     let each = each_kept s.fields es (numbers_of s.topo) all in
     record {
@@ -36,10 +36,9 @@ whole_is s es h tag all =
       names = h.fields.names;
       tag = tag;
       topology = h.topology;
-      switches = all_from_members (λ r. r.switch ≤ 65535) s.topo.switches (λ r i. (h.switches r i).number);
-      ports = all_from_members (λ r. All (λ p. p ≤ 65535) r.ports) s.topo.switches
-          (λ r i. all_from_members (λ p. p ≤ 65535) r.ports (h.switches r i).ports);
-      some = all_from_members (λ r. 1 ≤ length r.ports) s.topo.switches (λ r i. (h.switches r i).some);
+      switches = h.numbers.switches;
+      ports = h.numbers.ports;
+      some = h.numbers.some;
       each = each.0;
       tables = All-from_recursion (IsTableOf s.fields) (map (table_for es) (numbers_of s.topo)) each.1;
     }
@@ -49,7 +48,7 @@ from_is : (line : ℕ) (x : WrittenTables) (t : Tables) → AllByRecursion IsDec
     → tables_from line x ≡ Ok t → IsPrintable t
 from_is line x t ds ts e =
     let q = checked_ok (version_fault x.version) _ t e in
-    let said = both_ok (said_after x.declarations nothing_said)
+    let said = both_ok (said_after x.declarations nothing_declared)
     (λ s. and_then (tables_read x.version.value s [] x.tables) (λ es. unless (fault_if (is_none s.fields.tag) line) (whole s es))) t q.1 in
     let s = said.0 in
     let read = both_ok (tables_read x.version.value s [] x.tables) (λ es. unless (fault_if (is_none s.fields.tag) line) (whole s es)) t said.2 in

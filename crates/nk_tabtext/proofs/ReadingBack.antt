@@ -19,9 +19,13 @@ use Rattle.nk_tabtext.specs.declared.written.WrittenTables.{WrittenTables}
 use Rattle.nk_tabtext.specs.declared.written.ReadError.{ReadError}
 use Rattle.nk_tabtext.specs.Terminal.{number, mark}
 use Rattle.nk_tabtext.specs.Spelling.{spell_declaration, spell_table, spell_text}
+use Rattle.nk_declare.specs.declared.fault.DeclareError.{DeclareError}
+use Rattle.nk_declare.specs.Declarations.{DeclaredValue, nothing_declared, declared_with, declared_after}
+use Rattle.nk_declare.specs.Declarations as declare
+use Rattle.nk_declare.specs.Kept.{IsWritable}
 use Rattle.nk_tabtext.specs.Machine.{and_then, written_of}
 use Rattle.nk_tabtext.specs.Text.{name_of, have_prefix, field_lines, tag_line, switch_text, link_text, section_text, version_of, version_text, table_bytes}
-use Rattle.nk_tabtext.specs.Values.{Said, nothing_said, fault_if, unless, checked, said_with, said_after, tables_read, table_for, whole, tables_from, last_line, lexed}
+use Rattle.nk_tabtext.specs.Values.{fault_if, unless, checked, plain, read_of, said_after, tables_read, table_for, whole, tables_from, last_line, lexed}
 use Rattle.nk_tabtext.specs.ReadBack.{IsPrintable, IsReadBack, IsTableOf}
 use Rattle.nk_tabtext.proofs.Lines.{left3, left4, terminals_on, of_tokens, word_on, number_on, feed_apart, flat_joined}
 use Rattle.nk_tabtext.proofs.TableLines.{behind, written_tables, lex_tables, table_lines, tables_bytes, tables_apart, tables_spelled, AreTablesShown}
@@ -31,15 +35,18 @@ use Rattle.nk_tabtext.proofs.Valued.{AreTablesGood, TablesFrom, table_entry, tab
 use Rattle.nk_tabtext.proofs.Answering.{reads}
 use Rattle.nk_tabtext.proofs.Heads.{version_is}
 use Rattle.nk_tabtext.proofs.HeadBack.{two_first, has_one, fields_fit, fields_shown, tag_back, ports_from, IsSwitchFine, Below, switches_fit, switches_shown, AreLinkable, links_back, links_shown}
-use Rattle.nk_tabtext.proofs.TablesBack.{AreDeclarable, NumbersFit, numbers_fit, tables_good, tables_shown, tables_rise, sections, found_in_tables, over_numbers}
+use Rattle.nk_tabtext.proofs.TablesBack.{NumbersFit, numbers_fit, tables_good, tables_shown, tables_rise, sections, found_in_tables, over_numbers}
 
 -- one list of declarations and then another
-said_joined : (xs ys : List Declaration) (s : Said) → said_after (xs ++ ys) s ≡ and_then (said_after xs s) (said_after ys)
+abbrev said : List Declaration → DeclaredValue → Result DeclaredValue DeclareError
+said ds s = declared_after (map plain ds) s
+
+said_joined : (xs ys : List Declaration) (s : DeclaredValue) → said (xs ++ ys) s ≡ declare.and_then (said xs s) (said ys)
 said_joined [] ys s = refl
-said_joined (d ∷ xs) ys s = by (said_with s d) (said_joined xs ys)
+said_joined (d ∷ xs) ys s = by (declared_with s (plain d)) (said_joined xs ys)
   where
-    by : (r : Result Said ReadError) → ((s : Said) → said_after (xs ++ ys) s ≡ and_then (said_after xs s) (said_after ys))
-        → and_then r (said_after (xs ++ ys)) ≡ and_then (and_then r (said_after xs)) (said_after ys)
+    by : (r : Result DeclaredValue DeclareError) → ((s : DeclaredValue) → said (xs ++ ys) s ≡ declare.and_then (said xs s) (said ys))
+        → declare.and_then r (said (xs ++ ys)) ≡ declare.and_then (declare.and_then r (said xs)) (said ys)
     by (Ok x) go = go x
     by (Err e) go = refl
 
@@ -92,8 +99,8 @@ written t f = record {
 }
 
 -- what is said by all declarations
-abbrev said : Tables → Said
-said t = record { fields = t.fields; topo = t.topo }
+abbrev value_of : Tables → DeclaredValue
+value_of t = record { fields = t.fields; topo = t.topo }
 
 -- what all that asks
 record Fits (t : Tables) (f : ℕ) : Type 0 where
@@ -107,7 +114,7 @@ record Fits (t : Tables) (f : ℕ) : Type 0 where
   links_shown : AreLinksShown t.topo.links
   each : map (λ u. u.switch) t.tables ≡ numbers_of t.topo
   tables_shown : AreTablesShown t.fields t.tables
-  tables_good : AreTablesGood (version_of t) (said t) 0 t.tables
+  tables_good : AreTablesGood (version_of t) (value_of t) 0 t.tables
   tables_rise : TablesFrom 0 t.tables
 
 -- ---- bytes, lexemes and what they spell
@@ -195,32 +202,32 @@ spelled t f h =
 
 -- ---- what is read
 
-all_said : (t : Tables) (f : ℕ) → Fits t f → said_after (head_declared t f) nothing_said ≡ Ok (said t)
+all_said : (t : Tables) (f : ℕ) → Fits t f → said (head_declared t f) nothing_declared ≡ Ok (value_of t)
 all_said t f h =
     let rest = tag_declared t f ∷ topo_declared t in
     let ns = built_in.names ++ names_of t in
     let ms = built_in.maxima ++ maxima_of t in
     let names : ns ≡ t.fields.names = two_first t.fields.names (codes "sw") (codes "pt") h.table.built_in_names in
     let maxima : ms ≡ t.fields.maxima = two_first t.fields.maxima 65535 65535 h.table.built_in_maxima in
-    said_joined (written_fields 2 (names_of t) (maxima_of t)) rest nothing_said
-    ∙ ap (λ r. and_then r (said_after rest)) (fields_back 2 built_in.names built_in.maxima (names_of t) (maxima_of t) h.fields_fit)
-    ∙ ap (λ l. said_after rest (said_of l ms)) names
-    ∙ ap (λ l. said_after rest (said_of t.fields.names l)) maxima
-    ∙ ap (λ r. and_then r (said_after (topo_declared t))) (tag_back t.fields (tag_at t) f h.table h.tag)
+    said_joined (written_fields 2 (names_of t) (maxima_of t)) rest nothing_declared
+    ∙ ap (λ r. declare.and_then r (said rest)) (fields_back 2 built_in.names built_in.maxima (names_of t) (maxima_of t) h.fields_fit)
+    ∙ ap (λ l. said rest (said_of l ms)) names
+    ∙ ap (λ l. said rest (said_of t.fields.names l)) maxima
+    ∙ ap (λ r. declare.and_then r (said (topo_declared t))) (tag_back t.fields (tag_at t) f h.table h.tag)
     ∙ said_joined (written_switches (switches_at t) t.topo.switches) (written_links (links_at t) t.topo.links) (with_switches t.fields [])
-    ∙ ap (λ r. and_then r (said_after (written_links (links_at t) t.topo.links))) (switches_back t.fields (switches_at t) 0 [] t.topo.switches tt h.switches)
+    ∙ ap (λ r. declare.and_then r (said (written_links (links_at t) t.topo.links))) (switches_back t.fields (switches_at t) 0 [] t.topo.switches tt h.switches)
     ∙ links_back t.fields t.topo.switches (links_at t) [] t.topo.links h.switches h.links
 
 values : (t : Tables) (f line : ℕ) → Fits t f → tables_from line (written t f) ≡ Ok t
 values t f line h =
-    ap (λ b. checked (fault_if (not b) 1) (and_then (said_after (head_declared t f) nothing_said) rest)) (version_known (some_prefix t))
-    ∙ ap (λ r. and_then r rest) (all_said t f h)
-    ∙ ap (λ r. and_then r (λ ts. unless (fault_if (is_none t.fields.tag) line) (whole (said t) ts))) (tables_back (version_of t) (said t) (tables_at t) 0 [] t.tables tt h.tables_good)
-    ∙ ap (λ o. unless (fault_if (is_none o) line) (whole (said t) (map table_entry t.tables))) h.tag
+    ap (λ b. checked (fault_if (not b) 1) (and_then (said_after (head_declared t f) nothing_declared) rest)) (version_known (some_prefix t))
+    ∙ ap (λ r. and_then (read_of r) rest) (all_said t f h)
+    ∙ ap (λ r. and_then r (λ ts. unless (fault_if (is_none t.fields.tag) line) (whole (value_of t) ts))) (tables_back (version_of t) (value_of t) (tables_at t) 0 [] t.tables tt h.tables_good)
+    ∙ ap (λ o. unless (fault_if (is_none o) line) (whole (value_of t) (map table_entry t.tables))) h.tag
     ∙ ap (λ ns. Ok (record { fields = t.fields; topo = t.topo; tables = map (table_for (map table_entry t.tables)) ns })) (sym h.each)
     ∙ ap (λ ts. Ok (record { fields = t.fields; topo = t.topo; tables = ts })) (each_is 0 [] t.tables tt h.tables_rise)
   where
-    rest : Said → Result Tables ReadError
+    rest : DeclaredValue → Result Tables ReadError
     rest s = and_then (tables_read (version_of t) s [] (written_tables t.fields (tables_at t) t.tables)) (λ ts. unless (fault_if (is_none s.fields.tag) line) (whole s ts))
 
 -- ---- what printable tables are
@@ -245,7 +252,7 @@ fits t f h e = record {
   links_shown = links_shown ss t.topo.links switches (λ l i. (links.from_port l i, links.to_port l i));
   each = h.each;
   tables_shown = tables_shown t.topo t.fields declarable 0 t.tables numbers tables;
-  tables_good = tables_good (version_of t) (said t) declarable 0 t.tables numbers only tables;
+  tables_good = tables_good (version_of t) (value_of t) declarable 0 t.tables numbers only tables;
   tables_rise = tables_rise t.topo 0 t.tables numbers;
 }
   where
@@ -279,7 +286,7 @@ fits t f h e = record {
       one_to = λ k l i j. h.topology.links.one_to k l (contains_from_in t.topo.links k i) (contains_from_in t.topo.links l j);
     }
 
-    declarable : AreDeclarable t.fields
+    declarable : IsWritable t.fields
     declarable = record { table = is; maxima = h.maxima; names = h.names }
 
     numbers : NumbersFit t.topo 0 (map (λ u. u.switch) t.tables)

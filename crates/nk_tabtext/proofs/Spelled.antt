@@ -4,8 +4,8 @@ use Rattle.std.specs.Prelude.{Some, None, option_and_then, if◌then◌else◌}
 use Rattle.std.specs.List.{flat_map}
 use Rattle.nk_lex.specs.declared.kind.Kind.{Kind}
 use Rattle.nk_lex.specs.declared.kind.Kind.TheVariants as kind
-use Rattle.nk_tabtext.specs.declared.written.Word.{Word}
-use Rattle.nk_tabtext.specs.declared.written.Number.{Number}
+use Rattle.nk_grammar.specs.declared.ast.Word.{Word}
+use Rattle.nk_grammar.specs.declared.ast.Number.{Number}
 use Rattle.nk_tabtext.specs.declared.written.Pair.{Pair}
 use Rattle.nk_tabtext.specs.declared.written.Declaration.{Declaration}
 use Rattle.nk_tabtext.specs.declared.written.Declaration.TheVariants as declared
@@ -24,6 +24,9 @@ use Rattle.nk_tabtext.specs.declared.stage.Owner.{Owner}
 use Rattle.nk_tabtext.specs.declared.stage.Owner.TheVariants as owner
 use Rattle.nk_tabtext.specs.declared.stage.Stage.{Stage}
 use Rattle.nk_tabtext.specs.declared.stage.Stage.TheVariants as stage
+use Rattle.nk_tabtext.specs.declared.stage.Declaring.TheVariants as declaring
+use Rattle.nk_tabtext.specs.declared.stage.Grouping.TheVariants as grouping
+use Rattle.nk_tabtext.specs.declared.stage.InRow.TheVariants as in_row
 use Rattle.nk_tabtext.specs.Terminal.{Terminal, name, number, mark, is_mark, with_name, with_number}
 use Rattle.nk_tabtext.specs.Spelling.{spell_port, spell_declaration, spell_match, spell_set, way_token, spell_bucket, spell_matches, spell_row, spell_group, spell_table, spell_text}
 use Rattle.nk_tabtext.specs.Machine.{Reading, with_declaration, with_table, with_group, with_row, with_match, match_of, row_of, quad_step, link_on, place_step, bucket_done, bucket_on, begin, begin_row, begin_group, begin_match, next_reading, read_one, read_all, first_reading, text_ended}
@@ -66,32 +69,32 @@ abbrev pub spelled : Stage → WrittenTables → WrittenTable → List Terminal
 spelled stage.Start x c = []
 spelled stage.Version x c = mark kind.Tables ∷ []
 spelled stage.Between x c = spell_text x
-spelled stage.Field x c = spell_text x ++ mark kind.Field ∷ []
-spelled (stage.FieldNamed w) x c = spell_text x ++ mark kind.Field ∷ name w ∷ []
-spelled stage.Tag x c = spell_text x ++ mark kind.Tag ∷ []
-spelled stage.Switch x c = spell_text x ++ mark kind.Switch ∷ []
-spelled (stage.SwitchNumbered n) x c = spell_text x ++ mark kind.Switch ∷ number n ∷ []
-spelled (stage.FirstPort n) x c = spell_text x ++ mark kind.Switch ∷ number n ∷ mark kind.Ports ∷ []
-spelled (stage.NextPort n p ps) x c = (spell_text x ++ spell_declaration (declared.Switch n p ps)) ++ mark kind.Comma ∷ []
-spelled (stage.PortRead n p ps) x c = spell_text x ++ spell_declaration (declared.Switch n p ps)
-spelled (stage.Link q) x c = spell_text x ++ mark kind.Link ∷ spell_quad q
+spelled (stage.Declared declaring.Field) x c = spell_text x ++ mark kind.Field ∷ []
+spelled (stage.Declared (declaring.FieldNamed w)) x c = spell_text x ++ mark kind.Field ∷ name w ∷ []
+spelled (stage.Declared declaring.Tag) x c = spell_text x ++ mark kind.Tag ∷ []
+spelled (stage.Declared declaring.Switch) x c = spell_text x ++ mark kind.Switch ∷ []
+spelled (stage.Declared (declaring.SwitchNumbered n)) x c = spell_text x ++ mark kind.Switch ∷ number n ∷ []
+spelled (stage.Declared (declaring.FirstPort n)) x c = spell_text x ++ mark kind.Switch ∷ number n ∷ mark kind.Ports ∷ []
+spelled (stage.Declared (declaring.NextPort n p ps)) x c = (spell_text x ++ spell_declaration (declared.Switch n p ps)) ++ mark kind.Comma ∷ []
+spelled (stage.Declared (declaring.PortRead n p ps)) x c = spell_text x ++ spell_declaration (declared.Switch n p ps)
+spelled (stage.Declared (declaring.Link q)) x c = spell_text x ++ mark kind.Link ∷ spell_quad q
 spelled stage.Table x c = spell_text x ++ mark kind.Table ∷ []
 spelled stage.Groups x c = within x c
-spelled stage.Group x c = within x c ++ mark kind.Group ∷ []
-spelled (stage.GroupNumbered n) x c = within x c ++ mark kind.Group ∷ number n ∷ []
-spelled (stage.FirstBucket n) x c = within x c ++ mark kind.Group ∷ number n ∷ mark kind.Equal ∷ []
-spelled (stage.BucketRead g) x c = within x c ++ spell_group g
+spelled (stage.Grouped grouping.Group) x c = within x c ++ mark kind.Group ∷ []
+spelled (stage.Grouped (grouping.GroupNumbered n)) x c = within x c ++ mark kind.Group ∷ number n ∷ []
+spelled (stage.Grouped (grouping.FirstBucket n)) x c = within x c ++ mark kind.Group ∷ number n ∷ mark kind.Equal ∷ []
+spelled (stage.Grouped (grouping.BucketRead g)) x c = within x c ++ spell_group g
 spelled (stage.InBucket o p) x c = (within x c ++ spell_owner o) ++ spell_place p
 spelled stage.Rows x c = within x c
-spelled stage.Row x c = within x c ++ mark kind.Row ∷ []
-spelled (stage.RowNumbered p) x c = within x c ++ mark kind.Row ∷ number p ∷ []
-spelled (stage.Matches p ms) x c = within x c ++ spell_matches p ms
-spelled (stage.MatchNamed p ms w) x c = (within x c ++ spell_matches p ms) ++ name w ∷ []
-spelled (stage.MatchTested p ms w) x c = (within x c ++ spell_matches p ms) ++ name w ∷ mark kind.Equal ∷ []
-spelled (stage.MatchValued p ms w n) x c = within x c ++ spell_matches p (with_match ms w n None)
-spelled (stage.MatchSlashed p ms w n) x c = (within x c ++ spell_matches p (with_match ms w n None)) ++ mark kind.Slash ∷ []
-spelled (stage.Target p ms) x c = (within x c ++ spell_matches p ms) ++ mark kind.Arrow ∷ []
-spelled (stage.TargetGroup p ms) x c = (within x c ++ spell_matches p ms) ++ mark kind.Arrow ∷ mark kind.Group ∷ []
+spelled (stage.InRow in_row.Row) x c = within x c ++ mark kind.Row ∷ []
+spelled (stage.InRow (in_row.RowNumbered p)) x c = within x c ++ mark kind.Row ∷ number p ∷ []
+spelled (stage.InRow (in_row.Matches p ms)) x c = within x c ++ spell_matches p ms
+spelled (stage.InRow (in_row.MatchNamed p ms w)) x c = (within x c ++ spell_matches p ms) ++ name w ∷ []
+spelled (stage.InRow (in_row.MatchTested p ms w)) x c = (within x c ++ spell_matches p ms) ++ name w ∷ mark kind.Equal ∷ []
+spelled (stage.InRow (in_row.MatchValued p ms w n)) x c = within x c ++ spell_matches p (with_match ms w n None)
+spelled (stage.InRow (in_row.MatchSlashed p ms w n)) x c = (within x c ++ spell_matches p (with_match ms w n None)) ++ mark kind.Slash ∷ []
+spelled (stage.InRow (in_row.Target p ms)) x c = (within x c ++ spell_matches p ms) ++ mark kind.Arrow ∷ []
+spelled (stage.InRow (in_row.TargetGroup p ms)) x c = (within x c ++ spell_matches p ms) ++ mark kind.Arrow ∷ mark kind.Group ∷ []
 
 -- before a bucket of a group no row is read
 abbrev OwnerFits : Owner → WrittenTable → Type 0
@@ -104,32 +107,32 @@ abbrev pub Fits : Stage → WrittenTables → WrittenTable → Type 0
 Fits stage.Start x c = Unit {0}
 Fits stage.Version x c = Unit {0}
 Fits stage.Between x c = x.tables ≡ []
-Fits stage.Field x c = x.tables ≡ []
-Fits (stage.FieldNamed w) x c = x.tables ≡ []
-Fits stage.Tag x c = x.tables ≡ []
-Fits stage.Switch x c = x.tables ≡ []
-Fits (stage.SwitchNumbered n) x c = x.tables ≡ []
-Fits (stage.FirstPort n) x c = x.tables ≡ []
-Fits (stage.NextPort n p ps) x c = x.tables ≡ []
-Fits (stage.PortRead n p ps) x c = x.tables ≡ []
-Fits (stage.Link q) x c = x.tables ≡ []
+Fits (stage.Declared declaring.Field) x c = x.tables ≡ []
+Fits (stage.Declared (declaring.FieldNamed w)) x c = x.tables ≡ []
+Fits (stage.Declared declaring.Tag) x c = x.tables ≡ []
+Fits (stage.Declared declaring.Switch) x c = x.tables ≡ []
+Fits (stage.Declared (declaring.SwitchNumbered n)) x c = x.tables ≡ []
+Fits (stage.Declared (declaring.FirstPort n)) x c = x.tables ≡ []
+Fits (stage.Declared (declaring.NextPort n p ps)) x c = x.tables ≡ []
+Fits (stage.Declared (declaring.PortRead n p ps)) x c = x.tables ≡ []
+Fits (stage.Declared (declaring.Link q)) x c = x.tables ≡ []
 Fits stage.Table x c = Unit {0}
 Fits stage.Groups x c = c.rows ≡ []
-Fits stage.Group x c = c.rows ≡ []
-Fits (stage.GroupNumbered n) x c = c.rows ≡ []
-Fits (stage.FirstBucket n) x c = c.rows ≡ []
-Fits (stage.BucketRead g) x c = c.rows ≡ []
+Fits (stage.Grouped grouping.Group) x c = c.rows ≡ []
+Fits (stage.Grouped (grouping.GroupNumbered n)) x c = c.rows ≡ []
+Fits (stage.Grouped (grouping.FirstBucket n)) x c = c.rows ≡ []
+Fits (stage.Grouped (grouping.BucketRead g)) x c = c.rows ≡ []
 Fits (stage.InBucket o p) x c = OwnerFits o c
 Fits stage.Rows x c = Unit {0}
-Fits stage.Row x c = Unit {0}
-Fits (stage.RowNumbered p) x c = Unit {0}
-Fits (stage.Matches p ms) x c = Unit {0}
-Fits (stage.MatchNamed p ms w) x c = Unit {0}
-Fits (stage.MatchTested p ms w) x c = Unit {0}
-Fits (stage.MatchValued p ms w n) x c = Unit {0}
-Fits (stage.MatchSlashed p ms w n) x c = Unit {0}
-Fits (stage.Target p ms) x c = Unit {0}
-Fits (stage.TargetGroup p ms) x c = Unit {0}
+Fits (stage.InRow in_row.Row) x c = Unit {0}
+Fits (stage.InRow (in_row.RowNumbered p)) x c = Unit {0}
+Fits (stage.InRow (in_row.Matches p ms)) x c = Unit {0}
+Fits (stage.InRow (in_row.MatchNamed p ms w)) x c = Unit {0}
+Fits (stage.InRow (in_row.MatchTested p ms w)) x c = Unit {0}
+Fits (stage.InRow (in_row.MatchValued p ms w n)) x c = Unit {0}
+Fits (stage.InRow (in_row.MatchSlashed p ms w n)) x c = Unit {0}
+Fits (stage.InRow (in_row.Target p ms)) x c = Unit {0}
+Fits (stage.InRow (in_row.TargetGroup p ms)) x c = Unit {0}
 
 -- these tokens lead to the state
 abbrev pub IsAt : List Terminal → Reading → Type 0
@@ -338,17 +341,17 @@ pub leads : (s : Stage) (x : WrittenTables) (c : WrittenTable) (t : Terminal) �
 leads stage.Start x c t h = via_mark same t [] kind.Tables _ _ (refl, tt) tt
 leads stage.Version x c t h = via_number same t (mark kind.Tables ∷ []) _ _ (λ n. (refl, refl)) tt
 leads stage.Between x c t h = begins x c t h
-leads stage.Field x c t h = via_name same t (spell_text x ++ mark kind.Field ∷ []) _ _ (λ w. (append_assoc (spell_text x) (mark kind.Field ∷ []) (name w ∷ []), h)) tt
-leads (stage.FieldNamed w) x c t h =
+leads (stage.Declared declaring.Field) x c t h = via_name same t (spell_text x ++ mark kind.Field ∷ []) _ _ (λ w. (append_assoc (spell_text x) (mark kind.Field ∷ []) (name w ∷ []), h)) tt
+leads (stage.Declared (declaring.FieldNamed w)) x c t h =
     via_number same t (spell_text x ++ mark kind.Field ∷ name w ∷ []) _ _ (λ n. (append_assoc (spell_text x) (mark kind.Field ∷ name w ∷ []) (number n ∷ []) ∙ declaration_pushed x (declared.Field w n) h, h)) tt
-leads stage.Tag x c t h =
+leads (stage.Declared declaring.Tag) x c t h =
     via_name same t (spell_text x ++ mark kind.Tag ∷ []) _ _ (λ w. (append_assoc (spell_text x) (mark kind.Tag ∷ []) (name w ∷ []) ∙ declaration_pushed x (declared.Tag w) h, h)) tt
-leads stage.Switch x c t h = via_number same t (spell_text x ++ mark kind.Switch ∷ []) _ _ (λ n. (append_assoc (spell_text x) (mark kind.Switch ∷ []) (number n ∷ []), h)) tt
-leads (stage.SwitchNumbered n) x c t h =
+leads (stage.Declared declaring.Switch) x c t h = via_number same t (spell_text x ++ mark kind.Switch ∷ []) _ _ (λ n. (append_assoc (spell_text x) (mark kind.Switch ∷ []) (number n ∷ []), h)) tt
+leads (stage.Declared (declaring.SwitchNumbered n)) x c t h =
     via_mark same t (spell_text x ++ mark kind.Switch ∷ number n ∷ []) kind.Ports _ _ (append_assoc (spell_text x) (mark kind.Switch ∷ number n ∷ []) (mark kind.Ports ∷ []), h) tt
-leads (stage.FirstPort n) x c t h =
+leads (stage.Declared (declaring.FirstPort n)) x c t h =
     via_number same t (spell_text x ++ mark kind.Switch ∷ number n ∷ mark kind.Ports ∷ []) _ _ (λ p. (append_assoc (spell_text x) (mark kind.Switch ∷ number n ∷ mark kind.Ports ∷ []) (number p ∷ []), h)) tt
-leads (stage.NextPort n p ps) x c t h =
+leads (stage.Declared (declaring.NextPort n p ps)) x c t h =
     via_number same t ((spell_text x ++ spell_declaration (declared.Switch n p ps)) ++ mark kind.Comma ∷ []) _ _
     (λ q. (
       append_assoc (spell_text x ++ spell_declaration (declared.Switch n p ps)) (mark kind.Comma ∷ []) (number q ∷ [])
@@ -356,31 +359,31 @@ leads (stage.NextPort n p ps) x c t h =
           ∙ ap (λ l. spell_text x ++ mark kind.Switch ∷ number n ∷ mark kind.Ports ∷ number p ∷ l) (sym (flat_more spell_port ps q)),
       h,
     )) tt
-leads (stage.PortRead n p ps) x c t h =
+leads (stage.Declared (declaring.PortRead n p ps)) x c t h =
     via_mark same t (spell_text x ++ spell_declaration (declared.Switch n p ps)) kind.Comma _ _ (refl, h)
     (subst (λ l. Leads (begin (with_declaration x (declared.Switch n p ps)) c t) (l ++ t ∷ [])) (sym (declaration_pushed x (declared.Switch n p ps) h))
     (begins (with_declaration x (declared.Switch n p ps)) c t h))
-leads (stage.Link q) x c t h = link_leads x c q t h
+leads (stage.Declared (declaring.Link q)) x c t h = link_leads x c q t h
 leads stage.Table x c t h = via_number same t (spell_text x ++ mark kind.Table ∷ []) _ _ (λ n. (append_assoc (spell_text x) (mark kind.Table ∷ []) (number n ∷ []), refl)) tt
 leads stage.Groups x c t h = group_begins x c t h
-leads stage.Group x c t h = via_number same t (within x c ++ mark kind.Group ∷ []) _ _ (λ n. (append_assoc (within x c) (mark kind.Group ∷ []) (number n ∷ []), h)) tt
-leads (stage.GroupNumbered n) x c t h =
+leads (stage.Grouped grouping.Group) x c t h = via_number same t (within x c ++ mark kind.Group ∷ []) _ _ (λ n. (append_assoc (within x c) (mark kind.Group ∷ []) (number n ∷ []), h)) tt
+leads (stage.Grouped (grouping.GroupNumbered n)) x c t h =
     via_mark same t (within x c ++ mark kind.Group ∷ number n ∷ []) kind.Equal _ _ (append_assoc (within x c) (mark kind.Group ∷ number n ∷ []) (mark kind.Equal ∷ []), h) tt
-leads (stage.FirstBucket n) x c t h =
+leads (stage.Grouped (grouping.FirstBucket n)) x c t h =
     via_mark same t (within x c ++ mark kind.Group ∷ number n ∷ mark kind.Equal ∷ []) kind.OpenBracket _ _ (refl, h) tt
-leads (stage.BucketRead g) x c t h =
+leads (stage.Grouped (grouping.BucketRead g)) x c t h =
     via_mark same t (within x c ++ spell_group g) kind.OpenBracket _ _ (refl, h)
     (subst (λ l. Leads (begin_group x (with_group c g) t) (l ++ t ∷ [])) (sym (group_pushed x c g h))
     (group_begins x (with_group c g) t h))
 leads (stage.InBucket o p) x c t h = bucket_leads x c o p t h
 leads stage.Rows x c t h = row_begins x c t
-leads stage.Row x c t h = via_number same t (within x c ++ mark kind.Row ∷ []) _ _ (λ p. (append_assoc (within x c) (mark kind.Row ∷ []) (number p ∷ []), tt)) tt
-leads (stage.RowNumbered p) x c t h =
+leads (stage.InRow in_row.Row) x c t h = via_number same t (within x c ++ mark kind.Row ∷ []) _ _ (λ p. (append_assoc (within x c) (mark kind.Row ∷ []) (number p ∷ []), tt)) tt
+leads (stage.InRow (in_row.RowNumbered p)) x c t h =
     via_mark same t (within x c ++ mark kind.Row ∷ number p ∷ []) kind.Colon _ _ (append_assoc (within x c) (mark kind.Row ∷ number p ∷ []) (mark kind.Colon ∷ []), tt) tt
-leads (stage.Matches p ms) x c t h = match_begins x c p ms t
-leads (stage.MatchNamed p ms w) x c t h =
+leads (stage.InRow (in_row.Matches p ms)) x c t h = match_begins x c p ms t
+leads (stage.InRow (in_row.MatchNamed p ms w)) x c t h =
     via_mark same t ((within x c ++ spell_matches p ms) ++ name w ∷ []) kind.Equal _ _ (append_assoc (within x c ++ spell_matches p ms) (name w ∷ []) (mark kind.Equal ∷ []), tt) tt
-leads (stage.MatchTested p ms w) x c t h =
+leads (stage.InRow (in_row.MatchTested p ms w)) x c t h =
     via_number same t ((within x c ++ spell_matches p ms) ++ name w ∷ mark kind.Equal ∷ []) _ _
     (λ n. (
       append_assoc (within x c ++ spell_matches p ms) (name w ∷ mark kind.Equal ∷ []) (number n ∷ [])
@@ -388,10 +391,10 @@ leads (stage.MatchTested p ms w) x c t h =
           ∙ append-nil (within x c ++ spell_matches p (with_match ms w n None)),
       tt,
     )) tt
-leads (stage.MatchValued p ms w n) x c t h =
+leads (stage.InRow (in_row.MatchValued p ms w n)) x c t h =
     via_mark same t (within x c ++ spell_matches p (with_match ms w n None)) kind.Slash _ _ (refl, tt)
     (match_begins x c p (with_match ms w n None) t)
-leads (stage.MatchSlashed p ms w n) x c t h =
+leads (stage.InRow (in_row.MatchSlashed p ms w n)) x c t h =
     let us = within x c ++ spell_matches p (with_match ms w n None) in
     via_number same t (us ++ mark kind.Slash ∷ []) _ _
     (λ l. (
@@ -401,7 +404,7 @@ leads (stage.MatchSlashed p ms w n) x c t h =
           ∙ append-nil (within x c ++ spell_matches p (with_match ms w n (Some l))),
       tt,
     )) tt
-leads (stage.Target p ms) x c t h =
+leads (stage.InRow (in_row.Target p ms)) x c t h =
     let us = (within x c ++ spell_matches p ms) ++ mark kind.Arrow ∷ [] in
     via_mark same t us kind.OpenBracket _ _ (ap (λ l. l ++ mark kind.OpenBracket ∷ []) (append_assoc (within x c) (spell_matches p ms) (mark kind.Arrow ∷ [])), tt)
     (via_mark same t us kind.Group _ _ (append_assoc (within x c ++ spell_matches p ms) (mark kind.Arrow ∷ []) (mark kind.Group ∷ []), tt)
@@ -411,7 +414,7 @@ leads (stage.Target p ms) x c t h =
           ∙ row_pushed x c (row_of p ms target.Discard),
       tt,
     ) tt))
-leads (stage.TargetGroup p ms) x c t h =
+leads (stage.InRow (in_row.TargetGroup p ms)) x c t h =
     via_number same t ((within x c ++ spell_matches p ms) ++ mark kind.Arrow ∷ mark kind.Group ∷ []) _ _
     (λ n. (
       append_assoc (within x c ++ spell_matches p ms) (mark kind.Arrow ∷ mark kind.Group ∷ []) (number n ∷ [])
@@ -448,31 +451,31 @@ front_of ts r e = fronts ts [] first_reading r (refl, tt) e
 pub ends : (s : Stage) (x : WrittenTables) (c : WrittenTable) (y : WrittenTables) → Fits s x c → text_ended s x c ≡ Some y
     → spelled s x c ≡ spell_text y
 ends stage.Between x c y h e = ap spell_text (some_same x y e)
-ends (stage.PortRead n p ps) x c y h e = declaration_pushed x (declared.Switch n p ps) h ∙ ap spell_text (some_same _ y e)
+ends (stage.Declared (declaring.PortRead n p ps)) x c y h e = declaration_pushed x (declared.Switch n p ps) h ∙ ap spell_text (some_same _ y e)
 ends stage.Groups x c y h e = table_pushed x c ∙ ap spell_text (some_same _ y e)
-ends (stage.BucketRead g) x c y h e = group_pushed x c g h ∙ table_pushed x (with_group c g) ∙ ap spell_text (some_same _ y e)
+ends (stage.Grouped (grouping.BucketRead g)) x c y h e = group_pushed x c g h ∙ table_pushed x (with_group c g) ∙ ap spell_text (some_same _ y e)
 ends stage.Rows x c y h e = table_pushed x c ∙ ap spell_text (some_same _ y e)
 ends stage.Start x c y h e = absurd (none_some y e)
 ends stage.Version x c y h e = absurd (none_some y e)
-ends stage.Field x c y h e = absurd (none_some y e)
-ends (stage.FieldNamed w) x c y h e = absurd (none_some y e)
-ends stage.Tag x c y h e = absurd (none_some y e)
-ends stage.Switch x c y h e = absurd (none_some y e)
-ends (stage.SwitchNumbered n) x c y h e = absurd (none_some y e)
-ends (stage.FirstPort n) x c y h e = absurd (none_some y e)
-ends (stage.NextPort n p ps) x c y h e = absurd (none_some y e)
-ends (stage.Link q) x c y h e = absurd (none_some y e)
+ends (stage.Declared declaring.Field) x c y h e = absurd (none_some y e)
+ends (stage.Declared (declaring.FieldNamed w)) x c y h e = absurd (none_some y e)
+ends (stage.Declared declaring.Tag) x c y h e = absurd (none_some y e)
+ends (stage.Declared declaring.Switch) x c y h e = absurd (none_some y e)
+ends (stage.Declared (declaring.SwitchNumbered n)) x c y h e = absurd (none_some y e)
+ends (stage.Declared (declaring.FirstPort n)) x c y h e = absurd (none_some y e)
+ends (stage.Declared (declaring.NextPort n p ps)) x c y h e = absurd (none_some y e)
+ends (stage.Declared (declaring.Link q)) x c y h e = absurd (none_some y e)
 ends stage.Table x c y h e = absurd (none_some y e)
-ends stage.Group x c y h e = absurd (none_some y e)
-ends (stage.GroupNumbered n) x c y h e = absurd (none_some y e)
-ends (stage.FirstBucket n) x c y h e = absurd (none_some y e)
+ends (stage.Grouped grouping.Group) x c y h e = absurd (none_some y e)
+ends (stage.Grouped (grouping.GroupNumbered n)) x c y h e = absurd (none_some y e)
+ends (stage.Grouped (grouping.FirstBucket n)) x c y h e = absurd (none_some y e)
 ends (stage.InBucket o p) x c y h e = absurd (none_some y e)
-ends stage.Row x c y h e = absurd (none_some y e)
-ends (stage.RowNumbered p) x c y h e = absurd (none_some y e)
-ends (stage.Matches p ms) x c y h e = absurd (none_some y e)
-ends (stage.MatchNamed p ms w) x c y h e = absurd (none_some y e)
-ends (stage.MatchTested p ms w) x c y h e = absurd (none_some y e)
-ends (stage.MatchValued p ms w n) x c y h e = absurd (none_some y e)
-ends (stage.MatchSlashed p ms w n) x c y h e = absurd (none_some y e)
-ends (stage.Target p ms) x c y h e = absurd (none_some y e)
-ends (stage.TargetGroup p ms) x c y h e = absurd (none_some y e)
+ends (stage.InRow in_row.Row) x c y h e = absurd (none_some y e)
+ends (stage.InRow (in_row.RowNumbered p)) x c y h e = absurd (none_some y e)
+ends (stage.InRow (in_row.Matches p ms)) x c y h e = absurd (none_some y e)
+ends (stage.InRow (in_row.MatchNamed p ms w)) x c y h e = absurd (none_some y e)
+ends (stage.InRow (in_row.MatchTested p ms w)) x c y h e = absurd (none_some y e)
+ends (stage.InRow (in_row.MatchValued p ms w n)) x c y h e = absurd (none_some y e)
+ends (stage.InRow (in_row.MatchSlashed p ms w n)) x c y h e = absurd (none_some y e)
+ends (stage.InRow (in_row.Target p ms)) x c y h e = absurd (none_some y e)
+ends (stage.InRow (in_row.TargetGroup p ms)) x c y h e = absurd (none_some y e)

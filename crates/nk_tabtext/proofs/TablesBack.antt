@@ -24,7 +24,8 @@ use Rattle.nk_table.specs.Rules.{rows_of, groups_of}
 use Rattle.nk_tabtext.specs.InOrder.{MatchesAscend}
 use Rattle.nk_tabtext.specs.Text.{is_exact, have_prefix, section_text}
 use Rattle.nk_tabtext.specs.ReadBack.{IsExit, IsBucketOf, IsGroupOf, IsTargetOf, IsMatchOf, IsRowOf, IsTableOf}
-use Rattle.nk_tabtext.specs.Values.{Said}
+use Rattle.nk_declare.specs.Declarations.{DeclaredValue}
+use Rattle.nk_declare.specs.Kept.{IsWritable}
 use Rattle.nk_tabtext.proofs.Lines.{AreShown, AreMatchesShown, IsExitShown, IsBucketShown}
 use Rattle.nk_tabtext.proofs.TableLines.{AreBucketsShown, AreGroupsShown, IsTargetShown, AreRowsShown, AreTablesShown, table_lines}
 use Rattle.nk_tabtext.proofs.Merging.{AreGood}
@@ -32,12 +33,6 @@ use Rattle.nk_tabtext.proofs.Matched.{AreFine}
 use Rattle.nk_tabtext.proofs.Valued.{IsBucketGood, AreBucketsGood, AreGroupsGood, IsTargetGood, AreRowsGood, AreTablesGood, TablesFrom}
 use Rattle.nk_tabtext.proofs.HeadValues.{SwitchesFit}
 use Rattle.nk_tabtext.proofs.HeadBack.{name_there, has_one}
-
--- fields that a text can declare
-pub record AreDeclarable (fs : FieldTable) : Type 0 where
-  pub table : IsFieldTable fs
-  pub maxima : All (λ m. m ≤ largest) fs.maxima
-  pub names : All IsName fs.names
 
 -- a text of this version has these rows: where some match is a prefix it is version 2
 abbrev Allows : ℕ → FieldTable → List Row → Type 0
@@ -51,7 +46,7 @@ pub or_second : (a b : Bool) → b ≡ true → (a || b) ≡ true
 or_second true b e = refl
 or_second false b e = e
 
-module _ (fs : FieldTable) (is : AreDeclarable fs) where
+module _ (fs : FieldTable) (is : IsWritable fs) where
   -- pairs that ascend
   good_pairs : (low k : ℕ) (ms : List (ℕ × ℕ)) → low ≤ k → AscendsFrom k ms → AllByRecursion (λ m. IsValue fs m.0 m.1) ms → AreGood fs low ms
   good_pairs low k [] le a v = tt
@@ -217,7 +212,7 @@ numbers_fit topo low [] h i = tt
 numbers_fit topo low (s ∷ ss) h i =
     ((h.0.0, h.0.1, there topo.switches s (i s (inl refl))), numbers_fit topo (s.switch + 1) ss h.1 (λ r j. i r (inr j)))
 
-pub tables_good : (version : ℕ) (s : Said) (is : AreDeclarable s.fields) (low : ℕ) (ts : List Table) → NumbersFit s.topo low (map (λ t. t.switch) ts)
+pub tables_good : (version : ℕ) (s : DeclaredValue) (is : IsWritable s.fields) (low : ℕ) (ts : List Table) → NumbersFit s.topo low (map (λ t. t.switch) ts)
     → (list_any (λ t. have_prefix s.fields t.rows) ts ≡ true → version ≡ 2) → AllByRecursion (IsTableOf s.fields) ts → AreTablesGood version s low ts
 tables_good version s is low [] n only h = tt
 tables_good version s is low (t ∷ ts) n only h =
@@ -234,7 +229,7 @@ tables_good version s is low (t ∷ ts) n only h =
       tables_good version s is (t.switch + 1) ts n.1 (λ e. only (or_second (have_prefix s.fields t.rows) later e)) h.1,
     )
 
-pub tables_shown : (topo : Topology) (fs : FieldTable) (is : AreDeclarable fs) (low : ℕ) (ts : List Table) → NumbersFit topo low (map (λ t. t.switch) ts)
+pub tables_shown : (topo : Topology) (fs : FieldTable) (is : IsWritable fs) (low : ℕ) (ts : List Table) → NumbersFit topo low (map (λ t. t.switch) ts)
     → AllByRecursion (IsTableOf fs) ts → AreTablesShown fs ts
 tables_shown topo fs is low [] n h = tt
 tables_shown topo fs is low (t ∷ ts) n h =

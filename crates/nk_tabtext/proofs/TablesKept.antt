@@ -23,7 +23,7 @@ use Rattle.nk_table.specs.declared.Target.{Target}
 use Rattle.nk_table.specs.declared.Target.TheVariants as does
 use Rattle.nk_table.specs.declared.Exit.{Exit}
 use Rattle.nk_table.specs.declared.Exit.TheVariants as exit
-use Rattle.nk_tabtext.specs.declared.written.Number.{Number}
+use Rattle.nk_grammar.specs.declared.ast.Number.{Number}
 use Rattle.nk_tabtext.specs.declared.written.Pair.{Pair}
 use Rattle.nk_tabtext.specs.declared.written.WrittenMatch.{WrittenMatch}
 use Rattle.nk_tabtext.specs.declared.written.Way.{Way}
@@ -37,11 +37,13 @@ use Rattle.nk_tabtext.specs.declared.written.WrittenTable.{WrittenTable}
 use Rattle.nk_tabtext.specs.declared.written.ReadError.{ReadError}
 use Rattle.nk_tabtext.specs.declared.written.ReadError.TheVariants as error
 use Rattle.nk_tabtext.specs.Machine.{and_then}
-use Rattle.nk_tabtext.specs.Values.{Said, fault_if, first_of, above, unless, is_from, pair_read, pairs_read, length_in, length_fault, ones_fault, match_read, put_match, matches_read, way_read, bucket_of, bucket_read, buckets_read, has_key, group_fault, group_of, group_read, groups_read, target_read, row_with, row_read, rows_read, table_of, table_read, tables_read, empty_table, table_for}
+use Rattle.nk_declare.specs.Declarations.{DeclaredValue, is_from}
+use Rattle.nk_tabtext.specs.Values.{fault_if, first_of, above, unless, pair_read, pairs_read, length_in, length_fault, ones_fault, match_read, put_match, matches_read, way_read, bucket_of, bucket_read, buckets_read, has_key, group_fault, group_of, group_read, groups_read, target_read, row_with, row_read, rows_read, table_of, table_read, tables_read, empty_table, table_for}
 use Rattle.nk_tabtext.specs.InOrder.{MatchesAscend}
 use Rattle.nk_tabtext.specs.ReadBack.{IsExit, IsBucketOf, IsGroupOf, IsTargetOf, IsMatchOf, IsRowOf, IsTableOf}
 use Rattle.nk_tabtext.proofs.Valued.{above_key, same_test}
-use Rattle.nk_tabtext.proofs.HeadKept.{both_ok, unless_ok, checked_ok, ok_is, both_fine, not_wrong, within, holds, neither, from_low, has_maximum, IsGroupOfText, IsTableOfText}
+use Rattle.nk_declare.proofs.Kept.{from_low, has_maximum}
+use Rattle.nk_tabtext.proofs.HeadKept.{both_ok, unless_ok, checked_ok, ok_is, both_fine, not_wrong, within, holds, neither, IsGroupOfText, IsTableOfText}
 
 -- ---- pairs
 
@@ -410,7 +412,7 @@ module _ (fs : FieldTable) (is : IsFieldTable fs) where
 abbrev pub IsTableEntry : FieldTable → ℕ × Table → Type 0
 IsTableEntry fs e = (e.0 ≡ e.1.switch) × IsTableOf fs e.1
 
-table_kept : (version : ℕ) (s : Said) → IsFieldTable s.fields → (before : List (ℕ × Table)) (t : WrittenTable) (x : Table) → IsTableOfText t
+table_kept : (version : ℕ) (s : DeclaredValue) → IsFieldTable s.fields → (before : List (ℕ × Table)) (t : WrittenTable) (x : Table) → IsTableOfText t
     → table_read version s before t ≡ Ok x → IsTableOf s.fields x
 table_kept version s is before t x small e =
     let r = checked_ok _ _ x e in
@@ -424,7 +426,7 @@ table_kept version s is before t x small e =
       rows = All-from_recursion (IsRowOf s.fields (groups_in gs.0)) ws.0 rows;
     })
 
-pub tables_kept : (version : ℕ) (s : Said) → IsFieldTable s.fields → (before : List (ℕ × Table)) (ts : List WrittenTable) (es : List (ℕ × Table)) → AllByRecursion IsTableOfText ts
+pub tables_kept : (version : ℕ) (s : DeclaredValue) → IsFieldTable s.fields → (before : List (ℕ × Table)) (ts : List WrittenTable) (es : List (ℕ × Table)) → AllByRecursion IsTableOfText ts
     → KeysRise 0 before → AllByRecursion (IsTableEntry s.fields) before → tables_read version s before ts ≡ Ok es → AllByRecursion (IsTableEntry s.fields) es
 tables_kept version s is before [] es small up h e = subst (AllByRecursion (IsTableEntry s.fields)) (ok_is before es e) h
 tables_kept version s is before (t ∷ ts) es small up h e =

@@ -20,7 +20,8 @@ use Rattle.nk_table.specs.declared.Exit.{Exit}
 use Rattle.nk_table.specs.declared.Exit.TheVariants as exit
 use Rattle.nk_tabtext.specs.declared.written.WrittenTable.{WrittenTable}
 use Rattle.nk_tabtext.specs.Machine.{and_then}
-use Rattle.nk_tabtext.specs.Values.{Said, fault_if, first_of, unless, checked, way_read, bucket_of, bucket_read, buckets_read, has_key, group_of, group_fault, group_read, groups_read, target_read, row_with, row_read, rows_read, table_fault, table_of, table_read, tables_read, empty_table, table_for, matches_read}
+use Rattle.nk_declare.specs.Declarations.{DeclaredValue}
+use Rattle.nk_tabtext.specs.Values.{fault_if, first_of, unless, checked, way_read, bucket_of, bucket_read, buckets_read, has_key, group_of, group_fault, group_read, groups_read, target_read, row_with, row_read, rows_read, table_fault, table_of, table_read, tables_read, empty_table, table_for, matches_read}
 use Rattle.nk_tabtext.specs.ReadBack.{IsExit}
 use Rattle.nk_tabtext.proofs.Lines.{number_on, written_way, written_bucket}
 use Rattle.nk_tabtext.proofs.TableLines.{HasOne, group_with, written_group, written_groups, written_target, written_row, written_rows, behind, written_tables}
@@ -226,7 +227,7 @@ rows_back version fs line gs before (w ∷ ws) h =
 abbrev pub table_entry : Table → ℕ × Table
 table_entry t = (t.switch, t)
 
-abbrev pub AreTablesGood : ℕ → Said → ℕ → List Table → Type 0
+abbrev pub AreTablesGood : ℕ → DeclaredValue → ℕ → List Table → Type 0
 AreTablesGood version s low [] = Unit {0}
 AreTablesGood version s low (t ∷ ts) =
     ((low ≤ t.switch) × (t.switch ≤ 65535) × (is_switch s.topo t.switch ≡ true) × AreGroupsGood s.fields 1 t.groups × AreRowsGood version s.fields t.groups t.rows)
@@ -237,7 +238,7 @@ entries_groups : (gs : List Group) → map (λ e. e.1) (map group_entry gs) ≡ 
 entries_groups [] = refl
 entries_groups (g ∷ gs) = ap (λ l. g ∷ l) (entries_groups gs)
 
-pub tables_back : (version : ℕ) (s : Said) (line low : ℕ) (before : List (ℕ × Table)) (ts : List Table) → KeysBelow low before → AreTablesGood version s low ts
+pub tables_back : (version : ℕ) (s : DeclaredValue) (line low : ℕ) (before : List (ℕ × Table)) (ts : List Table) → KeysBelow low before → AreTablesGood version s low ts
     → tables_read version s before (written_tables s.fields line ts) ≡ Ok (before ++ map table_entry ts)
 tables_back version s line low before [] keys h = ap (λ l. Ok l) (sym (append-nil before))
 tables_back version s line low before (t ∷ ts) keys h =

@@ -3,8 +3,8 @@ use Rattle.std.specs.Prelude.{◌≡◌, ℕ, List, [], ◌∷◌, ◌++◌, Opt
 use Rattle.std.specs.declared.result.Result.{Result}
 use Rattle.nk_lex.specs.declared.kind.Kind.TheVariants as kind
 use Rattle.nk_lex.specs.declared.token.Token.{Token}
-use Rattle.nk_tabtext.specs.declared.written.Word.{Word}
-use Rattle.nk_tabtext.specs.declared.written.Number.{Number}
+use Rattle.nk_grammar.specs.declared.ast.Word.{Word}
+use Rattle.nk_grammar.specs.declared.ast.Number.{Number}
 use Rattle.nk_tabtext.specs.declared.written.Declaration.{Declaration}
 use Rattle.nk_tabtext.specs.declared.written.Declaration.TheVariants as declared
 use Rattle.nk_tabtext.specs.declared.written.Way.TheVariants as way
@@ -30,6 +30,9 @@ use Rattle.nk_tabtext.specs.declared.stage.Owner.{Owner}
 use Rattle.nk_tabtext.specs.declared.stage.Owner.TheVariants as owner
 use Rattle.nk_tabtext.specs.declared.stage.Stage.{Stage}
 use Rattle.nk_tabtext.specs.declared.stage.Stage.TheVariants as stage
+use Rattle.nk_tabtext.specs.declared.stage.Declaring.TheVariants as declaring
+use Rattle.nk_tabtext.specs.declared.stage.Grouping.TheVariants as grouping
+use Rattle.nk_tabtext.specs.declared.stage.InRow.TheVariants as in_row
 use Rattle.nk_tabtext.specs.Terminal.{Terminal, is_mark, with_name, with_number, terminal_of}
 
 -- a text that is read: what may come next, what is done, and the table that is read
@@ -98,7 +101,7 @@ quad_step (quad.ToColon a m b) t = with_number t next.Refused (λ n. next.Full a
 -- what a link's next token leads to
 abbrev pub link_on : WrittenTables → WrittenTable → QuadNext → Option Reading
 link_on x c next.Refused = None
-link_on x c (next.Going q) = Some (reading (stage.Link q) x c)
+link_on x c (next.Going q) = Some (reading (stage.Declared (declaring.Link q)) x c)
 link_on x c (next.Full a m b n) = Some (reading stage.Between (with_declaration x (declared.Link a m b n)) c)
 
 -- one more token of a bucket
@@ -117,8 +120,8 @@ place_step (place.Left ps e) t =
 
 -- a bucket that is whole
 abbrev pub bucket_done : WrittenTables → WrittenTable → Owner → WrittenBucket → Reading
-bucket_done x c (owner.First n) b = reading (stage.BucketRead (record { number = n; first = b; more = [] })) x c
-bucket_done x c (owner.Next g) b = reading (stage.BucketRead (record g { more = g.more ++ b ∷ [] })) x c
+bucket_done x c (owner.First n) b = reading (stage.Grouped (grouping.BucketRead (record { number = n; first = b; more = [] }))) x c
+bucket_done x c (owner.Next g) b = reading (stage.Grouped (grouping.BucketRead (record g { more = g.more ++ b ∷ [] }))) x c
 bucket_done x c (owner.Row p ms) b = reading stage.Rows x (with_row c (row_of p ms (target.Bucket b)))
 
 -- what a bucket's next token leads to
@@ -130,35 +133,35 @@ bucket_on x c o (then_place.Full b) = Some (bucket_done x c o b)
 -- a declaration or a table begins
 abbrev pub begin : WrittenTables → WrittenTable → Terminal → Option Reading
 begin x c t =
-    if is_mark kind.Field t then Some (reading stage.Field x c)
-    else if is_mark kind.Tag t then Some (reading stage.Tag x c)
-    else if is_mark kind.Switch t then Some (reading stage.Switch x c)
-    else if is_mark kind.Link t then Some (reading (stage.Link quad.Start) x c)
+    if is_mark kind.Field t then Some (reading (stage.Declared declaring.Field) x c)
+    else if is_mark kind.Tag t then Some (reading (stage.Declared declaring.Tag) x c)
+    else if is_mark kind.Switch t then Some (reading (stage.Declared declaring.Switch) x c)
+    else if is_mark kind.Link t then Some (reading (stage.Declared (declaring.Link quad.Start)) x c)
     else if is_mark kind.Table t then Some (reading stage.Table x c)
     else None
 
 -- a row or a table begins
 abbrev pub begin_row : WrittenTables → WrittenTable → Terminal → Option Reading
 begin_row x c t =
-    if is_mark kind.Row t then Some (reading stage.Row x c)
+    if is_mark kind.Row t then Some (reading (stage.InRow in_row.Row) x c)
     else if is_mark kind.Table t then Some (reading stage.Table (with_table x c) no_table)
     else None
 
 -- a group, a row or a table begins
 abbrev pub begin_group : WrittenTables → WrittenTable → Terminal → Option Reading
-begin_group x c t = if is_mark kind.Group t then Some (reading stage.Group x c) else begin_row x c t
+begin_group x c t = if is_mark kind.Group t then Some (reading (stage.Grouped grouping.Group) x c) else begin_row x c t
 
 -- a match or the arrow begins
 abbrev pub begin_match : WrittenTables → WrittenTable → Number → List WrittenMatch → Terminal → Option Reading
 begin_match x c p ms t =
-    with_name t (if is_mark kind.Arrow t then Some (reading (stage.Target p ms) x c) else None)
-    (λ w. Some (reading (stage.MatchNamed p ms w) x c))
+    with_name t (if is_mark kind.Arrow t then Some (reading (stage.InRow (in_row.Target p ms)) x c) else None)
+    (λ w. Some (reading (stage.InRow (in_row.MatchNamed p ms w)) x c))
 
 -- a target begins
 abbrev pub begin_target : WrittenTables → WrittenTable → Number → List WrittenMatch → Terminal → Option Reading
 begin_target x c p ms t =
     if is_mark kind.OpenBracket t then Some (reading (stage.InBucket (owner.Row p ms) (place.Sets [])) x c)
-    else if is_mark kind.Group t then Some (reading (stage.TargetGroup p ms) x c)
+    else if is_mark kind.Group t then Some (reading (stage.InRow (in_row.TargetGroup p ms)) x c)
     else if is_mark kind.Drop t then Some (reading stage.Rows x (with_row c (row_of p ms target.Discard)))
     else None
 
@@ -167,42 +170,42 @@ abbrev pub next_reading : Stage → WrittenTables → WrittenTable → Terminal 
 next_reading stage.Start x c t = if is_mark kind.Tables t then Some (reading stage.Version x c) else None
 next_reading stage.Version x c t = with_number t None (λ n. Some (reading stage.Between (opened n) c))
 next_reading stage.Between x c t = begin x c t
-next_reading stage.Field x c t = with_name t None (λ w. Some (reading (stage.FieldNamed w) x c))
-next_reading (stage.FieldNamed w) x c t =
+next_reading (stage.Declared declaring.Field) x c t = with_name t None (λ w. Some (reading (stage.Declared (declaring.FieldNamed w)) x c))
+next_reading (stage.Declared (declaring.FieldNamed w)) x c t =
     with_number t None (λ n. Some (reading stage.Between (with_declaration x (declared.Field w n)) c))
-next_reading stage.Tag x c t = with_name t None (λ w. Some (reading stage.Between (with_declaration x (declared.Tag w)) c))
-next_reading stage.Switch x c t = with_number t None (λ n. Some (reading (stage.SwitchNumbered n) x c))
-next_reading (stage.SwitchNumbered n) x c t = if is_mark kind.Ports t then Some (reading (stage.FirstPort n) x c) else None
-next_reading (stage.FirstPort n) x c t = with_number t None (λ p. Some (reading (stage.PortRead n p []) x c))
-next_reading (stage.NextPort n p ps) x c t = with_number t None (λ q. Some (reading (stage.PortRead n p (ps ++ q ∷ [])) x c))
-next_reading (stage.PortRead n p ps) x c t =
-    if is_mark kind.Comma t then Some (reading (stage.NextPort n p ps) x c)
+next_reading (stage.Declared declaring.Tag) x c t = with_name t None (λ w. Some (reading stage.Between (with_declaration x (declared.Tag w)) c))
+next_reading (stage.Declared declaring.Switch) x c t = with_number t None (λ n. Some (reading (stage.Declared (declaring.SwitchNumbered n)) x c))
+next_reading (stage.Declared (declaring.SwitchNumbered n)) x c t = if is_mark kind.Ports t then Some (reading (stage.Declared (declaring.FirstPort n)) x c) else None
+next_reading (stage.Declared (declaring.FirstPort n)) x c t = with_number t None (λ p. Some (reading (stage.Declared (declaring.PortRead n p [])) x c))
+next_reading (stage.Declared (declaring.NextPort n p ps)) x c t = with_number t None (λ q. Some (reading (stage.Declared (declaring.PortRead n p (ps ++ q ∷ []))) x c))
+next_reading (stage.Declared (declaring.PortRead n p ps)) x c t =
+    if is_mark kind.Comma t then Some (reading (stage.Declared (declaring.NextPort n p ps)) x c)
     else begin (with_declaration x (declared.Switch n p ps)) c t
-next_reading (stage.Link q) x c t = link_on x c (quad_step q t)
+next_reading (stage.Declared (declaring.Link q)) x c t = link_on x c (quad_step q t)
 next_reading stage.Table x c t = with_number t None (λ n. Some (reading stage.Groups x (opened_table n)))
 next_reading stage.Groups x c t = begin_group x c t
-next_reading stage.Group x c t = with_number t None (λ n. Some (reading (stage.GroupNumbered n) x c))
-next_reading (stage.GroupNumbered n) x c t = if is_mark kind.Equal t then Some (reading (stage.FirstBucket n) x c) else None
-next_reading (stage.FirstBucket n) x c t =
+next_reading (stage.Grouped grouping.Group) x c t = with_number t None (λ n. Some (reading (stage.Grouped (grouping.GroupNumbered n)) x c))
+next_reading (stage.Grouped (grouping.GroupNumbered n)) x c t = if is_mark kind.Equal t then Some (reading (stage.Grouped (grouping.FirstBucket n)) x c) else None
+next_reading (stage.Grouped (grouping.FirstBucket n)) x c t =
     if is_mark kind.OpenBracket t then Some (reading (stage.InBucket (owner.First n) (place.Sets [])) x c) else None
-next_reading (stage.BucketRead g) x c t =
+next_reading (stage.Grouped (grouping.BucketRead g)) x c t =
     if is_mark kind.OpenBracket t then Some (reading (stage.InBucket (owner.Next g) (place.Sets [])) x c)
     else begin_group x (with_group c g) t
 next_reading (stage.InBucket o p) x c t = bucket_on x c o (place_step p t)
 next_reading stage.Rows x c t = begin_row x c t
-next_reading stage.Row x c t = with_number t None (λ p. Some (reading (stage.RowNumbered p) x c))
-next_reading (stage.RowNumbered p) x c t = if is_mark kind.Colon t then Some (reading (stage.Matches p []) x c) else None
-next_reading (stage.Matches p ms) x c t = begin_match x c p ms t
-next_reading (stage.MatchNamed p ms w) x c t =
-    if is_mark kind.Equal t then Some (reading (stage.MatchTested p ms w) x c) else None
-next_reading (stage.MatchTested p ms w) x c t = with_number t None (λ n. Some (reading (stage.MatchValued p ms w n) x c))
-next_reading (stage.MatchValued p ms w n) x c t =
-    if is_mark kind.Slash t then Some (reading (stage.MatchSlashed p ms w n) x c)
+next_reading (stage.InRow in_row.Row) x c t = with_number t None (λ p. Some (reading (stage.InRow (in_row.RowNumbered p)) x c))
+next_reading (stage.InRow (in_row.RowNumbered p)) x c t = if is_mark kind.Colon t then Some (reading (stage.InRow (in_row.Matches p [])) x c) else None
+next_reading (stage.InRow (in_row.Matches p ms)) x c t = begin_match x c p ms t
+next_reading (stage.InRow (in_row.MatchNamed p ms w)) x c t =
+    if is_mark kind.Equal t then Some (reading (stage.InRow (in_row.MatchTested p ms w)) x c) else None
+next_reading (stage.InRow (in_row.MatchTested p ms w)) x c t = with_number t None (λ n. Some (reading (stage.InRow (in_row.MatchValued p ms w n)) x c))
+next_reading (stage.InRow (in_row.MatchValued p ms w n)) x c t =
+    if is_mark kind.Slash t then Some (reading (stage.InRow (in_row.MatchSlashed p ms w n)) x c)
     else begin_match x c p (with_match ms w n None) t
-next_reading (stage.MatchSlashed p ms w n) x c t =
-    with_number t None (λ l. Some (reading (stage.Matches p (with_match ms w n (Some l))) x c))
-next_reading (stage.Target p ms) x c t = begin_target x c p ms t
-next_reading (stage.TargetGroup p ms) x c t =
+next_reading (stage.InRow (in_row.MatchSlashed p ms w n)) x c t =
+    with_number t None (λ l. Some (reading (stage.InRow (in_row.Matches p (with_match ms w n (Some l)))) x c))
+next_reading (stage.InRow (in_row.Target p ms)) x c t = begin_target x c p ms t
+next_reading (stage.InRow (in_row.TargetGroup p ms)) x c t =
     with_number t None (λ n. Some (reading stage.Rows x (with_row c (row_of p ms (target.Group n)))))
 
 -- one more token
@@ -221,9 +224,9 @@ first_reading = reading stage.Start (opened no_number) no_table
 -- what is written, if the text may end here
 abbrev pub text_ended : Stage → WrittenTables → WrittenTable → Option WrittenTables
 text_ended stage.Between x c = Some x
-text_ended (stage.PortRead n p ps) x c = Some (with_declaration x (declared.Switch n p ps))
+text_ended (stage.Declared (declaring.PortRead n p ps)) x c = Some (with_declaration x (declared.Switch n p ps))
 text_ended stage.Groups x c = Some (with_table x c)
-text_ended (stage.BucketRead g) x c = Some (with_table x (with_group c g))
+text_ended (stage.Grouped (grouping.BucketRead g)) x c = Some (with_table x (with_group c g))
 text_ended stage.Rows x c = Some (with_table x c)
 text_ended s x c = None
 

@@ -11,7 +11,7 @@
 use Rattle.std.specs.Prelude.{◌≡◌, Option, Some, None, List, [], ◌∷◌, ◌++◌}
 use Rattle.std.specs.List.{flat_map}
 use Rattle.nk_lex.specs.declared.kind.Kind.TheVariants as kind
-use Rattle.nk_tabtext.specs.declared.written.Number.{Number}
+use Rattle.nk_grammar.specs.declared.ast.Number.{Number}
 use Rattle.nk_tabtext.specs.declared.written.Pair.{Pair}
 use Rattle.nk_tabtext.specs.declared.written.Declaration.{Declaration}
 use Rattle.nk_tabtext.specs.declared.written.Declaration.TheVariants as declared

@@ -25,8 +25,8 @@ use Rattle.nk_table.specs.declared.Target.{Target}
 use Rattle.nk_table.specs.declared.Target.TheVariants as does
 use Rattle.nk_table.specs.declared.Exit.{Exit}
 use Rattle.nk_table.specs.declared.Exit.TheVariants as exit
-use Rattle.nk_tabtext.specs.declared.written.Word.{Word}
-use Rattle.nk_tabtext.specs.declared.written.Number.{Number}
+use Rattle.nk_grammar.specs.declared.ast.Word.{Word}
+use Rattle.nk_grammar.specs.declared.ast.Number.{Number}
 use Rattle.nk_tabtext.specs.declared.written.Pair.{Pair}
 use Rattle.nk_tabtext.specs.declared.written.WrittenMatch.{WrittenMatch}
 use Rattle.nk_tabtext.specs.declared.written.Declaration.{Declaration}
@@ -42,6 +42,10 @@ use Rattle.nk_tabtext.specs.declared.written.WrittenTable.{WrittenTable}
 use Rattle.nk_tabtext.specs.declared.written.WrittenTables.{WrittenTables}
 use Rattle.nk_tabtext.specs.declared.written.ReadError.{ReadError}
 use Rattle.nk_tabtext.specs.declared.written.ReadError.TheVariants as error
+use Rattle.nk_declare.specs.declared.fault.DeclareError.{DeclareError}
+use Rattle.nk_declare.specs.declared.fault.DeclareError.TheVariants as refused
+use Rattle.nk_declare.specs.Declarations.{DeclaredValue, nothing_declared, declared_after, is_from, place_in, most_in}
+use Rattle.nk_declare.specs.Declarations as declare
 use Rattle.nk_tabtext.specs.Machine.{and_then, written_of}
 
 -- the line of a fault, or none
@@ -72,80 +76,26 @@ checked (Some line) rest = Err (error.TableFault line)
 
 -- ---- declarations
 
--- what is declared: fields and a topology
-pub record Said : Type 0 where
-  pub fields : FieldTable
-  pub topo : Topology
+-- a declaration as any text has it
+abbrev pub plain : Declaration → declare.Declaration
+plain (declared.Field w n) = declare.field w n
+plain (declared.Tag w) = declare.tag w
+plain (declared.Switch n p ps) = declare.switch n (p ∷ ps)
+plain (declared.Link a m b n) = declare.link a m b n
 
--- before the first declaration
-abbrev pub nothing_said : Said
-nothing_said = record { fields = built_in; topo = no_topology }
+-- the fault of a declaration, at its line
+abbrev pub fault_of : DeclareError → ReadError
+fault_of refused.NoMemory = error.NoMemory
+fault_of (refused.Fault k line) = error.TableFault line
 
--- a place that is there, from `low` on
-abbrev pub is_from : ℕ → Option ℕ → Bool
-is_from low None = false
-is_from low (Some f) = nat_le low f
+-- what is declared, or that fault
+abbrev pub read_of : Result DeclaredValue DeclareError → Result DeclaredValue ReadError
+read_of (Ok d) = Ok d
+read_of (Err e) = Err (fault_of e)
 
--- a field: its name is new, and there is room for it
-abbrev pub field_fault : FieldTable → Word → MaybeFault
-field_fault fields w =
-    first_of (fault_if (is_some (field_named fields w.text)) w.line) (fault_if (nat_le 18 (length fields.maxima)) w.line)
-
--- the tag: there is none so far, and it is a declared field
-abbrev pub tag_fault : FieldTable → Word → MaybeFault
-tag_fault fields w =
-    first_of (fault_if (is_some fields.tag) w.line) (fault_if (not (is_from 2 (field_named fields w.text))) w.line)
-
--- a port behind others: in range, and none of them
-abbrev pub port_read : (before : List ℕ) → Number → Result ℕ ReadError
-port_read before p =
-    unless (first_of (above 65535 p) (fault_if (list_any (λ q. p.value == q) before) p.line)) p.value
-
--- ports behind others
-abbrev pub ports_read : (before : List ℕ) → List Number → Result (List ℕ) ReadError
-ports_read before [] = Ok before
-ports_read before (p ∷ ps) = and_then (port_read before p) (λ n. ports_read (before ++ n ∷ []) ps)
-
--- a switch: in range and new
-abbrev pub switch_fault : Topology → Number → MaybeFault
-switch_fault topo n = first_of (above 65535 n) (fault_if (is_switch topo n.value) n.line)
-
--- the four numbers of a link, which are a switch and a port, twice
-abbrev pub links_ends : Number → Number → Number → Number → MaybeFault
-links_ends a m b n = first_of (first_of (first_of (above 65535 a) (above 65535 m)) (above 65535 b)) (above 65535 n)
-
--- a link from port m of switch a to port n of switch b: its numbers are in range, its ends are ports, no other link has
--- its source, and none has its target
-abbrev pub link_fault : Topology → Number → Number → Number → Number → MaybeFault
-link_fault topo a m b n =
-    first_of
-    (links_ends a m b n)
-    (first_of
-    (first_of
-    (fault_if (not (is_port topo a.value m.value)) m.line)
-    (fault_if (not (is_port topo b.value n.value)) n.line))
-    (first_of
-    (fault_if (is_some (link_from topo a.value m.value)) m.line)
-    (fault_if (is_target topo b.value n.value) n.line)))
-
--- the link with these four numbers
-abbrev pub link_with : Number → Number → Number → Number → Link
-link_with a m b n = record { from_switch = a.value; from_port = m.value; to_switch = b.value; to_port = n.value }
-
--- what is said after one more declaration
-abbrev pub said_with : Said → Declaration → Result Said ReadError
-said_with s (declared.Field w n) = unless (field_fault s.fields w) (record s { fields = with_field s.fields w.text n.value })
-said_with s (declared.Tag w) =
-    unless (tag_fault s.fields w) (record s { fields = record s.fields { tag = field_named s.fields w.text } })
-said_with s (declared.Switch n p ps) =
-    checked (switch_fault s.topo n)
-    (and_then (ports_read [] (p ∷ ps)) (λ numbers. Ok (record s { topo = with_switch s.topo n.value numbers })))
-said_with s (declared.Link a m b n) = unless (link_fault s.topo a m b n) (record s { topo = with_link s.topo (link_with a m b n) })
-
--- what is said after these declarations
-abbrev pub said_after : List Declaration → Said → Result Said ReadError
-said_after [] s = Ok s
-said_after (d ∷ ds) s = and_then (said_with s d) (said_after ds)
+-- what is declared after these declarations
+abbrev pub said_after : List Declaration → DeclaredValue → Result DeclaredValue ReadError
+said_after ds s = read_of (declared_after (map plain ds) s)
 
 -- a declared name is text
 abbrev pub IsNamed : Declaration → Type 0
@@ -153,13 +103,6 @@ IsNamed (declared.Field w n) = IsUtf8 w.text
 IsNamed d = ⊤
 
 -- ---- the tables of switches
-
--- the place of a field, and its largest value
-abbrev pub place_in : FieldTable → Word → ℕ
-place_in fields w = unwrap_or (field_named fields w.text) 0
-
-abbrev pub most_in : FieldTable → Word → ℕ
-most_in fields w = slice_index fields.maxima (place_in fields w)
 
 -- a field with a value: its name is that of a field from `low` on which is not taken, and the value is in its range
 abbrev pub value_fault : FieldTable → (low : ℕ) → (taken : Bool) → Word → Number → MaybeFault
@@ -304,13 +247,13 @@ abbrev pub table_of : Number → List (ℕ × Group) → List Row → Table
 table_of n groups rows = record { switch = n.value; groups = map (λ e. e.1) groups; rows = rows }
 
 -- a table behind others
-abbrev pub table_read : (version : ℕ) → Said → List (ℕ × Table) → WrittenTable → Result Table ReadError
+abbrev pub table_read : (version : ℕ) → DeclaredValue → List (ℕ × Table) → WrittenTable → Result Table ReadError
 table_read version s before t =
     checked (table_fault s.topo before t.switch)
     (and_then (groups_read s.fields [] t.groups) (λ gs. and_then (rows_read version s.fields gs [] t.rows) (λ rs. Ok (table_of t.switch gs rs))))
 
 -- tables behind others, by switch
-abbrev pub tables_read : (version : ℕ) → Said → List (ℕ × Table) → List WrittenTable → Result (List (ℕ × Table)) ReadError
+abbrev pub tables_read : (version : ℕ) → DeclaredValue → List (ℕ × Table) → List WrittenTable → Result (List (ℕ × Table)) ReadError
 tables_read version s before [] = Ok before
 tables_read version s before (t ∷ ts) =
     and_then (table_read version s before t) (λ x. tables_read version s (insert_entry nat_cmp before x.switch x) ts)
@@ -330,14 +273,14 @@ abbrev pub version_fault : Number → MaybeFault
 version_fault n = fault_if (not ((n.value == 1) || (n.value == 2))) n.line
 
 -- the tables of all declared switches
-abbrev pub whole : Said → List (ℕ × Table) → Tables
+abbrev pub whole : DeclaredValue → List (ℕ × Table) → Tables
 whole s tables = record { fields = s.fields; topo = s.topo; tables = map (table_for tables) (numbers_of s.topo) }
 
 -- the tables that are written, where `line` is the last token's: a tag is declared
 abbrev pub tables_from : ℕ → WrittenTables → Result Tables ReadError
 tables_from line x =
     checked (version_fault x.version)
-    (and_then (said_after x.declarations nothing_said)
+    (and_then (said_after x.declarations nothing_declared)
     (λ s. and_then (tables_read x.version.value s [] x.tables) (λ ts. unless (fault_if (is_none s.fields.tag) line) (whole s ts))))
 
 -- the last token's line, or the one given where there is no token

@@ -10,7 +10,6 @@ ghost use Rattle.nk_tabtext.specs.Text.{table_bytes, section_text, version_text}
 mod declared;
 mod head;
 mod laws;
-mod names;
 mod parts;
 mod reader;
 mod reading;

@@ -4,7 +4,8 @@ ghost use Rattle.nk_tabtext.specs.Machine.{place_step, quad_step};
 ghost use Rattle.nk_tabtext.specs.Terminal.{name_in, number_in, terminal_of};
 
 use crate::stage::{Place, PlaceNext, Quad, QuadNext};
-use crate::written::{Number, Pair, Way, Word, WrittenBucket};
+use crate::written::{Pair, Way, WrittenBucket};
+use nk_grammar::{Number, Word};
 use nk_lex::{Bytes, Kind, Token};
 use std::alloc::{AllocError, Global};
 

@@ -30,16 +30,20 @@ ghost use Rattle.nk_tabtext.specs.Machine.{
   written_of,
 };
 ghost use Rattle.nk_tabtext.specs.declared.stage.Stage.TheVariants as stage;
+ghost use Rattle.nk_tabtext.specs.declared.stage.Declaring.TheVariants as declaring;
+ghost use Rattle.nk_tabtext.specs.declared.stage.Grouping.TheVariants as grouping;
+ghost use Rattle.nk_tabtext.specs.declared.stage.InRow.TheVariants as in_row;
 ghost use Rattle.nk_tabtext.specs.Reader.{reading_of};
 ghost use Rattle.nk_tabtext.specs.Terminal.{terminal_of};
 
 use crate::parts::{name_of, number_of, place_after, quad_after};
-use crate::stage::{Owner, Place, PlaceNext, Quad, QuadNext, Stage};
+use crate::stage::{Declaring, Grouping, InRow, Owner, Place, PlaceNext, Quad, QuadNext, Stage};
 use crate::written::{
-    Declaration, Number, ReadError, Word, WrittenBucket, WrittenGroup, WrittenMatch, WrittenRow,
-    WrittenTable, WrittenTables, WrittenTarget,
+    Declaration, ReadError, WrittenBucket, WrittenGroup, WrittenMatch, WrittenRow, WrittenTable,
+    WrittenTables, WrittenTarget,
 };
 use nk_field::List;
+use nk_grammar::{Number, Word};
 use nk_lex::{Kind, Token};
 use std::alloc::{AllocError, Global};
 use std::mem::replace;
@@ -138,11 +142,13 @@ impl Reader {
         token: &Token,
     ) -> Result<(), ReadError>
         ensures { Returns (λ _. reading_of self.new) result
-            (judged token.now.line (next_reading (stage.MatchValued priority matches name number) self.old.text
+            (judged token.now.line (next_reading (stage.InRow (in_row.MatchValued priority matches name number)) self.old.text
             self.old.table (terminal_of token.now))) }
     {
         match token.kind {
-            Kind::Slash => self.go(Stage::MatchSlashed(priority, matches, name, number)),
+            Kind::Slash => self.go(Stage::InRow(InRow::MatchSlashed(
+                priority, matches, name, number,
+            ))),
             _ => {
                 let matches = with_match(matches, name, number, None)?;
                 self.take_match(alloc, priority, matches, token)
@@ -160,13 +166,13 @@ impl Reader {
         token: &Token,
     ) -> Result<(), ReadError>
         ensures { Returns (λ _. reading_of self.new) result
-            (judged token.now.line (next_reading (stage.MatchSlashed priority matches name number) self.old.text
+            (judged token.now.line (next_reading (stage.InRow (in_row.MatchSlashed priority matches name number)) self.old.text
             self.old.table (terminal_of token.now))) }
     {
         match number_of(token) {
             Some(length) => {
                 let matches = with_match(matches, name, number, Some(length))?;
-                self.go(Stage::Matches(priority, matches))
+                self.go(Stage::InRow(InRow::Matches(priority, matches)))
             }
             None => Err(unexpected(token)),
         }
@@ -233,10 +239,10 @@ impl Reader {
             (judged token.now.line (begin self.old.text self.old.table (terminal_of token.now))) }
     {
         match token.kind {
-            Kind::Field => self.go(Stage::Field),
-            Kind::Tag => self.go(Stage::Tag),
-            Kind::Switch => self.go(Stage::Switch),
-            Kind::Link => self.go(Stage::Link(Quad::Start)),
+            Kind::Field => self.go(Stage::Declared(Declaring::Field)),
+            Kind::Tag => self.go(Stage::Declared(Declaring::Tag)),
+            Kind::Switch => self.go(Stage::Declared(Declaring::Switch)),
+            Kind::Link => self.go(Stage::Declared(Declaring::Link(Quad::Start))),
             Kind::Table => self.go(Stage::Table),
             _ => Err(unexpected(token)),
         }
@@ -248,7 +254,7 @@ impl Reader {
             (judged token.now.line (begin_row self.old.text self.old.table (terminal_of token.now))) }
     {
         match token.kind {
-            Kind::Row => self.go(Stage::Row),
+            Kind::Row => self.go(Stage::InRow(InRow::Row)),
             Kind::Table => self.finish_table(alloc),
             _ => Err(unexpected(token)),
         }
@@ -260,7 +266,7 @@ impl Reader {
             (judged token.now.line (begin_group self.old.text self.old.table (terminal_of token.now))) }
     {
         match token.kind {
-            Kind::Group => self.go(Stage::Group),
+            Kind::Group => self.go(Stage::Grouped(Grouping::Group)),
             _ => self.begin_row(alloc, token),
         }
     }
@@ -276,15 +282,15 @@ impl Reader {
             (Ok (bucket_done self.old.text self.old.table owner bucket)) }
     {
         match owner {
-            Owner::First(number) => self.go(Stage::BucketRead(WrittenGroup {
+            Owner::First(number) => self.go(Stage::Grouped(Grouping::BucketRead(WrittenGroup {
                 number,
                 first: bucket,
                 more: List::new(alloc),
-            })),
+            }))),
             Owner::Next(group) => {
                 let mut group = group;
                 group.more.push(bucket)?;
-                self.go(Stage::BucketRead(group))
+                self.go(Stage::Grouped(Grouping::BucketRead(group)))
             }
             Owner::Row(priority, matches) => {
                 self.finish_row(priority, matches, WrittenTarget::Bucket(bucket))
@@ -320,11 +326,11 @@ impl Reader {
         token: &Token,
     ) -> Result<(), ReadError>
         ensures { Returns (λ _. reading_of self.new) result
-            (judged token.now.line (next_reading (stage.PortRead switch first more) self.old.text self.old.table
+            (judged token.now.line (next_reading (stage.Declared (declaring.PortRead switch first more)) self.old.text self.old.table
             (terminal_of token.now))) }
     {
         match token.kind {
-            Kind::Comma => self.go(Stage::NextPort(switch, first, more)),
+            Kind::Comma => self.go(Stage::Declared(Declaring::NextPort(switch, first, more))),
             _ => {
                 self.push(Declaration::Switch(switch, first, more))?;
                 self.begin(token)
@@ -341,14 +347,14 @@ impl Reader {
         token: &Token,
     ) -> Result<(), ReadError>
         ensures { Returns (λ _. reading_of self.new) result
-            (judged token.now.line (next_reading (stage.NextPort switch first more) self.old.text self.old.table
+            (judged token.now.line (next_reading (stage.Declared (declaring.NextPort switch first more)) self.old.text self.old.table
             (terminal_of token.now))) }
     {
         match number_of(token) {
             Some(port) => {
                 let mut more = more;
                 more.push(port)?;
-                self.go(Stage::PortRead(switch, first, more))
+                self.go(Stage::Declared(Declaring::PortRead(switch, first, more)))
             }
             None => Err(unexpected(token)),
         }
@@ -357,12 +363,12 @@ impl Reader {
     /// One more token of a declared link.
     fn take_link(&mut self, quad: Quad, token: &Token) -> Result<(), ReadError>
         ensures { Returns (λ _. reading_of self.new) result
-            (judged token.now.line (next_reading (stage.Link quad) self.old.text self.old.table
+            (judged token.now.line (next_reading (stage.Declared (declaring.Link quad)) self.old.text self.old.table
             (terminal_of token.now))) }
     {
         match quad_after(quad, token) {
             QuadNext::Refused => Err(unexpected(token)),
-            QuadNext::Going(quad) => self.go(Stage::Link(quad)),
+            QuadNext::Going(quad) => self.go(Stage::Declared(Declaring::Link(quad))),
             QuadNext::Full(a, m, b, n) => self.finish(Declaration::Link(a, m, b, n)),
         }
     }
@@ -375,7 +381,7 @@ impl Reader {
         token: &Token,
     ) -> Result<(), ReadError>
         ensures { Returns (λ _. reading_of self.new) result
-            (judged token.now.line (next_reading (stage.BucketRead group) self.old.text self.old.table
+            (judged token.now.line (next_reading (stage.Grouped (grouping.BucketRead group)) self.old.text self.old.table
             (terminal_of token.now))) }
     {
         match token.kind {
@@ -398,7 +404,7 @@ impl Reader {
         token: &Token,
     ) -> Result<(), ReadError>
         ensures { Returns (λ _. reading_of self.new) result
-            (judged token.now.line (next_reading (stage.FirstBucket number) self.old.text self.old.table
+            (judged token.now.line (next_reading (stage.Grouped (grouping.FirstBucket number)) self.old.text self.old.table
             (terminal_of token.now))) }
     {
         match token.kind {
@@ -427,7 +433,7 @@ impl Reader {
                 let place = Place::Sets(List::new(alloc));
                 self.go(Stage::InBucket(Owner::Row(priority, matches), place))
             }
-            Kind::Group => self.go(Stage::TargetGroup(priority, matches)),
+            Kind::Group => self.go(Stage::InRow(InRow::TargetGroup(priority, matches))),
             Kind::Drop => self.finish_row(priority, matches, WrittenTarget::Discard),
             _ => Err(unexpected(token)),
         }
@@ -446,10 +452,118 @@ impl Reader {
             (terminal_of token.now))) }
     {
         match name_of(alloc, token)? {
-            Some(name) => self.go(Stage::MatchNamed(priority, matches, name)),
+            Some(name) => self.go(Stage::InRow(InRow::MatchNamed(priority, matches, name))),
             None => match token.kind {
-                Kind::Arrow => self.go(Stage::Target(priority, matches)),
+                Kind::Arrow => self.go(Stage::InRow(InRow::Target(priority, matches))),
                 _ => Err(unexpected(token)),
+            },
+        }
+    }
+
+    /// One more token of a declaration.
+    fn take_declaring(
+        &mut self,
+        alloc: Global,
+        at: Declaring,
+        token: &Token,
+    ) -> Result<(), ReadError>
+        ensures { Returns (λ _. reading_of self.new) result
+            (judged token.now.line (next_reading (stage.Declared at) self.old.text self.old.table
+            (terminal_of token.now))) }
+    {
+        match at {
+            Declaring::Field => match name_of(alloc, token)? {
+                Some(name) => self.go(Stage::Declared(Declaring::FieldNamed(name))),
+                None => Err(unexpected(token)),
+            },
+            Declaring::FieldNamed(name) => match number_of(token) {
+                Some(max) => self.finish(Declaration::Field(name, max)),
+                None => Err(unexpected(token)),
+            },
+            Declaring::Tag => match name_of(alloc, token)? {
+                Some(name) => self.finish(Declaration::Tag(name)),
+                None => Err(unexpected(token)),
+            },
+            Declaring::Switch => match number_of(token) {
+                Some(number) => self.go(Stage::Declared(Declaring::SwitchNumbered(number))),
+                None => Err(unexpected(token)),
+            },
+            Declaring::SwitchNumbered(number) => match token.kind {
+                Kind::Ports => self.go(Stage::Declared(Declaring::FirstPort(number))),
+                _ => Err(unexpected(token)),
+            },
+            Declaring::FirstPort(number) => match number_of(token) {
+                Some(port) => self.go(Stage::Declared(Declaring::PortRead(
+                    number,
+                    port,
+                    List::new(alloc),
+                ))),
+                None => Err(unexpected(token)),
+            },
+            Declaring::NextPort(number, first, more) => self.take_port(number, first, more, token),
+            Declaring::PortRead(number, first, more) => {
+                self.take_after_port(number, first, more, token)
+            }
+            Declaring::Link(quad) => self.take_link(quad, token),
+        }
+    }
+
+    /// One more token of a group.
+    fn take_grouping(&mut self, alloc: Global, at: Grouping, token: &Token) -> Result<(), ReadError>
+        ensures { Returns (λ _. reading_of self.new) result
+            (judged token.now.line (next_reading (stage.Grouped at) self.old.text self.old.table
+            (terminal_of token.now))) }
+    {
+        match at {
+            Grouping::Group => match number_of(token) {
+                Some(number) => self.go(Stage::Grouped(Grouping::GroupNumbered(number))),
+                None => Err(unexpected(token)),
+            },
+            Grouping::GroupNumbered(number) => match token.kind {
+                Kind::Equal => self.go(Stage::Grouped(Grouping::FirstBucket(number))),
+                _ => Err(unexpected(token)),
+            },
+            Grouping::FirstBucket(number) => self.take_first_bucket(alloc, number, token),
+            Grouping::BucketRead(group) => self.take_after_bucket(alloc, group, token),
+        }
+    }
+
+    /// One more token of a row.
+    fn take_in_row(&mut self, alloc: Global, at: InRow, token: &Token) -> Result<(), ReadError>
+        ensures { Returns (λ _. reading_of self.new) result
+            (judged token.now.line (next_reading (stage.InRow at) self.old.text self.old.table
+            (terminal_of token.now))) }
+    {
+        match at {
+            InRow::Row => match number_of(token) {
+                Some(priority) => self.go(Stage::InRow(InRow::RowNumbered(priority))),
+                None => Err(unexpected(token)),
+            },
+            InRow::RowNumbered(priority) => match token.kind {
+                Kind::Colon => self.go(Stage::InRow(InRow::Matches(priority, List::new(alloc)))),
+                _ => Err(unexpected(token)),
+            },
+            InRow::Matches(priority, matches) => self.take_match(alloc, priority, matches, token),
+            InRow::MatchNamed(priority, matches, name) => match token.kind {
+                Kind::Equal => self.go(Stage::InRow(InRow::MatchTested(priority, matches, name))),
+                _ => Err(unexpected(token)),
+            },
+            InRow::MatchTested(priority, matches, name) => match number_of(token) {
+                Some(number) => self.go(Stage::InRow(InRow::MatchValued(
+                    priority, matches, name, number,
+                ))),
+                None => Err(unexpected(token)),
+            },
+            InRow::MatchValued(priority, matches, name, number) => {
+                self.take_after_value(alloc, priority, matches, name, number, token)
+            }
+            InRow::MatchSlashed(priority, matches, name, number) => {
+                self.take_length(priority, matches, name, number, token)
+            }
+            InRow::Target(priority, matches) => self.take_target(alloc, priority, matches, token),
+            InRow::TargetGroup(priority, matches) => match number_of(token) {
+                Some(number) => self.finish_row(priority, matches, WrittenTarget::Group(number)),
+                None => Err(unexpected(token)),
             },
         }
     }
@@ -466,35 +580,6 @@ impl Reader {
             },
             Stage::Version => self.take_version(alloc, token),
             Stage::Between => self.begin(token),
-            Stage::Field => match name_of(alloc, token)? {
-                Some(name) => self.go(Stage::FieldNamed(name)),
-                None => Err(unexpected(token)),
-            },
-            Stage::FieldNamed(name) => match number_of(token) {
-                Some(max) => self.finish(Declaration::Field(name, max)),
-                None => Err(unexpected(token)),
-            },
-            Stage::Tag => match name_of(alloc, token)? {
-                Some(name) => self.finish(Declaration::Tag(name)),
-                None => Err(unexpected(token)),
-            },
-            Stage::Switch => match number_of(token) {
-                Some(number) => self.go(Stage::SwitchNumbered(number)),
-                None => Err(unexpected(token)),
-            },
-            Stage::SwitchNumbered(number) => match token.kind {
-                Kind::Ports => self.go(Stage::FirstPort(number)),
-                _ => Err(unexpected(token)),
-            },
-            Stage::FirstPort(number) => match number_of(token) {
-                Some(port) => self.go(Stage::PortRead(number, port, List::new(alloc))),
-                None => Err(unexpected(token)),
-            },
-            Stage::NextPort(number, first, more) => self.take_port(number, first, more, token),
-            Stage::PortRead(number, first, more) => {
-                self.take_after_port(number, first, more, token)
-            }
-            Stage::Link(quad) => self.take_link(quad, token),
             Stage::Table => match number_of(token) {
                 Some(number) => {
                     self.table = opened_table(alloc, number);
@@ -503,46 +588,11 @@ impl Reader {
                 None => Err(unexpected(token)),
             },
             Stage::Groups => self.begin_group(alloc, token),
-            Stage::Group => match number_of(token) {
-                Some(number) => self.go(Stage::GroupNumbered(number)),
-                None => Err(unexpected(token)),
-            },
-            Stage::GroupNumbered(number) => match token.kind {
-                Kind::Equal => self.go(Stage::FirstBucket(number)),
-                _ => Err(unexpected(token)),
-            },
-            Stage::FirstBucket(number) => self.take_first_bucket(alloc, number, token),
-            Stage::BucketRead(group) => self.take_after_bucket(alloc, group, token),
             Stage::InBucket(owner, place) => self.take_in_bucket(alloc, owner, place, token),
             Stage::Rows => self.begin_row(alloc, token),
-            Stage::Row => match number_of(token) {
-                Some(priority) => self.go(Stage::RowNumbered(priority)),
-                None => Err(unexpected(token)),
-            },
-            Stage::RowNumbered(priority) => match token.kind {
-                Kind::Colon => self.go(Stage::Matches(priority, List::new(alloc))),
-                _ => Err(unexpected(token)),
-            },
-            Stage::Matches(priority, matches) => self.take_match(alloc, priority, matches, token),
-            Stage::MatchNamed(priority, matches, name) => match token.kind {
-                Kind::Equal => self.go(Stage::MatchTested(priority, matches, name)),
-                _ => Err(unexpected(token)),
-            },
-            Stage::MatchTested(priority, matches, name) => match number_of(token) {
-                Some(number) => self.go(Stage::MatchValued(priority, matches, name, number)),
-                None => Err(unexpected(token)),
-            },
-            Stage::MatchValued(priority, matches, name, number) => {
-                self.take_after_value(alloc, priority, matches, name, number, token)
-            }
-            Stage::MatchSlashed(priority, matches, name, number) => {
-                self.take_length(priority, matches, name, number, token)
-            }
-            Stage::Target(priority, matches) => self.take_target(alloc, priority, matches, token),
-            Stage::TargetGroup(priority, matches) => match number_of(token) {
-                Some(number) => self.finish_row(priority, matches, WrittenTarget::Group(number)),
-                None => Err(unexpected(token)),
-            },
+            Stage::Declared(at) => self.take_declaring(alloc, at, token),
+            Stage::Grouped(at) => self.take_grouping(alloc, at, token),
+            Stage::InRow(at) => self.take_in_row(alloc, at, token),
         }
     }
 
@@ -553,7 +603,7 @@ impl Reader {
         let Reader { stage, text, table } = self;
         match stage {
             Stage::Between => Ok(text),
-            Stage::PortRead(number, first, more) => {
+            Stage::Declared(Declaring::PortRead(number, first, more)) => {
                 let mut text = text;
                 text.declarations
                     .push(Declaration::Switch(number, first, more))?;
@@ -561,7 +611,7 @@ impl Reader {
             }
             Stage::Groups => with_table(text, table),
             Stage::Rows => with_table(text, table),
-            Stage::BucketRead(group) => {
+            Stage::Grouped(Grouping::BucketRead(group)) => {
                 let mut table = table;
                 table.groups.push(group)?;
                 with_table(text, table)

@@ -1,17 +1,17 @@
 //! The tables of a text.
 ghost use Rattle.std.specs.Prelude.{◌≡◌, All, IfOk, IsUtf8};
 ghost use Rattle.nk_lex.specs.Lex.{tokens_of};
+ghost use Rattle.nk_declare.specs.InMemory.{declared_in};
 ghost use Rattle.nk_tabtext.specs.Machine.{Returns, written_of};
 ghost use Rattle.nk_tabtext.specs.ReadBack.{IsPrintable};
-ghost use Rattle.nk_tabtext.specs.Said.{said_in};
 ghost use Rattle.nk_tabtext.specs.Values.{IsNamed, last_line, lexed, tables_from, tables_of, whole};
 
 use crate::declared::declare;
-use crate::names::Names;
 use crate::reader::read_text;
 use crate::tables::{Tabled, each, tables};
 use crate::values::refuse_if;
 use crate::written::{ReadError, WrittenTables};
+use nk_declare::Declared;
 use nk_lex::{LexError, Token, tokens};
 use nk_table::Tables;
 use std::alloc::{AllocError, Global};
@@ -54,10 +54,10 @@ fn last_line(tokens: &[Token]) -> u64
 
 /// The tables of all declared switches, where these are written.
 #[tactic(auto, using(crate::proofs::Numbers::numbers_rise))]
-fn whole(alloc: Global, names: Names, read: Tabled) -> Result<Tables, AllocError>
-    ensures { IfOk result (λ t. t ≡ whole (said_in names) read.entries) }
+fn whole(alloc: Global, said: Declared, read: Tabled) -> Result<Tables, AllocError>
+    ensures { IfOk result (λ t. t ≡ whole (declared_in said) read.entries) }
 {
-    let Names { fields, topo } = names;
+    let Declared { fields, topo } = said;
     let topo = topo.finish()?;
     let tables = each(alloc, topo.switches(), read)?;
     Ok(Tables {
@@ -74,10 +74,10 @@ fn tables_from(alloc: Global, line: u64, text: &WrittenTables) -> Result<Tables,
 {
     let version = text.version.value;
     refuse_if(version != 1 && version != 2, text.version.line)?;
-    let names = declare(alloc, text.declarations.as_slice())?;
-    let read = tables(alloc, version, &names, text.tables.as_slice())?;
-    refuse_if(names.fields.tag().is_none(), line)?;
-    Ok(whole(alloc, names, read)?)
+    let said = declare(alloc, text.declarations.as_slice())?;
+    let read = tables(alloc, version, &said, text.tables.as_slice())?;
+    refuse_if(said.fields.tag().is_none(), line)?;
+    Ok(whole(alloc, said, read)?)
 }
 
 /// The tables of a text, or its first fault with its line, in this order: a byte that begins no token or a number above

@@ -1,6 +1,7 @@
 //! What may come next in a text of tables.
-use crate::written::{Number, Pair, Way, Word, WrittenBucket, WrittenGroup, WrittenMatch};
+use crate::written::{Pair, Way, WrittenBucket, WrittenGroup, WrittenMatch};
 use nk_field::List;
+use nk_grammar::{Number, Word};
 
 /// How much of `NUMBER : NUMBER -> NUMBER : NUMBER` stands there.
 #[derive(Clone, Copy)]
@@ -69,15 +70,9 @@ pub enum Owner {
     Row(Number, List<WrittenMatch>),
 }
 
-/// What stands before the next token of a text.
+/// What stands before the next token, within a declaration.
 #[derive(Drop)]
-pub enum Stage {
-    /// Nothing.
-    Start,
-    /// The word `tables`.
-    Version,
-    /// Whole declarations; a declaration, a table or the end may follow.
-    Between,
+pub enum Declaring {
     Field,
     FieldNamed(Word),
     Tag,
@@ -90,19 +85,22 @@ pub enum Stage {
     /// A port stands there.
     PortRead(Number, Number, List<Number>),
     Link(Quad),
-    /// The word `table`.
-    Table,
-    /// A table's number and whole groups; a group, a row, a table or the end may follow.
-    Groups,
+}
+
+/// What stands before the next token, within a group but its buckets.
+#[derive(Drop)]
+pub enum Grouping {
     Group,
     GroupNumbered(Number),
     /// The first bucket is wanted.
     FirstBucket(Number),
     /// A bucket of a group stands there.
     BucketRead(WrittenGroup),
-    InBucket(Owner, Place),
-    /// Whole rows; a row, a table or the end may follow.
-    Rows,
+}
+
+/// What stands before the next token, within a row but a bucket.
+#[derive(Drop)]
+pub enum InRow {
     Row,
     RowNumbered(Number),
     /// The matches so far.
@@ -117,4 +115,28 @@ pub enum Stage {
     Target(Number, List<WrittenMatch>),
     /// The word `group` as a target.
     TargetGroup(Number, List<WrittenMatch>),
+}
+
+/// What stands before the next token of a text.
+#[derive(Drop)]
+pub enum Stage {
+    /// Nothing.
+    Start,
+    /// The word `tables`.
+    Version,
+    /// Whole declarations; a declaration, a table or the end may follow.
+    Between,
+    /// A part of a declaration.
+    Declared(Declaring),
+    /// The word `table`.
+    Table,
+    /// A table's number and whole groups; a group, a row, a table or the end may follow.
+    Groups,
+    /// A part of a group.
+    Grouped(Grouping),
+    InBucket(Owner, Place),
+    /// Whole rows; a row, a table or the end may follow.
+    Rows,
+    /// A part of a row.
+    InRow(InRow),
 }

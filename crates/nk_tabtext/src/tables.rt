@@ -1,12 +1,12 @@
 //! The tables of all switches.
 ghost use Rattle.std.specs.Prelude.{◌≡◌, ◌<◌, [], map, unwrap_or, AllPairs, IfOk};
+ghost use Rattle.nk_declare.specs.InMemory.{declared_in};
 ghost use Rattle.nk_tabtext.specs.Machine.{Returns};
-ghost use Rattle.nk_tabtext.specs.Said.{said_in};
 ghost use Rattle.nk_tabtext.specs.Values.{empty_table, table_for, table_read, tables_read};
 
-use crate::names::Names;
 use crate::values::{groups, refuse_if, rows, small};
 use crate::written::{ReadError, WrittenTable};
+use nk_declare::Declared;
 use nk_field::List;
 use nk_table::{Group, Table};
 use std::alloc::{AllocError, Global};
@@ -19,17 +19,17 @@ pub(crate) type Tabled = BTreeMap<u16, Table>;
 fn table(
     alloc: Global,
     version: u64,
-    names: &Names,
+    said: &Declared,
     before: &Tabled,
     t: &WrittenTable,
 ) -> Result<Table, ReadError>
-    ensures { Returns (λ x. x) result (table_read version (said_in names.now) before.now.entries t.now) }
+    ensures { Returns (λ x. x) result (table_read version (declared_in said.now) before.now.entries t.now) }
 {
     let switch = small(t.switch)?;
-    let unknown = !names.topo.is_switch(switch);
+    let unknown = !said.topo.is_switch(switch);
     refuse_if(unknown || before.contains_key(&switch), t.switch.line)?;
-    let groups = groups(alloc, &names.fields, t.groups.as_slice())?;
-    let rows = rows(alloc, version, &names.fields, &groups, t.rows.as_slice())?;
+    let groups = groups(alloc, &said.fields, t.groups.as_slice())?;
+    let rows = rows(alloc, version, &said.fields, &groups, t.rows.as_slice())?;
     let groups: Vec<Group> = groups.into_values().collect(alloc)?;
     Ok(Table {
         switch,
@@ -42,14 +42,14 @@ fn table(
 pub(crate) fn tables(
     alloc: Global,
     version: u64,
-    names: &Names,
+    said: &Declared,
     all: &[WrittenTable],
 ) -> Result<Tabled, ReadError>
-    ensures { Returns (λ m. m.entries) result (tables_read version (said_in names.now) [] all.now) }
+    ensures { Returns (λ m. m.entries) result (tables_read version (declared_in said.now) [] all.now) }
 {
     let mut before = BTreeMap::new(alloc);
     for t in all {
-        let table = table(alloc, version, names, &before, t)?;
+        let table = table(alloc, version, said, &before, t)?;
         if before.insert(table.switch, table).is_err() {
             return Err(ReadError::NoMemory);
         }

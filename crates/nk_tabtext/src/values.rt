@@ -2,7 +2,6 @@
 ghost use Rattle.std.specs.Prelude.{◌≡◌, ◌≤◌, ◌<◌, ◌-◌, ◌%◌, ◌^◌, [], ◌∷◌, Ok, not, map, length, nat_lt, IfOk, IfSome, OnOk, MatchResult};
 ghost use Rattle.std.specs.Prelude.{◌==◌};
 ghost use Rattle.std.specs.List.{list_any, prefix_len};
-ghost use Rattle.nk_field.specs.Packet.{field_named};
 ghost use Rattle.nk_tabtext.specs.Machine.{Returns};
 ghost use Rattle.nk_tabtext.specs.Values.{
   bucket_read,
@@ -29,10 +28,11 @@ ghost use Rattle.nk_tabtext.specs.Values.{
 };
 
 use crate::written::{
-    Number, Pair, ReadError, Way, WrittenBucket, WrittenGroup, WrittenMatch, WrittenRow,
-    WrittenTarget,
+    Pair, ReadError, Way, WrittenBucket, WrittenGroup, WrittenMatch, WrittenRow, WrittenTarget,
 };
+use nk_declare::field_with;
 use nk_field::{Act, Fid, Fields, List};
+use nk_grammar::Number;
 use nk_prefix::digits_of;
 use nk_table::{Bucket, Exit, Group, Row, Target};
 use std::alloc::{AllocError, Global};
@@ -64,21 +64,6 @@ pub(crate) fn small(n: Number) -> Result<u16, ReadError>
     } else {
         Ok(n.value as u16)
     }
-}
-
-/// The field with the name.
-pub(crate) fn field_with(fields: &Fields, name: &[u8]) -> Option<Fid>
-    ensures is { result ≡ field_named fields.now name.now }
-    ensures within { IfSome result (λ f. f < length fields.now.maxima) }
-{
-    let _declared = fields.declared();
-    for place in 0..fields.len() {
-        let field = Fid::new(place as u8);
-        if name == fields.name(field).as_bytes() {
-            return Some(field);
-        }
-    }
-    None
 }
 
 /// Whether a field stands among these.

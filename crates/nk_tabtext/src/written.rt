@@ -3,27 +3,9 @@ ghost use Rattle.std.specs.Prelude.{◌≡◌};
 ghost use Rattle.nk_tabtext.specs.declared.written.ReadError.TheVariants.{NoMemory};
 
 use nk_field::List;
-use nk_lex::Bytes;
+use nk_grammar::{Number, Word};
 use std::alloc::{AllocError, AllocFailed};
 use thiserror::Error;
-
-/// A name with its line.
-#[derive(Drop)]
-pub struct Word {
-    /// The name's bytes.
-    pub text: Bytes,
-    /// The line that it stands on.
-    pub line: u64,
-}
-
-/// A number with its line.
-#[derive(Clone, Copy)]
-pub struct Number {
-    /// The number's value.
-    pub value: u64,
-    /// The line that it stands on.
-    pub line: u64,
-}
 
 /// A declaration.
 #[derive(Drop)]
