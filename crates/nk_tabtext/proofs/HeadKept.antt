@@ -1,13 +1,10 @@
 -- What is declared by a text keeps its rules.
-use Rattle.std.proofs.Common.{◌≡◌, ◌≢◌, ◌≤◌, ◌<◌, ℕ, zero, suc, List, [], ◌∷◌, ◌++◌, Bool, true, false, not, length, get_or, refl, sym, ap, subst, ◌∙◌, Option, Some, None, arith, ◌||◌, ◌⊎◌, inl, inr, ⊎_elim, codes, length-append, map}
-use Rattle.std.specs.Prelude.{◌==◌, Ok, Err, All, AllPairs, IsNone, nat_lt, nat_le, is_some, ⊤}
-use Rattle.std.specs.List.{list_any, flat_map, insert, prefix_len, AllByRecursion}
-use Rattle.std.specs.Str.{bytes_eq}
+use Rattle.std.proofs.Common.{◌≡◌, ◌≤◌, ℕ, List, [], ◌∷◌, ◌++◌, Bool, true, false, not, refl, ap, subst, Option, Some, None, arith, ◌||◌, map}
+use Rattle.std.specs.Prelude.{Ok, Err, All, nat_lt, ⊤}
+use Rattle.std.specs.List.{flat_map, AllByRecursion}
 use Rattle.std.specs.declared.result.Result.{Result}
 use Rattle.std.proofs.lemmas.Bool.Decides.{nat_tests}
-use Rattle.std.proofs.lemmas.List.Elements.{All-nil, All-cons, All-append, recursion_from_All}
-use Rattle.std.proofs.lemmas.List.Folds.{list_any-append}
-use Rattle.std.proofs.lemmas.List.Quantifiers.{position-Some}
+use Rattle.std.proofs.lemmas.List.Elements.{recursion_from_All}
 use Rattle.nk_lex.specs.declared.kind.Kind.{Kind}
 use Rattle.nk_lex.specs.declared.kind.Kind.TheVariants as kind
 use Rattle.nk_lex.specs.declared.token.Token.{Token}
@@ -21,7 +18,6 @@ use Rattle.nk_declare.specs.declared.fault.DeclareError.{DeclareError}
 use Rattle.nk_declare.specs.Declarations.{DeclaredValue, nothing_declared, declared_after}
 use Rattle.nk_declare.specs.Kept.{IsWritable, IsDeclarable, HasFieldOfText, HasPort}
 use Rattle.nk_declare.proofs.Kept.{built_in_writable, fields_kept, nothing_is_topology, topology_kept, AreFit, fit_declarable, numbers_kept, all_kept}
-use Rattle.nk_grammar.specs.declared.ast.Word.{Word}
 use Rattle.nk_grammar.specs.declared.ast.Number.{Number}
 use Rattle.nk_tabtext.specs.declared.written.Declaration.{Declaration}
 use Rattle.nk_tabtext.specs.declared.written.Declaration.TheVariants as declared

@@ -1,6 +1,6 @@
 -- What is read of any text are tables that can be printed and read back.
-use Rattle.std.proofs.Common.{◌≡◌, ◌≤◌, ℕ, List, [], false, length, refl, ap, subst, Option, Some, None, map}
-use Rattle.std.specs.Prelude.{Ok, Err, All, IfOk, IsSome, is_none}
+use Rattle.std.proofs.Common.{◌≡◌, ℕ, List, [], false, refl, ap, subst, Option, Some, None, map}
+use Rattle.std.specs.Prelude.{Ok, Err, IfOk, IsSome, is_none}
 use Rattle.std.specs.declared.result.Result.{Result}
 use Rattle.std.proofs.lemmas.List.Elements.{All-from_recursion}
 use Rattle.nk_lex.specs.declared.token.Token.{Token}

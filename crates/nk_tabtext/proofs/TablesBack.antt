@@ -1,12 +1,11 @@
 -- What printable tables of switches are to the reader, and the text of each switch.
 use Rattle.std.proofs.Common.{◌≡◌, ◌≤◌, ◌<◌, ◌+◌, ℕ, List, [], ◌∷◌, ◌++◌, Bool, true, false, not, refl, sym, ap, subst, ◌∙◌, append_assoc, map, arith, ◌||◌, inl, inr, ⊎_elim}
-use Rattle.std.specs.Prelude.{◌==◌, All, if◌then◌else◌, slice_index}
+use Rattle.std.specs.Prelude.{◌==◌, if◌then◌else◌, slice_index}
 use Rattle.std.specs.List.{list_any, flat_map, AllByRecursion}
 use Rattle.std.proofs.lemmas.Bool.Decides.{nat_tests}
 use Rattle.std.proofs.lemmas.List.Elements.{recursion_from_All}
 use Rattle.nk_lex.specs.Lex.{largest}
-use Rattle.nk_lex.specs.Spelling.{IsName}
-use Rattle.nk_field.specs.Packet.{FieldTable, IsFieldTable, IsValue}
+use Rattle.nk_field.specs.Packet.{FieldTable, IsValue}
 use Rattle.nk_field.specs.Act.{AscendsFrom}
 use Rattle.nk_prefix.specs.Prefix.{digits_of}
 use Rattle.nk_prefix.proofs.Powers.{fewest}

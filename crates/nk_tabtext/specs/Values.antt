@@ -1,7 +1,7 @@
 -- The tables that a text writes, or the line of its first fault. Fields, switches and links are declared first; then come
 -- the tables of switches, with groups by number, matches and assignments by field, rows and buckets as they are written. A
 -- match may be a prefix: how many of the value's binary digits count, from the highest on.
-use Rattle.std.specs.Prelude.{ℕ, ◌-◌, ◌%◌, ◌^◌, ◌==◌, ◌||◌, not, nat_lt, nat_le, Bool, false, ⊤, Option, Some, None, Ok, Err, is_some, is_none, if◌then◌else◌, unwrap_or, map, List, [], ◌∷◌, ◌++◌, length, slice_index, IsUtf8}
+use Rattle.std.specs.Prelude.{ℕ, ◌-◌, ◌%◌, ◌^◌, ◌==◌, ◌||◌, not, nat_lt, Bool, ⊤, Option, Some, None, Ok, Err, is_some, is_none, if◌then◌else◌, unwrap_or, map, List, [], ◌∷◌, ◌++◌, length, IsUtf8}
 use Rattle.std.specs.declared.result.Result.{Result}
 use Rattle.std.specs.Option.{option_or}
 use Rattle.std.specs.List.{list_any}
@@ -12,10 +12,10 @@ use Rattle.nk_lex.specs.declared.token.Token.{Token}
 use Rattle.nk_lex.specs.declared.token.LexError.{LexError}
 use Rattle.nk_lex.specs.declared.token.LexError.TheVariants as lexical
 use Rattle.nk_lex.specs.Lex.{tokens_of}
-use Rattle.nk_field.specs.Packet.{FieldTable, built_in, field_named, with_field}
+use Rattle.nk_field.specs.Packet.{FieldTable, field_named}
 use Rattle.nk_field.specs.Act.{act_then}
 use Rattle.nk_prefix.specs.Prefix.{digits_of}
-use Rattle.nk_topo.specs.Topology.{Topology, Link, no_topology, placed, numbers_of, is_switch, is_port, is_target, link_from, with_switch, with_link}
+use Rattle.nk_topo.specs.Topology.{Topology, placed, numbers_of, is_switch}
 use Rattle.nk_table.specs.declared.Tables.{Tables}
 use Rattle.nk_table.specs.declared.Table.{Table}
 use Rattle.nk_table.specs.declared.Row.{Row}

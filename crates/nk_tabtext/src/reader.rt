@@ -131,7 +131,7 @@ impl Reader {
         }
     }
 
-    /// A match has no length that is written, and another, or the arrow, or a `/` is wanted.
+    /// The value of a match stands there.
     fn take_after_value(
         &mut self,
         alloc: Global,
