@@ -5,7 +5,7 @@ use Rattle.std.specs.Str.{bytes_eq}
 use Rattle.nk_field.specs.Packet.{FieldTable}
 use Rattle.nk_field.proofs.Lists.{In}
 use Rattle.nk_field.proofs.Ascending.{members_from_all}
-use Rattle.nk_policy.specs.Policy.{Policy, Policies, test, assign, sum_of, seq_of, not_of, star_of, dup, link, no_part, part, dups_of}
+use Rattle.nk_policy.specs.Policy.{Policy, Policies, test, range, assign, sum_of, seq_of, not_of, star_of, dup, link, no_part, part, dups_of}
 use Rattle.nk_policy.specs.Ranges.{IsInRange, AssignsOnly, AllAssignOnly}
 use Rattle.nk_policy.specs.Tree.{tree_of}
 use Rattle.nk_policy.specs.declared.policy.Pol.{Pol}
@@ -58,6 +58,7 @@ mutual
   -- complements over predicates, by either name
   over_predicates : (p : Policy) → NegatesPredicates p → IsOverPredicates p
   over_predicates (test f n) h = tt
+  over_predicates (range f lo hi) h = tt
   over_predicates (assign f n) h = tt
   over_predicates (sum_of ps) h = all_over_predicates ps h
   over_predicates (seq_of ps) h = all_over_predicates ps h
@@ -74,6 +75,7 @@ mutual
   -- what is assigned under one condition is assigned under a weaker one
   assigns_weaker : (P Q : ℕ → ℕ → Type 0) → ((f n : ℕ) → P f n → Q f n) → (p : Policy) → AssignsOnly P p → AssignsOnly Q p
   assigns_weaker P Q h (test f n) a = tt
+  assigns_weaker P Q h (range f lo hi) a = tt
   assigns_weaker P Q h (assign f n) a = h f n a
   assigns_weaker P Q h (sum_of ps) a = all_assign_weaker P Q h ps a
   assigns_weaker P Q h (seq_of ps) a = all_assign_weaker P Q h ps a
@@ -88,7 +90,7 @@ mutual
 
 -- a policy of the fields fits a store over them
 pub fits_store : (fields : FieldTable) (st : Held) → IsOver fields st → (p : Policy) → NegatesPredicates p → IsInRange p fields → IsFit st.maxes p
-fits_store fields st over p complements range = (
+fits_store fields st over p complements inside = (
   over_predicates p complements,
-  assigns_weaker _ _ (λ f n le. subst (λ m. n ≤ m) (sym (same_value fields st f over)) le) p range,
+  assigns_weaker _ _ (λ f n le. subst (λ m. n ≤ m) (sym (same_value fields st f over)) le) p inside,
 )

@@ -3,7 +3,7 @@ use Rattle.std.proofs.Common.{◌≡◌, ℕ, Bool, true, false, inl, List, [], 
 use Rattle.std.specs.Prelude.{not, Contains}
 use Rattle.nk_field.proofs.Lists.{in_from_contains, contains_from_in}
 use Rattle.nk_field.specs.Act.{applied}
-use Rattle.nk_policy.specs.Policy.{Policy, Policies, test, assign, sum_of, seq_of, not_of, star_of, dup, link, no_part, part, is_predicate, are_predicates}
+use Rattle.nk_policy.specs.Policy.{Policy, Policies, test, range, assign, sum_of, seq_of, not_of, star_of, dup, link, no_part, part, is_predicate, are_predicates}
 use Rattle.nk_policy.specs.Meaning.{Gives}
 use Rattle.nk_policy.proofs.Predicates.{predicate_keeps}
 use Rattle.nk_policy.proofs.Tests.{both_true}
@@ -27,6 +27,7 @@ mutual
   -- a predicate's complements are of predicates
   pub predicate_negates : (p : Policy) → is_predicate p ≡ true → NegatesPredicates p
   predicate_negates (test f n) h = tt
+  predicate_negates (range f lo hi) h = tt
   predicate_negates (assign f n) h = tt
   predicate_negates (sum_of ps) h = predicates_negate ps h
   predicate_negates (seq_of ps) h = predicates_negate ps h
@@ -54,16 +55,16 @@ out_in (x ∷ xs) e = (x, contains_from_in (x ∷ xs) x (inl refl))
 -- the diagram of a predicate's runs without a record has its packets
 kept_in : (st : Held) (d : ℕ) (p : Policy) → is_predicate p ≡ true → IsSilent st d p → (pk : List ℕ) → IsPacket st pk
     → Gives p pk [] pk → is_in st d pk ≡ true
-kept_in st d p h s pk range g =
-    let sent : Sends st d pk pk 0 = (s.sends (predicate_negates p h, predicate_assigns _ p h) pk pk 0 range).1 (refl, g) in
+kept_in st d p h s pk inside g =
+    let sent : Sends st d pk pk 0 = (s.sends (predicate_negates p h, predicate_assigns _ p h) pk pk 0 inside).1 (refl, g) in
     filled_by (look st d pk) (record { act = sent.0; target = 0 }) sent.1
 
 in_kept : (st : Held) (d : ℕ) (p : Policy) → is_predicate p ≡ true → IsSilent st d p → (pk : List ℕ) → IsPacket st pk
     → is_in st d pk ≡ true → Gives p pk [] pk
-in_kept st d p h s pk range e =
+in_kept st d p h s pk inside e =
     let o = out_in (look st d pk) e in
     let sent : Sends st d pk (applied o.0.act pk) o.0.target = (o.0.act, o.1, refl) in
-    let made = (s.sends (predicate_negates p h, predicate_assigns _ p h) pk (applied o.0.act pk) o.0.target range).0 sent in
+    let made = (s.sends (predicate_negates p h, predicate_assigns _ p h) pk (applied o.0.act pk) o.0.target inside).0 sent in
     subst (λ x. Gives p pk [] x) (predicate_keeps (λ l y. y) p h pk [] (applied o.0.act pk) made.1).1 made.1
 
 -- negated twice it is a set of packets
@@ -76,7 +77,7 @@ packets_are s1 s2 new d o r p h g1 g2 s once twice pred =
     let same = twice_silent s1 new d r p h (grows_on s1 s2 new g1 g2) s again in
     record {
       set = record { id = twice.id; predicate = pred };
-      keeps = λ pk range. (λ g. kept_in new r p h same pk range g, λ e. in_kept new r p h same pk range e);
+      keeps = λ pk inside. (λ g. kept_in new r p h same pk inside g, λ e. in_kept new r p h same pk inside e);
     }
 
 -- a test or its opposite
@@ -91,12 +92,12 @@ true_not false e f = cc
 -- a set has all packets where the others are none
 pub all_in : (st new : Held) (d o : ℕ) → Grows st new → HasLeaves new o (λ pk. absent (look st d pk) (look st d pk))
     → ((pk : List ℕ) → IsWhole pk → is_in new o pk ≡ false) → HasEach st d
-all_in st new d o g leaves none pk range =
-    not_true (is_in st d pk) (sym (ap has_out (leaves.leaf pk range.0) ∙ absent_out (look st d pk) (look st d pk)) ∙ none pk range.0)
+all_in st new d o g leaves none pk inside =
+    not_true (is_in st d pk) (sym (ap has_out (leaves.leaf pk inside.0) ∙ absent_out (look st d pk) (look st d pk)) ∙ none pk inside.0)
 
 -- and lacks one where there is another
 pub one_out : (st new : Held) (d o : ℕ) → Grows st new → HasLeaves new o (λ pk. absent (look st d pk) (look st d pk))
     → ((pk : List ℕ) × IsPacket new pk × (is_in new o pk ≡ true)) → HasEach st d → ⊥
 one_out st new d o g leaves some all =
-    let range = packet_back st new some.0 g some.1 in
-    true_not (is_in st d some.0) (sym (ap has_out (leaves.leaf some.0 range.0) ∙ absent_out (look st d some.0) (look st d some.0)) ∙ some.2) (all some.0 range)
+    let inside = packet_back st new some.0 g some.1 in
+    true_not (is_in st d some.0) (sym (ap has_out (leaves.leaf some.0 inside.0) ∙ absent_out (look st d some.0) (look st d some.0)) ∙ some.2) (all some.0 inside)

@@ -4,7 +4,7 @@ use Rattle.std.specs.List.{range_with_len}
 use Rattle.std.proofs.lemmas.List.Elements.{All-contains, Contains-push}
 use Rattle.nk_field.specs.declared.packet.Packet.{Packet}
 use Rattle.nk_field.proofs.Lists.{In, in_left, in_right, in_either, in_from_contains, in_decided, numbers_decided, Apart}
-use Rattle.nk_policy.specs.Policy.{Policy, Policies, test, assign, sum_of, seq_of, not_of, star_of, dup, link, no_part, part, dups_of, dups_of_all, numbers_of, numbers_of_all}
+use Rattle.nk_policy.specs.Policy.{Policy, Policies, test, range, assign, sum_of, seq_of, not_of, star_of, dup, link, no_part, part, dups_of, dups_of_all, numbers_of, numbers_of_all}
 use Rattle.nk_policy.specs.Progress.{RecordsAt}
 use Rattle.nk_policy.specs.After.{has_dup, after}
 use Rattle.nk_policy.specs.Labels.{IsAt}
@@ -63,6 +63,7 @@ mutual
   -- a policy has as many numbers as dups
   count_numbers : (p : Policy) → length (numbers_of p) ≡ dups_of p
   count_numbers (test f n) = refl
+  count_numbers (range f lo hi) = refl
   count_numbers (assign f n) = refl
   count_numbers (sum_of ps) = count_all_numbers ps
   count_numbers (seq_of ps) = count_all_numbers ps

@@ -52,19 +52,27 @@ guarded condition child rest = if is_full_set child then condition else seq_of (
 abbrev pub within : ℕ → ℕ → ℕ → Policy
 within f first last = if first == last then test f first else range f first last
 
+-- a part as a condition: the field's value is in it
+abbrev pub part_of : ℕ → SetInterval → Policy
+part_of f i = within f i.first i.last
+
 -- the term of an interval, where it is a part whose child is not empty
 abbrev pub terms_of : ℕ → SetTree → SetInterval → List Policy
 terms_of f other i =
     if same_tree other same_outs i.child then []
-    else (if is_empty_set i.child then [] else guarded (within f i.first i.last) i.child i.made ∷ [])
+    else (if is_empty_set i.child then [] else guarded (part_of f i) i.child i.made ∷ [])
 
 -- the condition of an interval, where it is a part
 abbrev pub conditions_of : ℕ → SetTree → SetInterval → List Policy
-conditions_of f other i = if same_tree other same_outs i.child then [] else within f i.first i.last ∷ []
+conditions_of f other i = if same_tree other same_outs i.child then [] else part_of f i ∷ []
+
+-- the conditions of all parts, ascending
+abbrev pub parts_outside : ℕ → SetTree → List SetInterval → List Policy
+parts_outside f other is = flat_map (conditions_of f other) is
 
 -- the condition that the value is in no part
 abbrev pub else_condition : ℕ → SetInterval → List SetInterval → Policy
-else_condition f other is = not_of (sum_of_terms (flat_map (conditions_of f other.child) is))
+else_condition f other is = not_of (sum_of_terms (parts_outside f other.child is))
 
 -- the term of the else-child, unless that is empty
 abbrev pub else_terms : ℕ → SetInterval → List SetInterval → List Policy
