@@ -11,7 +11,7 @@ use Rattle.nk_store.specs.declared.node.Out.{Out}
 use Rattle.nk_store.specs.Diagram.{Branches, leaf, case, no_branch, branch, IsReduced, AreReduced}
 use Rattle.nk_store.specs.Intervals.{same_tree, with_most, values_with}
 use Rattle.nk_names.specs.ReadBack.{IsReadablePredicate, HasNoLonePart, HaveNoLonePart}
-use Rattle.nk_sets.specs.Predicate.{SetTree, SetInterval, same_outs, is_empty_set, is_full_set, parts_of, sum_of_terms, guarded, within, terms_of, conditions_of, else_condition, else_terms, predicate_at, predicate_of, intervals_of}
+use Rattle.nk_sets.specs.Predicate.{SetTree, SetInterval, same_outs, is_empty_set, is_full_set, parts_of, sum_of_terms, guarded, part_of, parts_outside, terms_of, conditions_of, else_condition, else_terms, predicate_at, predicate_of, intervals_of}
 
 -- a predicate over the fields, at most so deep, with no sum or sequence of one part
 record IsGood (fields : FieldTable) (most : ℕ) (p : Policy) : Type 0 where
@@ -111,28 +111,33 @@ append_good :
 append_good fields most [] qs g h = h
 append_good fields most (p ∷ ps) qs g h = (g.0, append_good fields most ps qs g.1 h)
 
--- the values from one to another in range, as a test or a range
-within_good :
-    (fields : FieldTable) (most f first last : ℕ) → f < length fields.maxima → 1 ≤ most → first ≤ last
-    → last ≤ slice_index fields.maxima f → IsGood fields most (within f first last)
-within_good fields most f first last lt le rises ends = by (first == last)
+-- a part as a condition: a test of its one value, or a range
+part_good :
+    (fields : FieldTable) (most f : ℕ) (i : SetInterval) → f < length fields.maxima → 1 ≤ most → i.first ≤ i.last
+    → i.last ≤ slice_index fields.maxima f → IsGood fields most (part_of f i)
+part_good fields most f i lt le rises ends = by (i.first == i.last)
   where
-    by : (b : Bool) → IsGood fields most (cond b (test f first) (range f first last))
-    by true = test_good fields most f first le (lt, omega (arith, rises, ends))
-    by false = record { predicate = refl; over = ((lt, omega (arith, rises, ends)), (lt, ends)); shallow = le; no_lone_part = tt }
+    by : (b : Bool) → IsGood fields most (cond b (test f i.first) (range f i.first i.last))
+    by true = test_good fields most f i.first le (lt, omega (arith, rises, ends))
+    by false = record {
+      predicate = refl;
+      over = ((lt, omega (arith, rises, ends)), (lt, ends));
+      shallow = le;
+      no_lone_part = tt;
+    }
 
--- the conditions of all intervals that are not of the else-child
+-- the conditions of all parts
 conditions_good :
     (fields : FieldTable) (f most : ℕ) (other : SetTree) (is : List SetInterval) → f < length fields.maxima
-    → AreGoodIntervals fields f most is → AreGood fields 1 (flat_map (conditions_of f other) is)
+    → AreGoodIntervals fields f most is → AreGood fields 1 (parts_outside f other is)
 conditions_good fields f most other [] lt g = tt
 conditions_good fields f most other (i ∷ is) lt g =
-    append_good fields 1 (conditions_of f other i) (flat_map (conditions_of f other) is)
+    append_good fields 1 (conditions_of f other i) (parts_outside f other is)
     (by (same_tree other same_outs i.child)) (conditions_good fields f most other is lt g.1)
   where
-    by : (b : Bool) → AreGood fields 1 (cond b [] (within f i.first i.last ∷ []))
+    by : (b : Bool) → AreGood fields 1 (cond b [] (part_of f i ∷ []))
     by true = tt
-    by false = (within_good fields 1 f i.first i.last lt (omega arith) g.0.0 g.0.1, tt)
+    by false = (part_good fields 1 f i lt (omega arith) g.0.0 g.0.1, tt)
 
 -- the terms of an interval
 terms_good :
@@ -140,12 +145,12 @@ terms_good :
     → IsGoodInterval fields f most i → AreGood fields (1 + most) (terms_of f other i)
 terms_good fields f most other i lt le g = by (same_tree other same_outs i.child) (is_empty_set i.child)
   where
-    by : (b n : Bool) → AreGood fields (1 + most) (cond b [] (cond n [] (guarded (within f i.first i.last) i.child i.made ∷ [])))
+    by : (b n : Bool) → AreGood fields (1 + most) (cond b [] (cond n [] (guarded (part_of f i) i.child i.made ∷ [])))
     by true n = tt
     by false true = tt
     by false false = (
-      guarded_good fields most (within f i.first i.last) i.made i.child
-          (within_good fields most f i.first i.last lt le g.0 g.1) g.2,
+      guarded_good fields most (part_of f i) i.made i.child
+          (part_good fields most f i lt le g.0 g.1) g.2,
       tt,
     )
 
@@ -183,7 +188,7 @@ else_good fields f most other is lt le o g = by (is_empty_set other.child)
   where
     condition : IsGood fields 3 (else_condition f other is)
     condition =
-        let parts = flat_map (conditions_of f other.child) is in
+        let parts = parts_outside f other.child is in
         deeper fields (1 + (1 + 1)) 3 (not_of (sum_of_terms parts)) (omega arith)
         (not_good fields (1 + 1) (sum_of_terms parts) (sum_good fields 1 parts (conditions_good fields f most other.child is lt g)))
 
