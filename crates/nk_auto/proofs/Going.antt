@@ -47,16 +47,16 @@ pub through : (st new : Held) (d k r : ℕ) (p : Policy) → AreTidy new → Gro
 through st new d k r p tidy g a ik none h = record {
   id = h.id;
   next = g.ids k ik;
-  sends = λ fit pk y t range.
-      let before = packet_before st new pk g range in
+  sends = λ fit pk y t pk_in.
+      let before = packet_before st new pk g pk_in in
       let fits = fit_before st new p g fit in (
         λ s.
-            let m = seq_sends st new d k r pk y t tidy g a.id ik h range.0 s in
+            let m = seq_sends st new d k r pk y t tidy g a.id ik h pk_in.0 s in
             let first = (a.sends fits pk m.0 m.1 before).0 m.2 in
             inl (m.0, first.1, sends_on st new k m.0 y t g ik m.3),
         λ s.
             ⊎_elim
-            (λ e. sends_seq st new d k r pk e.0 y 0 t tidy g a.id ik h range.0 ((a.sends fits pk e.0 0 before).1 (refl, e.1)) (sends_back st new k e.0 y t g ik e.2))
+            (λ e. sends_seq st new d k r pk e.0 y 0 t tidy g a.id ik h pk_in.0 ((a.sends fits pk e.0 0 before).1 (refl, e.1)) (sends_back st new k e.0 y t g ik e.2))
             (λ e. absurd (none pk y t e))
             s,
       );
@@ -84,12 +84,12 @@ guarded_through : (st new : Held) (d k r : ℕ) (p : Policy) → Grows st new �
 guarded_through st new d k r p g a pred ik none h = record {
   id = h.id;
   next = g.ids k ik;
-  sends = λ fit pk y t range.
-      let before = packet_before st new pk g range in
+  sends = λ fit pk y t pk_in.
+      let before = packet_before st new pk g pk_in in
       let fits = fit_before st new p g fit in (
         λ s.
-            let m : Has (guarded (look st d pk) (look st k pk)) (out_of s.0 t) = subst (λ os. Has os (out_of s.0 t)) (h.leaf pk range.0) (contains_has _ _ s.1) in
-            let both = guard_has (look st d pk) (look st k pk) (out_of s.0 t) (pred pk range.0) m in
+            let m : Has (guarded (look st d pk) (look st k pk)) (out_of s.0 t) = subst (λ os. Has os (out_of s.0 t)) (h.leaf pk pk_in.0) (contains_has _ _ s.1) in
+            let both = guard_has (look st d pk) (look st k pk) (out_of s.0 t) (pred pk pk_in.0) m in
             let passed : Sends st d pk pk 0 = ([], has_contains _ _ both.0, refl) in
             let sent : Sends st k pk y t = (s.0, has_contains _ _ both.1, s.2) in
             inl (pk, ((a.sends fits pk pk 0 before).0 passed).1, sends_on st new k pk y t g ik sent),
@@ -98,12 +98,12 @@ guarded_through st new d k r p g a pred ik none h = record {
             (λ e.
             let passed = (a.sends fits pk e.0 0 before).1 (refl, e.1) in
             let sent = sends_back st new k e.0 y t g ik e.2 in
-            let kept = guard_is (look st d pk) (out_of passed.0 0) (pred pk range.0) (contains_has _ _ passed.1) in
+            let kept = guard_is (look st d pk) (out_of passed.0 0) (pred pk pk_in.0) (contains_has _ _ passed.1) in
             let act_is : passed.0 ≡ [] = ap (λ o. o.act) kept in
             let here : e.0 ≡ pk = passed.2 ∙ ap (λ f. applied f pk) act_is in
             let sent_here : Sends st k pk y t = subst (λ x. Sends st k x y t) here sent in
             let m = has_guard (look st d pk) (look st k pk) (out_of passed.0 0) (out_of sent_here.0 t) (contains_has _ _ passed.1) (contains_has _ _ sent_here.1) in
-            (sent_here.0, has_contains _ _ (subst (λ os. Has os (out_of sent_here.0 t)) (sym (h.leaf pk range.0)) m), sent_here.2))
+            (sent_here.0, has_contains _ _ (subst (λ os. Has os (out_of sent_here.0 t)) (sym (h.leaf pk pk_in.0)) m), sent_here.2))
             (λ e. absurd (none pk y t e))
             s,
       );
@@ -142,9 +142,9 @@ pub dup_continued : (st : Held) (d l k : ℕ) → HasLeaves st d (λ pk. record 
 dup_continued st d l k h ik = record {
   id = h.id;
   next = ik;
-  sends = λ fit pk y t range. (
+  sends = λ fit pk y t pk_in. (
     λ s.
-        let m : Has (out_of [] l ∷ []) (out_of s.0 t) = subst (λ os. Has os (out_of s.0 t)) (h.leaf pk range.0) (contains_has _ _ s.1) in
+        let m : Has (out_of [] l ∷ []) (out_of s.0 t) = subst (λ os. Has os (out_of s.0 t)) (h.leaf pk pk_in.0) (contains_has _ _ s.1) in
         let is : out_of [] l ≡ out_of s.0 t = ⊎_elim (λ e. e) (λ n. absurd n) m in
         let act_is : [] ≡ s.0 = ap (λ o. o.act) is in
         let target_is : l ≡ t = ap (λ o. o.target) is in
@@ -153,7 +153,7 @@ dup_continued st d l k h ik = record {
         ⊎_elim
         (λ e. absurd (dup_gives_none l pk e.0 e.1))
         (λ e.
-        let sent : Sends st d pk pk l = out_sends st d (λ q. out_of [] l ∷ []) pk [] l h range.0 (inl refl) in
+        let sent : Sends st d pk pk l = out_sends st d (λ q. out_of [] l ∷ []) pk [] l h pk_in.0 (inl refl) in
         subst (λ x. Sends st d pk x t) (sym e.1) (subst (λ u. Sends st d pk pk u) (sym e.2) sent))
         s,
   );
@@ -164,7 +164,7 @@ pub unit_continued : (st : Held) (k : ℕ) → IsId st k → IsContinued st k (s
 unit_continued st k ik = record {
   id = ik;
   next = ik;
-  sends = λ fit pk y t range. (
+  sends = λ fit pk y t pk_in. (
     λ s. inl (pk, (refl, refl), s),
     λ s. ⊎_elim (λ e. subst (λ x. Sends st k x y t) e.1.1 e.2) (λ e. absurd e) s,
   );
@@ -176,7 +176,7 @@ pub cons_continued : (st : Held) (d m k : ℕ) (p : Policy) (ps : Policies) → 
 cons_continued st d m k p ps a b = record {
   id = a.id;
   next = b.next;
-  sends = λ fit pk y t range.
+  sends = λ fit pk y t pk_in.
       let fit_first : IsFit st.maxes p = (fit.0.0, fit.1.0) in
       let fit_rest : IsFit st.maxes (seq_of ps) = (fit.0.1, fit.1.1) in (
         λ s.
@@ -185,21 +185,21 @@ cons_continued st d m k p ps a b = record {
             ⊎_elim
             (λ f. inl (f.0, cons_gives p ps pk e.0 f.0 e.1 f.1, f.2))
             (λ f. inr (cons_records p ps pk e.0 y t e.1 f))
-            ((b.sends fit_rest e.0 y t (gives_in_range st.maxes p fit_first.1 pk e.0 e.1 range)).0 e.2))
+            ((b.sends fit_rest e.0 y t (gives_in_range st.maxes p fit_first.1 pk e.0 e.1 pk_in)).0 e.2))
             (λ e. inr (inl e))
-            ((a.sends fit_first pk y t range).0 s),
+            ((a.sends fit_first pk y t pk_in).0 s),
         λ s.
             ⊎_elim
             (λ e.
             let q = gives_cons p ps pk e.0 e.1 in
-            let sent = (b.sends fit_rest q.0 y t (gives_in_range st.maxes p fit_first.1 pk q.0 q.1 range)).1 (inl (e.0, q.2, e.2)) in
-            (a.sends fit_first pk y t range).1 (inl (q.0, q.1, sent)))
+            let sent = (b.sends fit_rest q.0 y t (gives_in_range st.maxes p fit_first.1 pk q.0 q.1 pk_in)).1 (inl (e.0, q.2, e.2)) in
+            (a.sends fit_first pk y t pk_in).1 (inl (q.0, q.1, sent)))
             (λ e.
             ⊎_elim
-            (λ f. (a.sends fit_first pk y t range).1 (inr f))
+            (λ f. (a.sends fit_first pk y t pk_in).1 (inr f))
             (λ f.
-            let sent = (b.sends fit_rest f.0 y t (gives_in_range st.maxes p fit_first.1 pk f.0 f.1 range)).1 (inr f.2) in
-            (a.sends fit_first pk y t range).1 (inl (f.0, f.1, sent)))
+            let sent = (b.sends fit_rest f.0 y t (gives_in_range st.maxes p fit_first.1 pk f.0 f.1 pk_in)).1 (inr f.2) in
+            (a.sends fit_first pk y t pk_in).1 (inl (f.0, f.1, sent)))
             (records_cons p ps pk y t e))
             s,
       );
@@ -211,18 +211,18 @@ pub dup_first : (st : Held) (d l m k : ℕ) (ps : Policies) → IsContinued st d
 dup_first st d l m k ps a ik = record {
   id = a.id;
   next = ik;
-  sends = λ fit pk y t range. (
+  sends = λ fit pk y t pk_in. (
     λ s.
         ⊎_elim
         (λ e. absurd (dup_gives_none l pk e.0 e.1))
         (λ e. inr (inl e))
-        ((a.sends (tt, tt) pk y t range).0 s),
+        ((a.sends (tt, tt) pk y t pk_in).0 s),
     λ s.
         ⊎_elim
         (λ e. absurd (let q = gives_cons (dup l) ps pk e.0 e.1 in dup_gives_none l pk q.0 q.1))
         (λ e.
         ⊎_elim
-        (λ f. (a.sends (tt, tt) pk y t range).1 (inr f))
+        (λ f. (a.sends (tt, tt) pk y t pk_in).1 (inr f))
         (λ f. absurd (dup_gives_none l pk f.0 f.1))
         (records_cons (dup l) ps pk y t e))
         s,
@@ -236,8 +236,8 @@ pub link_continued : (st : Held) (d k a m b n l : ℕ) →
 link_continued st d k a m b n l h = record {
   id = h.id;
   next = h.next;
-  sends = λ fit pk y t range.
-      let both = h.sends ((tt, (tt, (tt, (tt, (tt, (tt, tt)))))), (tt, (tt, (tt, (fit.1.0, (fit.1.1, (tt, tt))))))) pk y t range in
+  sends = λ fit pk y t pk_in.
+      let both = h.sends ((tt, (tt, (tt, (tt, (tt, (tt, tt)))))), (tt, (tt, (tt, (fit.1.0, (fit.1.1, (tt, tt))))))) pk y t pk_in in
       (λ s. both.0 s, λ s. both.1 s);
 }
 
@@ -279,13 +279,13 @@ pub star_continued : (st mid new : Held) (nothing e k f both d : ℕ) (p : Polic
 star_continued st mid new nothing e k f both d p tidy g1 g2 first none a ik united h = record {
   id = h.id;
   next = g2.ids k (g1.ids k ik);
-  sends = λ fit pk y t range.
-      let before_mid = packet_before mid new pk g2 range in
+  sends = λ fit pk y t pk_in.
+      let before_mid = packet_before mid new pk g2 pk_in in
       let before = packet_before st mid pk g1 before_mid in
       let fits : IsFit st.maxes (star_of p) = fit_before st mid (star_of p) g1 (fit_before mid new (star_of p) g2 fit) in
       let fits_body : IsFit st.maxes p = fits in (
         λ s.
-            let m = seq_sends mid new f both d pk y t tidy g2 (g1.ids f a.id) united.id h range.0 s in
+            let m = seq_sends mid new f both d pk y t tidy g2 (g1.ids f a.id) united.id h pk_in.0 s in
             let done = (a.sends fits pk m.0 m.1 before).0 (sends_back st mid f pk m.0 m.1 g1 a.id m.2) in
             let z_in = gives_in_range st.maxes (star_of p) fits.1 pk m.0 done.1 before in
             ⊎_elim
@@ -296,12 +296,12 @@ star_continued st mid new nothing e k f both d p tidy g1 g2 first none a ik unit
             ⊎_elim
             (λ q.
             let z_in = gives_in_range st.maxes (star_of p) fits.1 pk q.0 q.1 before in
-            onward pk q.0 y t range.0 ((a.sends fits pk q.0 0 before).1 (refl, q.1))
+            onward pk q.0 y t pk_in.0 ((a.sends fits pk q.0 0 before).1 (refl, q.1))
             (sends_left st mid k e both q.0 y t united z_in.0 (sends_back st mid k q.0 y t g1 ik (sends_back mid new k q.0 y t g2 (g1.ids k ik) q.2))))
             (λ q.
             let r = records_star p pk y t q in
             let z_in = gives_in_range st.maxes (star_of p) fits.1 pk r.0 r.1 before in
-            onward pk r.0 y t range.0 ((a.sends fits pk r.0 0 before).1 (refl, r.1))
+            onward pk r.0 y t pk_in.0 ((a.sends fits pk r.0 0 before).1 (refl, r.1))
             (sends_right st mid k e both r.0 y t united z_in.0 ((first.sends fits_body r.0 y t z_in).1 (inr r.2))))
             s,
       );

@@ -43,11 +43,11 @@ pub aim_aimed : (st new : Held) (d r l : ℕ) (p : Policy) → Grows st new → 
     HasLeaves new r (λ pk. aimed l (look st d pk)) → IsAimed new r p l
 aim_aimed st new d r l p g a h = record {
   id = h.id;
-  sends = λ fit pk y t range.
-      let before = packet_before st new pk g range in
+  sends = λ fit pk y t pk_in.
+      let before = packet_before st new pk g pk_in in
       let fits = fit_before st new p g fit in (
         λ s.
-            let m : Has (aimed l (look st d pk)) (out_of s.0 t) = subst (λ os. Has os (out_of s.0 t)) (h.leaf pk range.0) (contains_has _ _ s.1) in
+            let m : Has (aimed l (look st d pk)) (out_of s.0 t) = subst (λ os. Has os (out_of s.0 t)) (h.leaf pk pk_in.0) (contains_has _ _ s.1) in
             let k = has_gathered (λ o. out_to l o ∷ []) (look st d pk) (out_of s.0 t) m in
             let is : out_to l k.0 ≡ out_of s.0 t = ⊎_elim (λ e. e) (λ n. absurd n) k.2 in
             let act_is : k.0.act ≡ s.0 = ap (λ o. o.act) is in
@@ -57,7 +57,7 @@ aim_aimed st new d r l p g a h = record {
         λ s.
             let sent = (a.sends fits pk y 0 before).1 (refl, s.1) in
             let m : Has (aimed l (look st d pk)) (out_of sent.0 l) = gathered_has (λ o. out_to l o ∷ []) (look st d pk) (out_of sent.0 0) (out_of sent.0 l) (contains_has _ _ sent.1) (inl refl) in
-            subst (λ u. Sends new r pk y u) (sym s.0) (sent.0, has_contains _ _ (subst (λ os. Has os (out_of sent.0 l)) (sym (h.leaf pk range.0)) m), sent.2),
+            subst (λ u. Sends new r pk y u) (sym s.0) (sent.0, has_contains _ _ (subst (λ os. Has os (out_of sent.0 l)) (sym (h.leaf pk pk_in.0)) m), sent.2),
       );
 }
 
@@ -79,9 +79,9 @@ part_grow old new d free rows g h = record {
 pub no_rows : (st : Held) (d : ℕ) (free : Policy) → IsAimed st d free 0 → IsOfPart st d free []
 no_rows st d free a = record {
   id = a.id;
-  sends = λ fit fits pk y t range. (
-    λ s. inl ((a.sends fit pk y t range).0 s),
-    λ s. ⊎_elim (λ e. (a.sends fit pk y t range).1 e) (λ n. absurd n) s,
+  sends = λ fit fits pk y t pk_in. (
+    λ s. inl ((a.sends fit pk y t pk_in).0 s),
+    λ s. ⊎_elim (λ e. (a.sends fit pk y t pk_in).1 e) (λ n. absurd n) s,
   );
 }
 
@@ -91,22 +91,22 @@ pub one_more_row : (st new : Held) (a d r : ℕ) (free : Policy) (row : Pol × �
     HasLeaves new r (λ pk. merged (look st a pk) (look st d pk)) → IsOfPart new r free (row ∷ rows)
 one_more_row st new a d r free row rows g one more h = record {
   id = h.id;
-  sends = λ fit fits pk y t range.
-      let before = packet_before st new pk g range in
+  sends = λ fit fits pk y t pk_in.
+      let before = packet_before st new pk g pk_in in
       let first = one.sends (fit_before st new (tree_of row.0) g (All-head (IsFitRow new.maxes) row rows fits)) pk y t before in
       let rest = more.sends (fit_before st new free g fit) (rows_before st new rows g (All-tail (IsFitRow new.maxes) row rows fits)) pk y t before in (
         λ s.
             ⊎_elim
             (λ k. let e = first.0 k in inr (inl (sym e.0, e.1)))
             (λ k. ⊎_elim (λ e. inl e) (λ e. inr (inr e)) (rest.0 k))
-            (union_sends st new a d r pk y t h range.0 s),
+            (union_sends st new a d r pk y t h pk_in.0 s),
         λ s.
             ⊎_elim
-            (λ e. sends_right st new a d r pk y t h range.0 (rest.1 (inl e)))
+            (λ e. sends_right st new a d r pk y t h pk_in.0 (rest.1 (inl e)))
             (λ e.
             ⊎_elim
-            (λ f. sends_left st new a d r pk y t h range.0 (first.1 (sym f.0, f.1)))
-            (λ f. sends_right st new a d r pk y t h range.0 (rest.1 (inr f)))
+            (λ f. sends_left st new a d r pk y t h pk_in.0 (first.1 (sym f.0, f.1)))
+            (λ f. sends_right st new a d r pk y t h pk_in.0 (rest.1 (inr f)))
             e)
             s,
       );
@@ -125,13 +125,13 @@ pub part_state : (st : Held) (d : ℕ) (made : Part) (s : Policy) → IsOfPart s
     IsFit st.maxes (tree_of made.free) → All (IsFitRow st.maxes) made.rows → has_dup s 0 ≡ false → IsState st d s
 part_state st d made s h is fit fits none = record {
   id = h.id;
-  ends = λ pk y range.
-      let both = h.sends fit fits pk y 0 range in (
+  ends = λ pk y pk_in.
+      let both = h.sends fit fits pk y 0 pk_in in (
         λ k. ⊎_elim (λ e. (is.ends pk y).0 e.1) (λ e. absurd (no_record pk y ((is.records pk y 0).0 e))) (both.0 k),
         λ k. both.1 (inl (refl, (is.ends pk y).1 k)),
       );
-  records = λ pk y l range from.
-      let both = h.sends fit fits pk y l range in (
+  records = λ pk y l pk_in from.
+      let both = h.sends fit fits pk y l pk_in in (
         λ k. ⊎_elim (λ e. absurd (omega (arith, e.0, from))) (λ e. (is.records pk y l).0 e) (both.0 k),
         λ k. both.1 (inr ((is.records pk y l).1 k)),
       );

@@ -177,12 +177,12 @@ pub cons_silent : (st new : Held) (d rest r : ℕ) (p : Policy) (ps : Policies) 
 cons_silent st new d rest r p ps tidy g a b h ends = record {
   id = h.id;
   ends = ends;
-  sends = λ fit pk y t range.
-      let before = packet_before st new pk g range in
+  sends = λ fit pk y t pk_in.
+      let before = packet_before st new pk g pk_in in
       let fit_first : IsFit st.maxes p = fit_before st new p g (fit.0.0, fit.1.0) in
       let fit_rest : IsFit st.maxes (seq_of ps) = fit_before st new (seq_of ps) g (fit.0.1, fit.1.1) in (
         λ s.
-            let k = seq_sends st new d rest r pk y t tidy g a.id b.id h range.0 s in
+            let k = seq_sends st new d rest r pk y t tidy g a.id b.id h pk_in.0 s in
             let first = (a.sends fit_first pk k.0 k.1 before).0 k.2 in
             let z_in = gives_in_range st.maxes p fit_first.1 pk k.0 first.1 before in
             let second = (b.sends fit_rest k.0 y t z_in).0 k.3 in
@@ -190,7 +190,7 @@ cons_silent st new d rest r p ps tidy g a b h ends = record {
         λ s.
             let k = gives_cons p ps pk y s.1 in
             let z_in = gives_in_range st.maxes p fit_first.1 pk k.0 k.1 before in
-            sends_seq st new d rest r pk k.0 y 0 t tidy g a.id b.id h range.0 ((a.sends fit_first pk k.0 0 before).1 (refl, k.1)) ((b.sends fit_rest k.0 y t z_in).1 (s.0, k.2)),
+            sends_seq st new d rest r pk k.0 y 0 t tidy g a.id b.id h pk_in.0 ((a.sends fit_first pk k.0 0 before).1 (refl, k.1)) ((b.sends fit_rest k.0 y t z_in).1 (s.0, k.2)),
       );
 }
 
@@ -200,11 +200,11 @@ none_behind : (st : Held) (d : ℕ) (p : Policy) (ps : Policies) → HasLeaves s
 none_behind st d p ps h b = record {
   id = b.id;
   ends = b.ends;
-  sends = λ fit pk y t range. (
-    λ s. absurd (read_out st d _ pk y t h range.0 s),
+  sends = λ fit pk y t pk_in. (
+    λ s. absurd (read_out st d _ pk y t h pk_in.0 s),
     λ s.
         let k = gives_cons p ps pk y s.1 in
-        let z_in = gives_in_range st.maxes p fit.1.0 pk k.0 k.1 range in
+        let z_in = gives_in_range st.maxes p fit.1.0 pk k.0 k.1 pk_in in
         absurd (read_out st d _ k.0 y 0 h z_in.0 ((b.sends (fit.0.1, fit.1.1) k.0 y 0 z_in).1 (refl, k.2))),
   );
 }
@@ -222,12 +222,12 @@ pub not_silent : (st new : Held) (d r : ℕ) (p : Policy) → Grows st new → I
 not_silent st new d r p g a h = record {
   id = h.id;
   ends = λ pk w. every_same _ _ _ (h.leaf pk w) (absent_ends (look st d pk));
-  sends = λ fit pk y t range.
-      let before = packet_before st new pk g range in
+  sends = λ fit pk y t pk_in.
+      let before = packet_before st new pk g pk_in in
       let predicate = fit.0.0 in
       let fit_p : IsFit st.maxes p = (fit.0.1, predicate_assigns _ p predicate) in (
         λ s.
-            let m : Has (absent (look st d pk) (look st d pk)) (out_of s.0 t) = read_out new r _ pk y t h range.0 s in
+            let m : Has (absent (look st d pk) (look st d pk)) (out_of s.0 t) = read_out new r _ pk y t h pk_in.0 s in
             let none : look st d pk ≡ [] = absent_none (look st d pk) (out_of s.0 t) m in
             let is : no_out ≡ out_of s.0 t = absent_is (look st d pk) (out_of s.0 t) m in
             let kept = kept_out s.0 t pk y is s.2 in (
@@ -242,7 +242,7 @@ not_silent st new d r p g a h = record {
             ),
         λ s.
             let m = drops fit_p predicate pk before s.1.1 (look st d pk) refl in
-            let sent : Sends new r pk pk 0 = out_sends new r _ pk [] 0 h range.0 m in
+            let sent : Sends new r pk pk 0 = out_sends new r _ pk [] 0 h pk_in.0 m in
             subst (λ x. Sends new r pk x t) (sym s.1.0.1) (subst (λ u. Sends new r pk pk u) (sym s.0) sent),
       );
 }
@@ -271,20 +271,20 @@ not_silent st new d r p g a h = record {
 -- steps of the diagram are rounds without a record
 leads_rounds : (st : Held) (d : ℕ) (p : Policy) → IsFit st.maxes p → IsSilent st d p → (n : ℕ) (pk y : List ℕ) →
     IsPacket st pk → Leads (look st d) n pk y → rounds n (way_of p (λ l x. x)) pk [] y
-leads_rounds st d p fit a zero pk y range l = (refl, l)
-leads_rounds st d p fit a (suc n) pk y range l =
-    let first = (a.sends fit pk l.0 0 range).0 l.1 in
-    let z_in = gives_in_range st.maxes p fit.1 pk l.0 first.1 range in
+leads_rounds st d p fit a zero pk y pk_in l = (refl, l)
+leads_rounds st d p fit a (suc n) pk y pk_in l =
+    let first = (a.sends fit pk l.0 0 pk_in).0 l.1 in
+    let z_in = gives_in_range st.maxes p fit.1 pk l.0 first.1 pk_in in
     ([], [], l.0, refl, first.1, leads_rounds st d p fit a n l.0 y z_in l.2)
 
 -- and rounds are steps
 rounds_lead : (st : Held) (d : ℕ) (p : Policy) → IsFit st.maxes p → IsSilent st d p → (n : ℕ) (pk y : List ℕ) →
     IsPacket st pk → rounds n (way_of p (λ l x. x)) pk [] y → Leads (look st d) n pk y
-rounds_lead st d p fit a zero pk y range g = g.1
-rounds_lead st d p fit a (suc n) pk y range g =
+rounds_lead st d p fit a zero pk y pk_in g = g.1
+rounds_lead st d p fit a (suc n) pk y pk_in g =
     let k = gives_round p n pk y g in
-    let z_in = gives_in_range st.maxes p fit.1 pk k.0 k.1 range in
-    (k.0, (a.sends fit pk k.0 0 range).1 (refl, k.1), rounds_lead st d p fit a n k.0 y z_in k.2)
+    let z_in = gives_in_range st.maxes p fit.1 pk k.0 k.1 pk_in in
+    (k.0, (a.sends fit pk k.0 0 pk_in).1 (refl, k.1), rounds_lead st d p fit a n k.0 y z_in k.2)
 
 -- any number of rounds
 pub star_silent : (st new : Held) (d r : ℕ) (p : Policy) → Grows st new → IsSilent st d p → IsId new r →
@@ -294,16 +294,16 @@ pub star_silent : (st new : Held) (d r : ℕ) (p : Policy) → Grows st new → 
 star_silent st new d r p g a id ends leads = record {
   id = id;
   ends = ends;
-  sends = λ fit pk y t range.
-      let before = packet_before st new pk g range in
+  sends = λ fit pk y t pk_in.
+      let before = packet_before st new pk g pk_in in
       let fit_p : IsFit st.maxes p = fit_before st new p g fit in (
         λ s.
-            let zero_is : t ≡ 0 = every_has (λ o. o.target ≡ 0) (look new r pk) (out_of s.0 t) (ends pk range.0) (contains_has _ _ s.1) in
+            let zero_is : t ≡ 0 = every_has (λ o. o.target ≡ 0) (look new r pk) (out_of s.0 t) (ends pk pk_in.0) (contains_has _ _ s.1) in
             let made : Makes (look new r) pk y = subst (λ u. Sends new r pk y u) zero_is s in
-            let l = (leads pk y range.0).0 made in
+            let l = (leads pk y pk_in.0).0 made in
             (zero_is, (l.0, leads_rounds st d p fit_p a l.0 pk y before l.1)),
         λ s.
-            let made = (leads pk y range.0).1 (s.1.0, rounds_lead st d p fit_p a s.1.0 pk y before s.1.1) in
+            let made = (leads pk y pk_in.0).1 (s.1.0, rounds_lead st d p fit_p a s.1.0 pk y before s.1.1) in
             subst (λ u. Sends new r pk y u) (sym s.0) made,
       );
 }
@@ -314,16 +314,16 @@ pub twice_silent : (st new : Held) (d r : ℕ) (p : Policy) → is_predicate p �
 twice_silent st new d r p pred g a b = record {
   id = b.id;
   ends = b.ends;
-  sends = λ fit pk y t range.
-      let before = packet_before st new pk g range in
+  sends = λ fit pk y t pk_in.
+      let before = packet_before st new pk g pk_in in
       let fit_p = fit_before st new p g fit in
       let twice : IsFit new.maxes (not_of (not_of p)) = ((pred, (pred, fit.0)), tt) in (
         λ s.
-            let k = (b.sends twice pk y t range).0 s in
+            let k = (b.sends twice pk y t pk_in).0 s in
             (k.0, subst (λ x. Gives p pk [] x) (sym k.1.0.1) (given fit_p pk before k.1.1 (look st d pk) refl)),
         λ s.
             let kept = predicate_keeps (λ l y. y) p pred pk [] y s.1 in
-            (b.sends twice pk y t range).1 (s.0, ((refl, kept.1), λ never. never.1 (subst (λ x. Gives p pk [] x) kept.1 s.1))),
+            (b.sends twice pk y t pk_in).1 (s.0, ((refl, kept.1), λ never. never.1 (subst (λ x. Gives p pk [] x) kept.1 s.1))),
       );
 }
   where

@@ -83,10 +83,10 @@ passes st e z y t h w s =
 -- what a policy does before the diagram that passes each packet: it ends, or it records
 pub goes_to : (st : Held) (e : ℕ) (p : Policy) (pk y : List ℕ) (t : ℕ) → HasLeaves st e (λ pk. no_out ∷ []) → IsFit st.maxes p →
     IsPacket st pk → GoesOn st p e pk y t → ((t ≡ 0) × Gives p pk [] y) ⊎ RecordsAt p pk [] y t
-goes_to st e p pk y t h fit range s =
+goes_to st e p pk y t h fit pk_in s =
     ⊎_elim
     (λ g.
-    let q = passes st e g.0 y t h (gives_in_range st.maxes p fit.1 pk g.0 g.1 range).0 g.2 in
+    let q = passes st e g.0 y t h (gives_in_range st.maxes p fit.1 pk g.0 g.1 pk_in).0 g.2 in
     inl (q.0, subst (λ x. Gives p pk [] x) (sym q.1) g.1))
     (λ r. inr r)
     s
@@ -96,15 +96,15 @@ pub state_is : (st : Held) (d e : ℕ) (p : Policy) → HasLeaves st e (λ pk. n
     has_dup p 0 ≡ false → IsContinued st d p e → IsState st d p
 state_is st d e p h fit none c = record {
   id = c.id;
-  ends = λ pk y range. (
-    λ s. ⊎_elim (λ g. g.1) (λ r. absurd (no_record pk y r)) (goes_to st e p pk y 0 h fit range ((c.sends fit pk y 0 range).0 s)),
+  ends = λ pk y pk_in. (
+    λ s. ⊎_elim (λ g. g.1) (λ r. absurd (no_record pk y r)) (goes_to st e p pk y 0 h fit pk_in ((c.sends fit pk y 0 pk_in).0 s)),
     λ g.
-        let passed : Sends st e y y 0 = out_sends st e (λ q. no_out ∷ []) y [] 0 h (gives_in_range st.maxes p fit.1 pk y g range).0 (inl refl) in
-        (c.sends fit pk y 0 range).1 (inl (y, g, passed)),
+        let passed : Sends st e y y 0 = out_sends st e (λ q. no_out ∷ []) y [] 0 h (gives_in_range st.maxes p fit.1 pk y g pk_in).0 (inl refl) in
+        (c.sends fit pk y 0 pk_in).1 (inl (y, g, passed)),
   );
-  records = λ pk y l range from. (
-    λ s. ⊎_elim (λ g. absurd (omega (arith, g.0, from))) (λ r. r) (goes_to st e p pk y l h fit range ((c.sends fit pk y l range).0 s)),
-    λ r. (c.sends fit pk y l range).1 (inr r),
+  records = λ pk y l pk_in from. (
+    λ s. ⊎_elim (λ g. absurd (omega (arith, g.0, from))) (λ r. r) (goes_to st e p pk y l h fit pk_in ((c.sends fit pk y l pk_in).0 s)),
+    λ r. (c.sends fit pk y l pk_in).1 (inr r),
   );
 }
   where
@@ -133,9 +133,9 @@ no_zero p q first from e rest = false_where (has_dup q 0) (λ h. let w = label_w
 state_leads : (st : Held) (d : ℕ) (p q : Policy) (first : ℕ) → marked_from p first ≡ p →
     ((l : ℕ) → has_dup q l ≡ true → has_dup p l ≡ true) → IsState st d q → (pk y : List ℕ) (t : ℕ) → IsPacket st pk →
     Sends st d pk y t → (t ≡ 0) ⊎ ((first ≤ t) × (t < first + dups_of p))
-state_leads st d p q first numbered rest h pk y zero range s = inl refl
-state_leads st d p q first numbered rest h pk y (suc t) range s =
-    inr (label_within p first (suc t) numbered (rest (suc t) (holds_dup q pk [] y (suc t) ((h.records pk y (suc t) range (omega arith)).0 s))))
+state_leads st d p q first numbered rest h pk y zero pk_in s = inl refl
+state_leads st d p q first numbered rest h pk y (suc t) pk_in s =
+    inr (label_within p first (suc t) numbered (rest (suc t) (holds_dup q pk [] y (suc t) ((h.records pk y (suc t) pk_in (omega arith)).0 s))))
 
 -- the states of the start and of what is left after each dup are the automaton
 pub states_are : (st : Held) (all : List ℕ) (first : ℕ) (p : Policy) → marked_from p first ≡ p → length all ≡ 1 + dups_of p →
@@ -146,16 +146,16 @@ states_are st all first p numbered many begun rest = record {
   labels = λ i lt. label_held p first i numbered lt;
   start = begun;
   rest = rest;
-  targets = λ i pk y t lt range s. place i lt pk y t range s;
+  targets = λ i pk y t lt pk_in s. place i lt pk y t pk_in s;
 }
   where
     place : (i : ℕ) → i < length all → (pk y : List ℕ) (t : ℕ) → IsPacket st pk → Sends st (slice_index all i) pk y t →
         (t ≡ 0) ⊎ ((first ≤ t) × (t < first + dups_of p))
-    place zero lt pk y t range s = state_leads st (slice_index all 0) p p first numbered (λ l k. k) begun pk y t range s
-    place (suc i) lt pk y t range s =
+    place zero lt pk y t pk_in s = state_leads st (slice_index all 0) p p first numbered (λ l k. k) begun pk y t pk_in s
+    place (suc i) lt pk y t pk_in s =
         let within : i < dups_of p = omega (arith, lt, many) in
         let same : suc i ≡ 1 + i = omega arith in
-        state_leads st (slice_index all (1 + i)) p (after p (first + i)) first numbered (λ l k. rest_dups p (first + i) l k) (rest i within) pk y t range
+        state_leads st (slice_index all (1 + i)) p (after p (first + i)) first numbered (λ l k. rest_dups p (first + i) l k) (rest i within) pk y t pk_in
         (subst (λ n. Sends st (slice_index all n) pk y t) same s)
 
 -- the rows and the start are the automaton

@@ -5,7 +5,9 @@ ghost use Rattle.nk_policy.specs.Tree.{tree_of, trees_of};
 ghost use Rattle.nk_store.specs.Held.{IsId, Grows, HasLeaves};
 ghost use Rattle.nk_auto.specs.Continued.{IsContinued};
 
-use crate::silence::{silent_not, silent_predicate, silent_range, silent_set, silent_star, silent_test};
+use crate::silence::{
+    silent_not, silent_predicate, silent_range, silent_set, silent_star, silent_test,
+};
 use nk_algebra::{aim, both, empty, identity, seq, union, union_all};
 use nk_field::{Fid, List};
 use nk_policy::{Pol, is_predicate};
@@ -50,12 +52,7 @@ pub fn after_test(st: &mut Store, f: Fid, n: u64, next: Id) -> Result<Id, AllocE
 }
 
 /// A range, by its ends, continued by a diagram.
-pub fn after_range(
-    st: &mut Store,
-    f: Fid,
-    ends: (u64, u64),
-    next: Id,
-) -> Result<Id, AllocError>
+pub fn after_range(st: &mut Store, f: Fid, ends: (u64, u64), next: Id) -> Result<Id, AllocError>
     requires { IsId st.old next }
     ensures grows { Grows st.old st.new }
     ensures ok { IfOk result (λ d. IsContinued st.new d (range f ends.0 ends.1) next) }

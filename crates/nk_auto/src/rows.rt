@@ -88,6 +88,7 @@ fn write_rows(
     }
     match p {
         Pol::Test(_, _) => Ok(()),
+        Pol::Range(_, _, _) => Ok(()),
         Pol::Set(_, _) => Ok(()),
         Pol::Sum(ps) => write_any(st, ps.as_slice(), next, base, rows),
         Pol::Seq(ps) => write_all(st, ps.as_slice(), next, base, rows),

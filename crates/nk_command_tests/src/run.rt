@@ -1,4 +1,6 @@
 //! Runs in memory.
+mod drawn;
+mod predicates;
 mod random;
 mod walks;
 
@@ -6,15 +8,6 @@ use nk::{Status, run};
 use nk_io::{MemSink, PlainSource};
 use std::alloc::Global;
 use std::test::Fail;
-
-/// The parts, one behind the other.
-fn joined(alloc: Global, parts: &[&[u8]]) -> Result<Vec<u8>, Fail> {
-    let mut text = Vec::new(alloc);
-    for part in parts {
-        text.extend_from_slice(part)?;
-    }
-    Ok(text)
-}
 
 /// Does what the words say from a source that never fails, and says how it ended and what both sinks
 /// took.

@@ -11,7 +11,7 @@ struct Pair {
 }
 
 /// The pairs.
-const PAIRS: [Pair; 10] = [
+const PAIRS: [Pair; 13] = [
     // both end at another `dst`: the left one's least history is told, from the least packet
     Pair {
         text: b"field dst 3 let l = dst:=1 let r = dst:=2",
@@ -61,6 +61,21 @@ const PAIRS: [Pair; 10] = [
     Pair {
         text: b"field b 3 let l = (b:=1 + b:=2);dup;(b=1;b:=3 + b=2);dup let r = (b:=1 + b:=2);dup;b=1;b:=3;dup",
         answer: b"left alone, start sw=0,pt=0,b=0, history sw=0,pt=0,b=2 sw=0,pt=0,b=2 sw=0,pt=0,b=2",
+    },
+    // a range is the sum of its values' tests
+    Pair {
+        text: b"field b 7 let l = b in 2..5;dup let r = (b=2 + b=3 + b=4 + b=5);dup",
+        answer: b"same",
+    },
+    // no packet is in a range whose first value is above the last
+    Pair {
+        text: b"field b 7 let l = ~b in 5..2;dup let r = dup + b in 5..2",
+        answer: b"same",
+    },
+    // the one packet that a range has more than another
+    Pair {
+        text: b"field b 7 let l = b in 4..7;dup let r = b in 3..7;dup",
+        answer: b"right alone, start sw=0,pt=0,b=3, history sw=0,pt=0,b=3 sw=0,pt=0,b=3",
     },
 ];
 

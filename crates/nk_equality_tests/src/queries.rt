@@ -31,6 +31,9 @@ const ATOMS: Atoms = Atoms {
         b"sw=1;pt=1",
         b"sw=2;pt=1",
         b"sw=2;pt=2 + b=0",
+        b"pt in 1..2",
+        b"sw in 1..2;pt in 2..2",
+        b"~(sw in 2..2 + b in 1..0)",
         b"id",
     ],
     deeds: &[

@@ -2,7 +2,7 @@
 use Rattle.std.proofs.Common.{◌≡◌, ℕ, ◌<◌, Bool, true, false, min, List, [], ◌∷◌, length, refl, ap, ◌∙◌, arith}
 use Rattle.std.specs.Prelude.{◌||◌, not, map, filter}
 use Rattle.std.specs.List.{AllByRecursion}
-use Rattle.nk_extract.specs.RuleTree.{Path, is_drop_list, paths_of, plain_row, put, priority_of, bit_of}
+use Rattle.nk_extract.specs.RuleTree.{Path, is_drop_list, paths_of, plain_row, put_match, exactly, priority_of, bit_of}
 use Rattle.nk_extract.specs.Ways.{row_behind, RowsAreMade}
 use Rattle.nk_extract.proofs.Lists.{every_weaker, every_filter, filter_same}
 use Rattle.nk_extract.proofs.Highest.{light}
@@ -22,17 +22,20 @@ map_every P g h (x ∷ xs) f e = ap (λ y. y ∷ map g xs) (f x e.0) ∙ ap (λ 
 
 -- a priority in range is not clamped
 unclamped :
-    (width tag t : ℕ) (p : Path) → priority_of width tag p.matches < 65536
-    → row_behind width tag t [] p ≡ plain_row width tag t p
-unclamped width tag t p h =
-    let e : min 65535 (priority_of width tag p.matches) ≡ priority_of width tag p.matches = omega (arith, h) in
-    ap (λ (n : ℕ). record { priority = n; matches = put (tag, t) p.matches; buckets = p.buckets }) e
+    (maxima : List ℕ) (tag t : ℕ) (p : Path) → priority_of (length maxima) tag p.matches < 65536
+    → row_behind (length maxima) (exactly maxima tag t) [] p ≡ plain_row maxima tag t p
+unclamped maxima tag t p h =
+    let all = priority_of (length maxima) tag p.matches in
+    let e : min 65535 all ≡ all = omega (arith, h) in
+    ap (λ (n : ℕ). record { priority = n; matches = put_match (exactly maxima tag t) p.matches; buckets = p.buckets }) e
 
 -- the rows made of a tree's ways are its rows
 pub rows_are_made : RowsAreMade
 rows_are_made maxima tag t d ok fits =
     let width = length maxima in
-    ap (map (row_behind width tag t [])) (filter_same (λ p. (not (is_drop_list p.buckets) || p.shown) || false) (λ p. not (is_drop_list p.buckets) || p.shown) (paths_of d) (λ p. or_none_is (not (is_drop_list p.buckets) || p.shown)))
-    ∙ map_every (λ p. priority_of width tag p.matches < 65536) (row_behind width tag t []) (plain_row width tag t) (filter (λ p. not (is_drop_list p.buckets) || p.shown) (paths_of d)) (unclamped width tag t)
-    (every_filter (λ p. priority_of width tag p.matches < 65536) (λ p. not (is_drop_list p.buckets) || p.shown) (paths_of d)
-    (every_weaker (λ p. priority_of width tag p.matches < bit_of width tag 0) (λ p. priority_of width tag p.matches < 65536) (paths_of d) (λ p l. omega (arith, l, fits)) (light width tag maxima d 0 ok.reduced (tests_only maxima tag 1 d ok.reduced ok.tag_free))))
+    let at = exactly maxima tag t in
+    let ps = paths_of maxima d in
+    ap (map (row_behind width at [])) (filter_same (λ p. (not (is_drop_list p.buckets) || p.shown) || false) (λ p. not (is_drop_list p.buckets) || p.shown) ps (λ p. or_none_is (not (is_drop_list p.buckets) || p.shown)))
+    ∙ map_every (λ p. priority_of width tag p.matches < 65536) (row_behind width at []) (plain_row maxima tag t) (filter (λ p. not (is_drop_list p.buckets) || p.shown) ps) (unclamped maxima tag t)
+    (every_filter (λ p. priority_of width tag p.matches < 65536) (λ p. not (is_drop_list p.buckets) || p.shown) ps
+    (every_weaker (λ p. priority_of width tag p.matches < bit_of width tag 0) (λ p. priority_of width tag p.matches < 65536) ps (λ p l. omega (arith, l, fits)) (light width tag maxima d 0 ok.reduced (tests_only maxima tag 1 d ok.reduced ok.tag_free))))

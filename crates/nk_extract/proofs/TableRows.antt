@@ -15,9 +15,10 @@ use Rattle.nk_store.specs.Held.{Held, IsId, node_of, look}
 use Rattle.nk_store.specs.Diagram.{Branches, leaf, case, no_branch, branch, leaf_at, IsReduced, AreReduced, EndsRight}
 use Rattle.nk_store.proofs.Looks.{look_same, look_tidy, fits_at, child_later, joined_some}
 use Rattle.nk_store.proofs.Same.{set_in_range, look_child}
+use Rattle.nk_prefix.specs.Prefix.{digits_of}
 use Rattle.nk_table.specs.declared.Bucket.{Bucket}
 use Rattle.nk_table.specs.declared.Plain.{Plain}
-use Rattle.nk_extract.specs.RuleTree.{rows_for, paths_of, bit_of}
+use Rattle.nk_extract.specs.RuleTree.{paths_of, bit_of, exactly}
 use Rattle.nk_store.specs.Trees.{tree_in}
 use Rattle.nk_extract.specs.Ways.{bucket_list, ways, ways_in, rows_behind, at_switch}
 use Rattle.nk_extract.specs.Buckets.{AreBuckets}
@@ -222,29 +223,35 @@ module _ (st : Held) (width tag sw d : ℕ) (places : length st.maxes ≡ 18) (s
 
   -- the rows of the part are those of its tree
   rows_are :
-      (to r : ℕ) (rows : List Plain) → IsRoot r
-      → rows ≡ rows_behind width tag to [] false (ways_in tag st.nodes r)
+      (to len r : ℕ) (rows : List Plain) → IsRoot r → len ≡ digits_of (slice_index st.maxes tag)
+      → rows ≡ rows_behind width (tag, to, len) [] false (ways_in st.maxes tag st.nodes r)
       → AreRowsOf st width tag sw to d rows
   unfolding look
-  rows_are to r rows root e =
+  rows_are to len r rows root all e =
       let g = good r root in
       let few = frame.few in
-      let count : length (take width st.maxes) ≡ width = let l = length-take width st.maxes in omega (arith, l, places, few) in
+      let maxima = take width st.maxes in
+      let same = taken st.maxes width frame.behind in
+      let tree = tree_in (bucket_list tag) st.nodes r in
+      let count : length maxima ≡ width = let l = length-take width st.maxes in omega (arith, l, places, few) in
       let shaped = shape st.maxes st.nodes sound tag r 1 frame.ports g root.later in
-      let reduced = same_reduced st.maxes (take width st.maxes) 1 (tree_in (bucket_list tag) st.nodes r) (taken st.maxes width frame.behind) shaped.0 in
-      let fit : bit_of (length (take width st.maxes)) tag 0 ≤ 65536 = subst (λ w. bit_of w tag 0 ≤ 65536) (sym count) (bits_fit width tag frame.past_port frame.declared frame.few) in
-      let made = rows_are_made (take width st.maxes) tag to (tree_in (bucket_list tag) st.nodes r) record { reduced = reduced; tag_free = shaped.1 } fit in
-      let ways_is = ways_are tag st.nodes (IsGood st.maxes st.nodes sound tag) (λ c k. k.id)
+      let reduced = same_reduced st.maxes maxima 1 tree same shaped.0 in
+      let fit : bit_of (length maxima) tag 0 ≤ 65536 = subst (λ w. bit_of w tag 0 ≤ 65536) (sym count) (bits_fit width tag frame.past_port frame.declared frame.few) in
+      let made = rows_are_made maxima tag to tree record { reduced = reduced; tag_free = shaped.1 } fit in
+      let exact : (tag, to, len) ≡ exactly maxima tag to = ap (λ n. (tag, to, n)) (all ∙ ap digits_of (same tag)) in
+      let ways_is = ways_are st.maxes maxima same tag st.nodes (IsGood st.maxes st.nodes sound tag) (λ c k. k.id)
       (λ c f ps k n. joined_some ps (fits_at st.maxes st.nodes c f ps sound k.id n).0.3)
       (λ c f ps k n. (fits_at st.maxes st.nodes c f ps sound k.id n).1)
       (λ c f ps k n. good_children st.maxes st.nodes sound tag c f ps k n)
       (λ c k a b t. one st.maxes st.nodes sound tag c k frame.ports a b t) r g in
       record {
-        tree = tree_in (bucket_list tag) st.nodes r;
+        tree = tree;
         rows_are =
             e
-            ∙ ap (rows_behind width tag to [] false) ways_is
-            ∙ subst (λ w. rows_behind w tag to [] false (paths_of (tree_in (bucket_list tag) st.nodes r)) ≡ rows_for w tag to (tree_in (bucket_list tag) st.nodes r)) count made;
+            ∙ ap (rows_behind width (tag, to, len) [] false) ways_is
+            ∙ ap (λ m. rows_behind width m [] false (paths_of maxima tree)) exact
+            ∙ ap (λ w. rows_behind w (exactly maxima tag to) [] false (paths_of maxima tree)) (sym count)
+            ∙ made;
         reduced = reduced;
         tag_free = shaped.1;
         leaves = λ pk h at. leaves_are r root pk h at;
@@ -252,16 +259,18 @@ module _ (st : Held) (width tag sw d : ℕ) (places : length st.maxes ≡ 18) (s
 
   -- the rows made of the ways of the part for the switch
   pub are_rows :
-      (to : ℕ) (rows : List Plain)
-      → rows ≡ rows_behind width tag to [] false (ways_in tag st.nodes (at_switch sw d (node_at st.nodes d)))
+      (to len : ℕ) (rows : List Plain) → len ≡ digits_of (slice_index st.maxes tag)
+      → rows ≡ rows_behind width (tag, to, len) [] false (ways_in st.maxes tag st.nodes (at_switch sw d (node_at st.nodes d)))
       → AreRowsOf st width tag sw to d rows
-  are_rows to rows e = rows_are to (at_switch sw d (node_at st.nodes d)) rows (root_is (node_at st.nodes d) refl) e
+  are_rows to len rows all e = rows_are to len (at_switch sw d (node_at st.nodes d)) rows (root_is (node_at st.nodes d) refl) all e
 
 -- the same in words of the store
 pub table_rows :
-    (st : Held) (width tag sw d to : ℕ) (rows : List Plain) → length st.maxes ≡ 18
+    (st : Held) (width tag sw d to len : ℕ) (rows : List Plain) → length st.maxes ≡ 18
     → Sound st.maxes st.nodes → IsId st d → IsFrame st width tag → IsPrintable st tag sw d → sw ≤ 65535
-    → rows ≡ rows_behind width tag to [] false (ways tag st (at_switch sw d (node_of st d)))
+    → len ≡ digits_of (slice_index st.maxes tag)
+    → rows ≡ rows_behind width (tag, to, len) [] false (ways tag st (at_switch sw d (node_of st d)))
     → AreRowsOf st width tag sw to d rows
 unfolding IsId node_of ways
-table_rows st width tag sw d to rows places sound id frame ok small e = are_rows st width tag sw d places sound id frame ok small to rows e
+table_rows st width tag sw d to len rows places sound id frame ok small all e =
+    are_rows st width tag sw d places sound id frame ok small to len rows all e

@@ -1,5 +1,5 @@
 -- Trees: the test of sameness decides equality, the intervals of a node, the else-child, and the child at a value.
-use Rattle.std.proofs.Common.{◌≡◌, ◌≢◌, ℕ, ◌+◌, ◌<◌, ◌≤◌, length, Bool, true, false, cond, inl, inr, List, [], ◌∷◌, refl, sym, ap, subst, ◌∙◌, arith, get_or-set_other}
+use Rattle.std.proofs.Common.{◌≡◌, ◌≢◌, ℕ, ◌+◌, ◌<◌, ◌≤◌, length, Bool, true, false, cond, inl, inr, ⊎_elim, List, [], ◌∷◌, refl, ap, ◌∙◌, arith, get_or-set_other}
 use Rattle.std.specs.Prelude.{◌==◌, ◌&&◌, nat_le, nat_lt, slice_index, slice_set}
 use Rattle.std.proofs.lemmas.Bool.Decides.{leb_tells}
 use Rattle.std.proofs.lemmas.List.{get_or_past}
@@ -10,6 +10,7 @@ use Rattle.nk_table.specs.declared.Bucket.{Bucket}
 use Rattle.nk_table.specs.Buckets.{same_buckets}
 use Rattle.nk_table.proofs.SameBuckets.{and_left, and_right, and_both, eq_of, eq_self, same_buckets_tells, same_buckets_self}
 use Rattle.nk_extract.specs.RuleTree.{PathInterval, paths_of, path_intervals}
+use Rattle.nk_field.proofs.Lists.{In}
 use Rattle.nk_extract.proofs.Lists.{every_weaker}
 
 abbrev pub Tree : Type 0
@@ -139,20 +140,9 @@ abbrev pub EachChild : (Tree → Type 0) → Branches (List Bucket) → Type 0
 EachChild P no_branch = Unit {0}
 EachChild P (branch end d bs) = P d × EachChild P bs
 
--- what holds of each child holds of the one at a value
-pub child_has :
-    (P : Tree → Type 0) (o : Tree) (bs : Branches (List Bucket)) (most from v : ℕ) → EachChild P bs
-    → Rising most from bs → v ≤ most → from ≤ v → P (child_among o bs v)
-child_has P o no_branch most from v e r h g = absurd (omega (arith, r))
-child_has P o (branch end d bs) most from v e r h g =
-    elim (leb_tells v end) [
-      | inl within ↦ subst (λ b. P (cond b d (child_among o bs v))) (sym within.0) e.0
-      | inr past ↦ subst (λ b. P (cond b d (child_among o bs v))) (sym past.0) (child_has P o bs most (end + 1) v e.1 r.1 h (omega (arith, past.1)))
-    ]
-
--- what is known of an interval of a node
-pub record IsInterval (P : Tree → Type 0) (o : Tree) (bs : Branches (List Bucket)) (most from : ℕ) (i : PathInterval) : Type 0 where
-  pub made : i.made ≡ paths_of i.child
+-- what is known of an interval of a node over fields with their largest values
+pub record IsInterval (maxima : List ℕ) (P : Tree → Type 0) (o : Tree) (bs : Branches (List Bucket)) (most from : ℕ) (i : PathInterval) : Type 0 where
+  pub made : i.made ≡ paths_of maxima i.child
   pub holds : P i.child
   pub order : i.first ≤ i.last
   pub low : from ≤ i.first
@@ -161,9 +151,10 @@ pub record IsInterval (P : Tree → Type 0) (o : Tree) (bs : Branches (List Buck
 
 -- an interval of later branches is one of all
 earlier_end :
-    (P : Tree → Type 0) (o d : Tree) (bs : Branches (List Bucket)) (most from end : ℕ) (i : PathInterval)
-    → from ≤ end → IsInterval P o bs most (end + 1) i → IsInterval P o (branch end d bs) most from i
-earlier_end P o d bs most from end i h k = record {
+    (maxima : List ℕ) (P : Tree → Type 0) (o d : Tree) (bs : Branches (List Bucket)) (most from end : ℕ)
+    (i : PathInterval)
+    → from ≤ end → IsInterval maxima P o bs most (end + 1) i → IsInterval maxima P o (branch end d bs) most from i
+earlier_end maxima P o d bs most from end i h k = record {
   made = k.made;
   holds = k.holds;
   order = k.order;
@@ -177,10 +168,11 @@ earlier_end P o d bs most from end i h k = record {
 
 -- the intervals of branches
 pub intervals_are :
-    (P : Tree → Type 0) (o : Tree) (bs : Branches (List Bucket)) (most from : ℕ) → EachChild P bs
-    → Rising most from bs → AllByRecursion (IsInterval P o bs most from) (path_intervals bs from)
-intervals_are P o no_branch most from e r = tt
-intervals_are P o (branch end d bs) most from e r = (
+    (maxima : List ℕ) (P : Tree → Type 0) (o : Tree) (bs : Branches (List Bucket)) (most from : ℕ)
+    → EachChild P bs → Rising most from bs
+    → AllByRecursion (IsInterval maxima P o bs most from) (path_intervals maxima bs from)
+intervals_are maxima P o no_branch most from e r = tt
+intervals_are maxima P o (branch end d bs) most from e r = (
   record {
     made = refl;
     holds = e.0;
@@ -192,8 +184,43 @@ intervals_are P o (branch end d bs) most from e r = (
       | inr past ↦ absurd (omega (arith, past.1))
     ];
   },
-  every_weaker (IsInterval P o bs most (end + 1)) (IsInterval P o (branch end d bs) most from) (path_intervals bs (end + 1)) (λ i k. earlier_end P o d bs most from end i r.0 k) (intervals_are P o bs most (end + 1) e.1 r.1),
+  every_weaker (IsInterval maxima P o bs most (end + 1)) (IsInterval maxima P o (branch end d bs) most from) (path_intervals maxima bs (end + 1)) (λ i k. earlier_end maxima P o d bs most from end i r.0 k) (intervals_are maxima P o bs most (end + 1) e.1 r.1),
 )
+
+-- an interval begins where its branches do, or behind that
+pub begins_behind :
+    (maxima : List ℕ) (bs : Branches (List Bucket)) (most from : ℕ) (i : PathInterval) → Rising most from bs
+    → In (path_intervals maxima bs from) i → from ≤ i.first
+begins_behind maxima no_branch most from i r m = absurd m
+begins_behind maxima (branch end d bs) most from i r m =
+    ⊎_elim
+    (λ s. let e : i.first ≡ from = ap (λ z. z.first) s in omega (arith, e))
+    (λ l. let h = begins_behind maxima bs most (end + 1) i r.1 l in omega (arith, h, r.0))
+    m
+
+-- and ends at the largest value, or before it
+pub ends_before :
+    (maxima : List ℕ) (bs : Branches (List Bucket)) (most from : ℕ) (i : PathInterval) → Rising most from bs
+    → In (path_intervals maxima bs from) i → i.last ≤ most
+ends_before maxima no_branch most from i r m = absurd m
+ends_before maxima (branch end d bs) most from i r m =
+    ⊎_elim
+    (λ s. let e : i.last ≡ end = ap (λ z. z.last) s in omega (arith, e, rising_end most (end + 1) bs r.1))
+    (λ l. ends_before maxima bs most (end + 1) i r.1 l)
+    m
+
+-- a value has an interval
+pub interval_at :
+    (maxima : List ℕ) (bs : Branches (List Bucket)) (most from v : ℕ) → Rising most from bs → from ≤ v → v ≤ most
+    → (i : PathInterval) × In (path_intervals maxima bs from) i × (i.first ≤ v) × (v ≤ i.last)
+interval_at maxima no_branch most from v r a b = absurd (omega (arith, r, a, b))
+interval_at maxima (branch end d bs) most from v r a b =
+    elim (leb_tells v end) [
+      | inl within ↦ (record { first = from; last = end; child = d; made = paths_of maxima d }, inl refl, a, within.1)
+      | inr past ↦
+          let later = interval_at maxima bs most (end + 1) v r.1 (omega (arith, past.1)) b in
+          (later.0, inr later.1, later.2, later.3)
+    ]
 
 -- what holds of each interval holds of the one with the most values
 pub with_most_has :

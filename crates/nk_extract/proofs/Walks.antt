@@ -1,6 +1,6 @@
 -- The steps of the walk over a diagram.
 use Rattle.std.proofs.Common.{◌≡◌, ℕ, suc, ◌+◌, ◌-◌, ◌*◌, ◌^◌, ◌<◌, ◌≤◌, Bool, true, false, cond, min, inl, inr, List, [], ◌∷◌, ◌++◌, length, Result, Ok, Err, OnOk, refl, sym, ap, ◌∙◌, arith, append_assoc, append-nil, add-one, eqb}
-use Rattle.std.specs.Prelude.{◌==◌, ◌||◌, not, map, filter, count_by}
+use Rattle.std.specs.Prelude.{◌==◌, ◌||◌, not, map, filter, count_by, slice_index}
 use Rattle.std.specs.List.{flat_map}
 use Rattle.std.proofs.Math.Pow.{pow_mono}
 use Rattle.std.proofs.Math.Nat.{pow-suc}
@@ -13,9 +13,10 @@ use Rattle.nk_store.specs.declared.node.Out.{Out}
 use Rattle.nk_store.specs.Nodes.{node_at, Each}
 use Rattle.nk_store.specs.Held.{Held, IsId, node_of}
 use Rattle.nk_store.specs.Intervals.{counted}
+use Rattle.nk_prefix.specs.Blocks.{blocks_of}
 use Rattle.nk_store.proofs.Looks.{node_at-old, node_at-new}
 use Rattle.nk_table.specs.declared.Plain.{Plain}
-use Rattle.nk_extract.specs.RuleTree.{Path, is_drop_list, with_match, priority_of, put}
+use Rattle.nk_extract.specs.RuleTree.{Path, is_drop_list, with_match, priority_of, put_match}
 use Rattle.nk_store.specs.ElseChild.{Span, spans, else_of}
 use Rattle.nk_extract.specs.Ways.{span_ways, node_ways, is_empty_leaf, ways_in, ways, row_behind, rows_behind, span_rows, bucket_list}
 use Rattle.nk_extract.proofs.Lists.{filter_same, filter_map_is, filter_append_is, map_append_is}
@@ -60,85 +61,86 @@ clamped all bit rest = omega arith
 
 -- the ways of a node
 spans_same :
-    (f : ℕ) (drops : Bool) (other : ℕ) (w v : ℕ → List Path) (ps : List (ℕ × ℕ)) (from : ℕ)
+    (max f : ℕ) (drops : Bool) (other : ℕ) (w v : ℕ → List Path) (ps : List (ℕ × ℕ)) (from : ℕ)
     → Each (λ c. w c ≡ v c) ps
-    → flat_map (span_ways f drops other w) (spans ps from) ≡ flat_map (span_ways f drops other v) (spans ps from)
-spans_same f drops other w v [] from e = refl
-spans_same f drops other w v (p ∷ ps) from e =
-    ap (λ l. cond (p.1 == other) [] (flat_map (λ x. map (with_match f drops x) l) (counted from (p.0 + 1 - from))) ++ flat_map (span_ways f drops other w) (spans ps (p.0 + 1))) e.0
-    ∙ ap (λ l. span_ways f drops other v record { first = from; last = p.0; child = p.1 } ++ l) (spans_same f drops other w v ps (p.0 + 1) e.1)
+    → flat_map (span_ways max f drops other w) (spans ps from) ≡ flat_map (span_ways max f drops other v) (spans ps from)
+spans_same max f drops other w v [] from e = refl
+spans_same max f drops other w v (p ∷ ps) from e =
+    ap (λ l. cond (p.1 == other) [] (flat_map (λ b. map (with_match f drops b) l) (blocks_of from p.0 max)) ++ flat_map (span_ways max f drops other w) (spans ps (p.0 + 1))) e.0
+    ∙ ap (λ l. span_ways max f drops other v record { first = from; last = p.0; child = p.1 } ++ l) (spans_same max f drops other w v ps (p.0 + 1) e.1)
 
 -- a choice by other words for its children
 case_same :
-    (tag f : ℕ) (ps : List (ℕ × ℕ)) (d e : ℕ → Bool) (w v : ℕ → List Path) → 0 < length ps
+    (maxes : List ℕ) (tag f : ℕ) (ps : List (ℕ × ℕ)) (d e : ℕ → Bool) (w v : ℕ → List Path) → 0 < length ps
     → Each (λ c. (d c ≡ e c) × (w c ≡ v c)) ps
-    → node_ways tag (Case f ps) d w ≡ node_ways tag (Case f ps) e v
-case_same tag f ps d e w v h s =
+    → node_ways maxes tag (Case f ps) d w ≡ node_ways maxes tag (Case f ps) e v
+case_same maxes tag f ps d e w v h s =
+    let max = slice_index maxes f in
     let other = else_of ps in
     let both = else_has (λ c. (d c ≡ e c) × (w c ≡ v c)) ps h s in
-    ap (λ b. flat_map (span_ways f b other w) (spans ps 0) ++ w other) both.0
-    ∙ ap (λ l. l ++ w other) (spans_same f (e other) other w v ps 0 (each_of (λ c. (d c ≡ e c) × (w c ≡ v c)) (λ c. w c ≡ v c) ps (λ c p. p.1) s))
-    ∙ ap (λ l. flat_map (span_ways f (e other) other v) (spans ps 0) ++ l) both.1
+    ap (λ b. flat_map (span_ways max f b other w) (spans ps 0) ++ w other) both.0
+    ∙ ap (λ l. l ++ w other) (spans_same max f (e other) other w v ps 0 (each_of (λ c. (d c ≡ e c) × (w c ≡ v c)) (λ c. w c ≡ v c) ps (λ c p. p.1) s))
+    ∙ ap (λ l. flat_map (span_ways max f (e other) other v) (spans ps 0) ++ l) both.1
 
 -- an older node keeps its ways
 ways_old :
-    (tag : ℕ) (n : Node) (older : List Node) (c : ℕ) → c < length older
-    → ways_in tag (n ∷ older) c ≡ ways_in tag older c
-ways_old tag n older c h = ap (λ b. cond b (node_ways tag n (λ c. is_empty_leaf (node_at older c)) (λ c. ways_in tag older c)) (ways_in tag older c)) (let e : eqb c (length older) ≡ false = grind (arith, nat_tests, h) in e)
+    (maxes : List ℕ) (tag : ℕ) (n : Node) (older : List Node) (c : ℕ) → c < length older
+    → ways_in maxes tag (n ∷ older) c ≡ ways_in maxes tag older c
+ways_old maxes tag n older c h = ap (λ b. cond b (node_ways maxes tag n (λ c. is_empty_leaf (node_at older c)) (λ c. ways_in maxes tag older c)) (ways_in maxes tag older c)) (let e : eqb c (length older) ≡ false = grind (arith, nat_tests, h) in e)
 
 -- the newest node has the ways of its children
 ways_new :
-    (tag : ℕ) (n : Node) (older : List Node) (c : ℕ) → c ≡ length older
-    → ways_in tag (n ∷ older) c ≡ node_ways tag n (λ c. is_empty_leaf (node_at older c)) (λ c. ways_in tag older c)
-ways_new tag n older c h = ap (λ b. cond b (node_ways tag n (λ c. is_empty_leaf (node_at older c)) (λ c. ways_in tag older c)) (ways_in tag older c)) (let e : eqb c (length older) ≡ true = grind (arith, nat_tests, h) in e)
+    (maxes : List ℕ) (tag : ℕ) (n : Node) (older : List Node) (c : ℕ) → c ≡ length older
+    → ways_in maxes tag (n ∷ older) c ≡ node_ways maxes tag n (λ c. is_empty_leaf (node_at older c)) (λ c. ways_in maxes tag older c)
+ways_new maxes tag n older c h = ap (λ b. cond b (node_ways maxes tag n (λ c. is_empty_leaf (node_at older c)) (λ c. ways_in maxes tag older c)) (ways_in maxes tag older c)) (let e : eqb c (length older) ≡ true = grind (arith, nat_tests, h) in e)
 
 -- the ways of a choice, by its number
 pub ways_at_case :
-    (tag : ℕ) (ns : List Node) (i f : ℕ) (ps : List (ℕ × ℕ)) → i < length ns → node_at ns i ≡ Case f ps
+    (maxes : List ℕ) (tag : ℕ) (ns : List Node) (i f : ℕ) (ps : List (ℕ × ℕ)) → i < length ns → node_at ns i ≡ Case f ps
     → 0 < length ps → Each (λ c. c < i) ps
-    → ways_in tag ns i ≡ node_ways tag (Case f ps) (λ c. is_empty_leaf (node_at ns c)) (λ c. ways_in tag ns c)
-ways_at_case tag [] i f ps h e some below = absurd (omega arith)
-ways_at_case tag (n ∷ older) i f ps h e some below =
+    → ways_in maxes tag ns i ≡ node_ways maxes tag (Case f ps) (λ c. is_empty_leaf (node_at ns c)) (λ c. ways_in maxes tag ns c)
+ways_at_case maxes tag [] i f ps h e some below = absurd (omega arith)
+ways_at_case maxes tag (n ∷ older) i f ps h e some below =
     elim (eqb_tells i (length older)) [
       | inl same ↦
           let e' : n ≡ Case f ps = sym (node_at-new n older) ∙ ap (λ k. node_at (n ∷ older) k) (sym same.1) ∙ e in
-          ways_new tag n older i same.1
-          ∙ ap (λ m. node_ways tag m (λ c. is_empty_leaf (node_at older c)) (λ c. ways_in tag older c)) e'
-          ∙ case_same tag f ps (λ c. is_empty_leaf (node_at older c)) (λ c. is_empty_leaf (node_at (n ∷ older) c)) (λ c. ways_in tag older c) (λ c. ways_in tag (n ∷ older) c) some
-          (each_of (λ c. c < i) (λ c. (is_empty_leaf (node_at older c) ≡ is_empty_leaf (node_at (n ∷ older) c)) × (ways_in tag older c ≡ ways_in tag (n ∷ older) c)) ps (λ c l. let k : c < length older = omega (arith, l, same.1) in (ap is_empty_leaf (sym (node_at-old n older c k)), sym (ways_old tag n older c k))) below)
+          ways_new maxes tag n older i same.1
+          ∙ ap (λ m. node_ways maxes tag m (λ c. is_empty_leaf (node_at older c)) (λ c. ways_in maxes tag older c)) e'
+          ∙ case_same maxes tag f ps (λ c. is_empty_leaf (node_at older c)) (λ c. is_empty_leaf (node_at (n ∷ older) c)) (λ c. ways_in maxes tag older c) (λ c. ways_in maxes tag (n ∷ older) c) some
+          (each_of (λ c. c < i) (λ c. (is_empty_leaf (node_at older c) ≡ is_empty_leaf (node_at (n ∷ older) c)) × (ways_in maxes tag older c ≡ ways_in maxes tag (n ∷ older) c)) ps (λ c l. let k : c < length older = omega (arith, l, same.1) in (ap is_empty_leaf (sym (node_at-old n older c k)), sym (ways_old maxes tag n older c k))) below)
       | inr other ↦
           let below' : i < length older = omega (arith, other.1) in
-          ways_old tag n older i below'
-          ∙ ways_at_case tag older i f ps below' (sym (node_at-old n older i below') ∙ e) some below
-          ∙ case_same tag f ps (λ c. is_empty_leaf (node_at older c)) (λ c. is_empty_leaf (node_at (n ∷ older) c)) (λ c. ways_in tag older c) (λ c. ways_in tag (n ∷ older) c) some
-          (each_of (λ c. c < i) (λ c. (is_empty_leaf (node_at older c) ≡ is_empty_leaf (node_at (n ∷ older) c)) × (ways_in tag older c ≡ ways_in tag (n ∷ older) c)) ps (λ c l. let k : c < length older = omega (arith, l, below') in (ap is_empty_leaf (sym (node_at-old n older c k)), sym (ways_old tag n older c k))) below)
+          ways_old maxes tag n older i below'
+          ∙ ways_at_case maxes tag older i f ps below' (sym (node_at-old n older i below') ∙ e) some below
+          ∙ case_same maxes tag f ps (λ c. is_empty_leaf (node_at older c)) (λ c. is_empty_leaf (node_at (n ∷ older) c)) (λ c. ways_in maxes tag older c) (λ c. ways_in maxes tag (n ∷ older) c) some
+          (each_of (λ c. c < i) (λ c. (is_empty_leaf (node_at older c) ≡ is_empty_leaf (node_at (n ∷ older) c)) × (ways_in maxes tag older c ≡ ways_in maxes tag (n ∷ older) c)) ps (λ c l. let k : c < length older = omega (arith, l, below') in (ap is_empty_leaf (sym (node_at-old n older c k)), sym (ways_old maxes tag n older c k))) below)
     ]
 
 -- the ways of a choice in the store
 pub ways_case :
     (tag : ℕ) (st : Held) (i f : ℕ) (ps : List (ℕ × ℕ)) → IsId st i → node_of st i ≡ Case f ps
     → 0 < length ps → Each (λ c. c < i) ps
-    → ways tag st i ≡ node_ways tag (Case f ps) (λ c. is_empty_leaf (node_of st c)) (ways tag st)
+    → ways tag st i ≡ node_ways st.maxes tag (Case f ps) (λ c. is_empty_leaf (node_of st c)) (ways tag st)
 unfolding IsId node_of ways
-ways_case tag st i f ps h e some below = ways_at_case tag st.nodes i f ps h e some below
+ways_case tag st i f ps h e some below = ways_at_case st.maxes tag st.nodes i f ps h e some below
 
 -- the way of a leaf, by its number
-pub ways_at_leaf : (tag : ℕ) (ns : List Node) (i : ℕ) (outs : List Out) → i < length ns → node_at ns i ≡ Leaf outs → ways_in tag ns i ≡ record { matches = []; buckets = bucket_list tag outs; shown = false } ∷ []
-ways_at_leaf tag [] i outs h e = absurd (omega arith)
-ways_at_leaf tag (n ∷ older) i outs h e =
+pub ways_at_leaf : (maxes : List ℕ) (tag : ℕ) (ns : List Node) (i : ℕ) (outs : List Out) → i < length ns → node_at ns i ≡ Leaf outs → ways_in maxes tag ns i ≡ record { matches = []; buckets = bucket_list tag outs; shown = false } ∷ []
+ways_at_leaf maxes tag [] i outs h e = absurd (omega arith)
+ways_at_leaf maxes tag (n ∷ older) i outs h e =
     elim (eqb_tells i (length older)) [
       | inl same ↦
           let e' : n ≡ Leaf outs = sym (node_at-new n older) ∙ ap (λ k. node_at (n ∷ older) k) (sym same.1) ∙ e in
-          ways_new tag n older i same.1 ∙ ap (λ m. node_ways tag m (λ c. is_empty_leaf (node_at older c)) (λ c. ways_in tag older c)) e'
+          ways_new maxes tag n older i same.1 ∙ ap (λ m. node_ways maxes tag m (λ c. is_empty_leaf (node_at older c)) (λ c. ways_in maxes tag older c)) e'
       | inr other ↦
           let below : i < length older = omega (arith, other.1) in
-          ways_old tag n older i below ∙ ways_at_leaf tag older i outs below (sym (node_at-old n older i below) ∙ e)
+          ways_old maxes tag n older i below ∙ ways_at_leaf maxes tag older i outs below (sym (node_at-old n older i below) ∙ e)
     ]
 
 -- the way of a leaf in the store
 pub ways_leaf : (tag : ℕ) (st : Held) (i : ℕ) (outs : List Out) → IsId st i → node_of st i ≡ Leaf outs → ways tag st i ≡ record { matches = []; buckets = bucket_list tag outs; shown = false } ∷ []
 unfolding IsId node_of ways
-ways_leaf tag st i outs h e = ways_at_leaf tag st.nodes i outs h e
+ways_leaf tag st i outs h e = ways_at_leaf st.maxes tag st.nodes i outs h e
 
 -- rows behind a way
 map_twice :
@@ -151,66 +153,66 @@ map_same : {A B : Type 0} (g h : A → B) (xs : List A) → ((x : A) → g x ≡
 map_same g h [] e = refl
 map_same g h (x ∷ xs) e = ap (λ y. y ∷ map g xs) (e x) ∙ ap (λ l. h x ∷ l) (map_same g h xs e)
 
-module _ (width tag t : ℕ) (ms : List (ℕ × ℕ)) (all : Bool) where
+module _ (width : ℕ) (tag : ℕ × ℕ × ℕ) (ms : List (ℕ × ℕ × ℕ)) (all : Bool) where
   -- the rows of ways joined
   behind_append :
       (ps qs : List Path)
-      → rows_behind width tag t ms all (ps ++ qs) ≡ rows_behind width tag t ms all ps ++ rows_behind width tag t ms all qs
+      → rows_behind width tag ms all (ps ++ qs) ≡ rows_behind width tag ms all ps ++ rows_behind width tag ms all qs
   behind_append ps qs =
-      ap (map (row_behind width tag t ms)) (filter_append_is (λ p. (not (is_drop_list p.buckets) || p.shown) || all) ps qs)
-      ∙ map_append_is (row_behind width tag t ms) (filter (λ p. (not (is_drop_list p.buckets) || p.shown) || all) ps) (filter (λ p. (not (is_drop_list p.buckets) || p.shown) || all) qs)
+      ap (map (row_behind width tag ms)) (filter_append_is (λ p. (not (is_drop_list p.buckets) || p.shown) || all) ps qs)
+      ∙ map_append_is (row_behind width tag ms) (filter (λ p. (not (is_drop_list p.buckets) || p.shown) || all) ps) (filter (λ p. (not (is_drop_list p.buckets) || p.shown) || all) qs)
 
   -- the rows of ways with one more match
   behind_match :
-      (f v : ℕ) (drops : Bool) (ps : List Path)
-      → rows_behind width tag t ms all (map (with_match f drops v) ps) ≡ rows_behind width tag t (ms ++ (f, v) ∷ []) (not drops || all) ps
-  behind_match f v drops ps =
-      ap (map (row_behind width tag t ms))
-      (filter_map_is (λ p. (not (is_drop_list p.buckets) || p.shown) || all) (with_match f drops v) ps
-      ∙ ap (map (with_match f drops v)) (filter_same _ (λ p. (not (is_drop_list p.buckets) || p.shown) || (not drops || all)) ps (λ q. flags (not (is_drop_list q.buckets)) drops q.shown all)))
-      ∙ map_twice (row_behind width tag t ms) (with_match f drops v) (filter (λ p. (not (is_drop_list p.buckets) || p.shown) || (not drops || all)) ps)
-      ∙ map_same _ (row_behind width tag t (ms ++ (f, v) ∷ [])) (filter (λ p. (not (is_drop_list p.buckets) || p.shown) || (not drops || all)) ps)
-      (λ q. ap (λ (l : List (ℕ × ℕ)). (record { priority = min 65535 (priority_of width tag l); matches = put (tag, t) l; buckets = q.buckets })) (sym (append_assoc ms ((f, v) ∷ []) q.matches)))
+      (f : ℕ) (b : ℕ × ℕ) (drops : Bool) (ps : List Path)
+      → rows_behind width tag ms all (map (with_match f drops b) ps) ≡ rows_behind width tag (ms ++ (f, b.0, b.1) ∷ []) (not drops || all) ps
+  behind_match f b drops ps =
+      ap (map (row_behind width tag ms))
+      (filter_map_is (λ p. (not (is_drop_list p.buckets) || p.shown) || all) (with_match f drops b) ps
+      ∙ ap (map (with_match f drops b)) (filter_same _ (λ p. (not (is_drop_list p.buckets) || p.shown) || (not drops || all)) ps (λ q. flags (not (is_drop_list q.buckets)) drops q.shown all)))
+      ∙ map_twice (row_behind width tag ms) (with_match f drops b) (filter (λ p. (not (is_drop_list p.buckets) || p.shown) || (not drops || all)) ps)
+      ∙ map_same _ (row_behind width tag (ms ++ (f, b.0, b.1) ∷ [])) (filter (λ p. (not (is_drop_list p.buckets) || p.shown) || (not drops || all)) ps)
+      (λ q. ap (λ (l : List (ℕ × ℕ × ℕ)). (record { priority = min 65535 (priority_of width tag.0 l); matches = put_match tag l; buckets = q.buckets })) (sym (append_assoc ms ((f, b.0, b.1) ∷ []) q.matches)))
 
-  -- the rows of several values
-  behind_values :
-      (f : ℕ) (drops : Bool) (ps : List Path) (vs : List ℕ)
-      → rows_behind width tag t ms all (flat_map (λ v. map (with_match f drops v) ps) vs) ≡ flat_map (λ v. rows_behind width tag t (ms ++ (f, v) ∷ []) (not drops || all) ps) vs
-  behind_values f drops ps [] = refl
-  behind_values f drops ps (v ∷ vs) =
-      behind_append (map (with_match f drops v) ps) (flat_map (λ v. map (with_match f drops v) ps) vs)
-      ∙ ap (λ l. l ++ rows_behind width tag t ms all (flat_map (λ v. map (with_match f drops v) ps) vs)) (behind_match f v drops ps)
-      ∙ ap (λ l. rows_behind width tag t (ms ++ (f, v) ∷ []) (not drops || all) ps ++ l) (behind_values f drops ps vs)
+  -- the rows of several blocks
+  behind_blocks :
+      (f : ℕ) (drops : Bool) (ps : List Path) (bs : List (ℕ × ℕ))
+      → rows_behind width tag ms all (flat_map (λ b. map (with_match f drops b) ps) bs) ≡ flat_map (λ b. rows_behind width tag (ms ++ (f, b.0, b.1) ∷ []) (not drops || all) ps) bs
+  behind_blocks f drops ps [] = refl
+  behind_blocks f drops ps (b ∷ bs) =
+      behind_append (map (with_match f drops b) ps) (flat_map (λ c. map (with_match f drops c) ps) bs)
+      ∙ ap (λ l. l ++ rows_behind width tag ms all (flat_map (λ c. map (with_match f drops c) ps) bs)) (behind_match f b drops ps)
+      ∙ ap (λ l. rows_behind width tag (ms ++ (f, b.0, b.1) ∷ []) (not drops || all) ps ++ l) (behind_blocks f drops ps bs)
 
   -- the rows of an interval
   behind_span :
-      (f : ℕ) (drops : Bool) (other : ℕ) (w : ℕ → List Path) (s : Span)
-      → rows_behind width tag t ms all (span_ways f drops other w s) ≡ span_rows width tag t ms f (not drops || all) other w s
-  behind_span f drops other w s = by (s.child == other)
+      (max f : ℕ) (drops : Bool) (other : ℕ) (w : ℕ → List Path) (s : Span)
+      → rows_behind width tag ms all (span_ways max f drops other w s) ≡ span_rows width tag ms max f (not drops || all) other w s
+  behind_span max f drops other w s = by (s.child == other)
     where
       by :
-          (b : Bool)
-          → rows_behind width tag t ms all (cond b [] (flat_map (λ v. map (with_match f drops v) (w s.child)) (counted s.first (s.last + 1 - s.first)))) ≡ cond b [] (flat_map (λ v. rows_behind width tag t (ms ++ (f, v) ∷ []) (not drops || all) (w s.child)) (counted s.first (s.last + 1 - s.first)))
+          (t : Bool)
+          → rows_behind width tag ms all (cond t [] (flat_map (λ b. map (with_match f drops b) (w s.child)) (blocks_of s.first s.last max))) ≡ cond t [] (flat_map (λ b. rows_behind width tag (ms ++ (f, b.0, b.1) ∷ []) (not drops || all) (w s.child)) (blocks_of s.first s.last max))
       by true = refl
-      by false = behind_values f drops (w s.child) (counted s.first (s.last + 1 - s.first))
+      by false = behind_blocks f drops (w s.child) (blocks_of s.first s.last max)
 
   -- the rows of intervals
   behind_spans :
-      (f : ℕ) (drops : Bool) (other : ℕ) (w : ℕ → List Path) (ss : List Span)
-      → rows_behind width tag t ms all (flat_map (span_ways f drops other w) ss) ≡ flat_map (span_rows width tag t ms f (not drops || all) other w) ss
-  behind_spans f drops other w [] = refl
-  behind_spans f drops other w (s ∷ ss) =
-      behind_append (span_ways f drops other w s) (flat_map (span_ways f drops other w) ss)
-      ∙ ap (λ l. l ++ rows_behind width tag t ms all (flat_map (span_ways f drops other w) ss)) (behind_span f drops other w s)
-      ∙ ap (λ l. span_rows width tag t ms f (not drops || all) other w s ++ l) (behind_spans f drops other w ss)
+      (max f : ℕ) (drops : Bool) (other : ℕ) (w : ℕ → List Path) (ss : List Span)
+      → rows_behind width tag ms all (flat_map (span_ways max f drops other w) ss) ≡ flat_map (span_rows width tag ms max f (not drops || all) other w) ss
+  behind_spans max f drops other w [] = refl
+  behind_spans max f drops other w (s ∷ ss) =
+      behind_append (span_ways max f drops other w s) (flat_map (span_ways max f drops other w) ss)
+      ∙ ap (λ l. l ++ rows_behind width tag ms all (flat_map (span_ways max f drops other w) ss)) (behind_span max f drops other w s)
+      ∙ ap (λ l. span_rows width tag ms max f (not drops || all) other w s ++ l) (behind_spans max f drops other w ss)
 
   -- the rows of a choice
   pub behind_node :
-      (f : ℕ) (ps : List (ℕ × ℕ)) (d : ℕ → Bool) (w : ℕ → List Path)
-      → rows_behind width tag t ms all (node_ways tag (Case f ps) d w) ≡ flat_map (span_rows width tag t ms f (not (d (else_of ps)) || all) (else_of ps) w) (spans ps 0) ++ rows_behind width tag t ms all (w (else_of ps))
-  behind_node f ps d w =
-      behind_append (flat_map (span_ways f (d (else_of ps)) (else_of ps) w) (spans ps 0)) (w (else_of ps))
-      ∙ ap (λ l. l ++ rows_behind width tag t ms all (w (else_of ps))) (behind_spans f (d (else_of ps)) (else_of ps) w (spans ps 0))
+      (maxes : List ℕ) (f : ℕ) (ps : List (ℕ × ℕ)) (d : ℕ → Bool) (w : ℕ → List Path)
+      → rows_behind width tag ms all (node_ways maxes tag.0 (Case f ps) d w) ≡ flat_map (span_rows width tag ms (slice_index maxes f) f (not (d (else_of ps)) || all) (else_of ps) w) (spans ps 0) ++ rows_behind width tag ms all (w (else_of ps))
+  behind_node maxes f ps d w =
+      behind_append (flat_map (span_ways (slice_index maxes f) f (d (else_of ps)) (else_of ps) w) (spans ps 0)) (w (else_of ps))
+      ∙ ap (λ l. l ++ rows_behind width tag ms all (w (else_of ps))) (behind_spans (slice_index maxes f) f (d (else_of ps)) (else_of ps) w (spans ps 0))
 
 -- what holds of an Ok answer
 pub on_ok : {T E : Type 0} (r : Result T E) (P Q : Type 0) → (P → Q) → OnOk r P → OnOk r Q
@@ -219,38 +221,40 @@ on_ok (Err e) P Q f h = h
 
 -- the end of the loop over parts
 pub case_returns :
-    (width tag t : ℕ) (ms : List (ℕ × ℕ)) (all : Bool) (f : ℕ) (ps : List (ℕ × ℕ)) (d : ℕ → Bool) (w : ℕ → List Path) (before mid after : List Plain) (other : ℕ) (shown : Bool) (rest : List (ℕ × ℕ)) (from : ℕ)
-    → other ≡ else_of ps → shown ≡ (not (d other) || all) → rest ≡ []
-    → mid ++ flat_map (span_rows width tag t ms f shown other w) (spans rest from) ≡ before ++ flat_map (span_rows width tag t ms f shown other w) (spans ps 0)
-    → after ≡ mid ++ rows_behind width tag t ms all (w other)
-    → after ≡ before ++ rows_behind width tag t ms all (node_ways tag (Case f ps) d w)
-case_returns width tag t ms all f ps d w before mid after other shown rest from is s none made h =
-    let mid_is : mid ≡ before ++ flat_map (span_rows width tag t ms f shown other w) (spans ps 0) =
-    sym (append-nil mid) ∙ ap (λ l. mid ++ flat_map (span_rows width tag t ms f shown other w) (spans l from)) (sym none) ∙ made in
+    (width : ℕ) (tag : ℕ × ℕ × ℕ) (ms : List (ℕ × ℕ × ℕ)) (all : Bool) (maxes : List ℕ) (max f : ℕ) (ps : List (ℕ × ℕ)) (d : ℕ → Bool) (w : ℕ → List Path) (before mid after : List Plain) (other : ℕ) (shown : Bool) (rest : List (ℕ × ℕ)) (from : ℕ)
+    → max ≡ slice_index maxes f → other ≡ else_of ps → shown ≡ (not (d other) || all) → rest ≡ []
+    → mid ++ flat_map (span_rows width tag ms max f shown other w) (spans rest from) ≡ before ++ flat_map (span_rows width tag ms max f shown other w) (spans ps 0)
+    → after ≡ mid ++ rows_behind width tag ms all (w other)
+    → after ≡ before ++ rows_behind width tag ms all (node_ways maxes tag.0 (Case f ps) d w)
+case_returns width tag ms all maxes max f ps d w before mid after other shown rest from top is s none made h =
+    let mid_is : mid ≡ before ++ flat_map (span_rows width tag ms max f shown other w) (spans ps 0) =
+    sym (append-nil mid) ∙ ap (λ l. mid ++ flat_map (span_rows width tag ms max f shown other w) (spans l from)) (sym none) ∙ made in
     let flag : shown ≡ (not (d (else_of ps)) || all) = s ∙ ap (λ o. not (d o) || all) is in
     h
-    ∙ ap (λ l. l ++ rows_behind width tag t ms all (w other)) mid_is
-    ∙ append_assoc before (flat_map (span_rows width tag t ms f shown other w) (spans ps 0)) (rows_behind width tag t ms all (w other))
-    ∙ ap (λ o. before ++ (flat_map (span_rows width tag t ms f shown o w) (spans ps 0) ++ rows_behind width tag t ms all (w o))) is
-    ∙ ap (λ b. before ++ (flat_map (span_rows width tag t ms f b (else_of ps) w) (spans ps 0) ++ rows_behind width tag t ms all (w (else_of ps)))) flag
-    ∙ ap (λ l. before ++ l) (sym (behind_node width tag t ms all f ps d w))
+    ∙ ap (λ l. l ++ rows_behind width tag ms all (w other)) mid_is
+    ∙ append_assoc before (flat_map (span_rows width tag ms max f shown other w) (spans ps 0)) (rows_behind width tag ms all (w other))
+    ∙ ap (λ o. before ++ (flat_map (span_rows width tag ms max f shown o w) (spans ps 0) ++ rows_behind width tag ms all (w o))) is
+    ∙ ap (λ b. before ++ (flat_map (span_rows width tag ms max f b (else_of ps) w) (spans ps 0) ++ rows_behind width tag ms all (w (else_of ps)))) flag
+    ∙ ap (λ m. before ++ (flat_map (span_rows width tag ms m f (not (d (else_of ps)) || all) (else_of ps) w) (spans ps 0) ++ rows_behind width tag ms all (w (else_of ps)))) top
+    ∙ ap (λ l. before ++ l) (sym (behind_node width tag ms all maxes f ps d w))
 
--- a step of the loop over values
-pub values_step :
-    (g : ℕ → List Plain) (mid more all : List Plain) (v last : ℕ) → v ≤ last
-    → mid ++ flat_map g (counted v (last + 1 - v)) ≡ all → more ≡ mid ++ g v
-    → more ++ flat_map g (counted (v + 1) (last + 1 - (v + 1))) ≡ all
-values_step g mid more all v last h made e =
-    let one : last + 1 - v ≡ suc (last + 1 - (v + 1)) = omega (arith, h) in
-    ap (λ l. l ++ flat_map g (counted (v + 1) (last + 1 - (v + 1)))) e
-    ∙ append_assoc mid (g v) (flat_map g (counted (v + 1) (last + 1 - (v + 1))))
-    ∙ ap (λ n. mid ++ flat_map g (counted v n)) (sym one)
+-- a step of the loop over blocks
+pub blocks_step :
+    (g : ℕ × ℕ → List Plain) (mid more all : List Plain) (b : ℕ × ℕ) (bs rest : List (ℕ × ℕ)) → bs ≡ b ∷ rest
+    → mid ++ flat_map g bs ≡ all → more ≡ mid ++ g b → more ++ flat_map g rest ≡ all
+blocks_step g mid more all b bs rest s made e =
+    ap (λ l. l ++ flat_map g rest) e
+    ∙ append_assoc mid (g b) (flat_map g rest)
+    ∙ ap (λ l. mid ++ flat_map g l) (sym s)
     ∙ made
 
--- its end
-pub values_end :
-    (g : ℕ → List Plain) (mid more all : List Plain) (v last : ℕ) → v ≡ last
-    → mid ++ flat_map g (counted v (last + 1 - v)) ≡ all → more ≡ mid ++ g v → more ≡ all
-values_end g mid more all v last h made e =
-    let none : last + 1 - (v + 1) ≡ 0 = omega (arith, h) in
-    sym (append-nil more) ∙ ap (λ n. more ++ flat_map g (counted (v + 1) n)) (sym none) ∙ values_step g mid more all v last (omega (arith, h)) made e
+-- its end, where the interval's child is not the else-child
+pub blocks_end :
+    (g : ℕ × ℕ → List Plain) (before mid : List Plain) (other : Bool) (bs rest : List (ℕ × ℕ)) → other ≡ false
+    → rest ≡ [] → mid ++ flat_map g rest ≡ before ++ flat_map g bs
+    → mid ≡ before ++ cond other [] (flat_map g bs)
+blocks_end g before mid other bs rest differ none made =
+    sym (append-nil mid)
+    ∙ ap (λ l. mid ++ flat_map g l) (sym none)
+    ∙ made
+    ∙ ap (λ b. before ++ cond b [] (flat_map g bs)) (sym differ)

@@ -1,11 +1,12 @@
 -- What it means that rows give a leaf: of those that match a packet one alone is highest and has the leaf's buckets, or
 -- none matches and the leaf is empty; and the laws on the rows of a reduced tree.
-use Rattle.std.specs.Prelude.{◌≡◌, ◌≢◌, ℕ, ◌<◌, ◌≤◌, ◌⊎◌, ◌==◌, Bool, List, [], ◌∷◌, ◌++◌, length, filter, slice_index, Contains}
+use Rattle.std.specs.Prelude.{◌≡◌, ◌≢◌, ℕ, ◌<◌, ◌≤◌, ◌⊎◌, Bool, List, [], ◌∷◌, ◌++◌, length, filter, slice_index, Contains}
 use Rattle.std.specs.List.{list_all, AllByRecursion}
 use Rattle.nk_store.specs.Diagram.{Diagram, IsReduced, IsFreeOf, leaf_at}
 use Rattle.nk_store.specs.Nodes.{InRange}
 use Rattle.nk_table.specs.declared.Bucket.{Bucket}
 use Rattle.nk_table.specs.declared.Plain.{Plain}
+use Rattle.nk_table.specs.Rules.{agrees_at}
 use Rattle.nk_extract.specs.RuleTree.{rows_for}
 
 -- no two elements have one value
@@ -21,22 +22,22 @@ pub record IsTop (A : Type 0) (value : A → ℕ) (xs : List A) (x : A) : Type 0
   pub lower_before : AllByRecursion (λ y. value y < value x) before
   pub lower_after : AllByRecursion (λ y. value y < value x) after
 
--- the packet has the values that are matched
-abbrev pub agrees_with : List ℕ → List (ℕ × ℕ) → Bool
-agrees_with pk ms = list_all (λ m. slice_index pk m.0 == m.1) ms
+-- the packet agrees with each match
+abbrev pub agrees_with : (maxima pk : List ℕ) → List (ℕ × ℕ × ℕ) → Bool
+agrees_with maxima pk ms = list_all (agrees_at maxima pk) ms
 
 abbrev pub rank : Plain → ℕ
 rank r = r.priority
 
 -- the rows that match a packet
-abbrev pub matching : List Plain → List ℕ → List Plain
-matching rows pk = filter (λ r. agrees_with pk r.matches) rows
+abbrev pub matching : List ℕ → List Plain → List ℕ → List Plain
+matching maxima rows pk = filter (λ r. agrees_with maxima pk r.matches) rows
 
 -- of the rows that match a packet one alone is highest and has these buckets, or none matches and there are no buckets
-abbrev pub Choose : List Plain → List ℕ → List Bucket → Type 0
-Choose rows pk buckets =
-    ((r : Plain) × IsTop Plain rank (matching rows pk) r × (r.buckets ≡ buckets))
-    ⊎ ((matching rows pk ≡ []) × (buckets ≡ []))
+abbrev pub Choose : List ℕ → List Plain → List ℕ → List Bucket → Type 0
+Choose maxima rows pk buckets =
+    ((r : Plain) × IsTop Plain rank (matching maxima rows pk) r × (r.buckets ≡ buckets))
+    ⊎ ((matching maxima rows pk ≡ []) × (buckets ≡ []))
 
 -- a reduced tree over the port and the declared fields but the tag
 pub record IsRowTree (maxima : List ℕ) (tag : ℕ) (d : Diagram (List Bucket)) : Type 0 where
@@ -52,20 +53,20 @@ pub record IsTagged (maxima : List ℕ) (tag t : ℕ) (pk : List ℕ) : Type 0 w
 abbrev pub RowsGiveLeaves : Type 0
 RowsGiveLeaves =
     (maxima : List ℕ) (tag t : ℕ) (d : Diagram (List Bucket)) → IsRowTree maxima tag d
-    → (pk : List ℕ) → IsTagged maxima tag t pk → Choose (rows_for (length maxima) tag t d) pk (leaf_at d [] pk)
+    → (pk : List ℕ) → IsTagged maxima tag t pk → Choose maxima (rows_for maxima tag t d) pk (leaf_at d [] pk)
 
 -- two rows of one tag that match one packet differ in priority
 abbrev pub RowsDiffer : Type 0
 RowsDiffer =
     (maxima : List ℕ) (tag t : ℕ) (d : Diagram (List Bucket)) → IsRowTree maxima tag d
-    → (pk : List ℕ) → IsTagged maxima tag t pk → Apart rank (matching (rows_for (length maxima) tag t d) pk)
+    → (pk : List ℕ) → IsTagged maxima tag t pk → Apart rank (matching maxima (rows_for maxima tag t d) pk)
 
 -- each row is the one chosen for some packet in range, at each switch: like base at the switch and the tag
 abbrev pub RowsAreChosen : Type 0
 RowsAreChosen =
     (maxima : List ℕ) (tag t : ℕ) (d : Diagram (List Bucket)) → IsRowTree maxima tag d → length maxima ≤ 18
     → (base : List ℕ) → InRange maxima base → slice_index base tag ≡ t
-    → (r : Plain) → Contains (rows_for (length maxima) tag t d) r
+    → (r : Plain) → Contains (rows_for maxima tag t d) r
     → (pk : List ℕ)
     × InRange maxima pk × (slice_index pk 0 ≡ slice_index base 0) × (slice_index pk tag ≡ t)
-    × IsTop Plain rank (matching (rows_for (length maxima) tag t d) pk) r
+    × IsTop Plain rank (matching maxima (rows_for maxima tag t d) pk) r

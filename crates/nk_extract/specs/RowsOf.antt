@@ -33,7 +33,7 @@ pub record IsPrintable (st : Held) (tag sw d : ℕ) : Type 0 where
 -- the rows of the reduced tree whose leaves are the diagram's bucket lists at the packets of the switch
 pub record AreRowsOf (st : Held) (width tag sw to d : ℕ) (rows : List Plain) : Type 0 where
   pub tree : Diagram (List Bucket)
-  pub rows_are : rows ≡ rows_for width tag to tree
+  pub rows_are : rows ≡ rows_for (take width st.maxes) tag to tree
   pub reduced : IsReduced tree (take width st.maxes) 1
   pub tag_free : IsFreeOf tag tree
   pub leaves :

@@ -9,11 +9,12 @@ mod row;
 mod rows;
 mod walk;
 
-ghost use Rattle.nk_extract.specs.Example.{WorkedRules};
+ghost use Rattle.nk_extract.specs.Example.{WorkedRules, WorkedIntervals};
 
 pub use rows::rows_of;
 
-/// Three small trees and their rows, among them a printed drop row.
+/// Small trees and their rows, among them a printed drop row, and intervals of values as blocks.
 pub fn worked_rules()
-    ensures { WorkedRules }
+    ensures values { WorkedRules }
+    ensures intervals { WorkedIntervals }
 {}

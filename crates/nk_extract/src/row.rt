@@ -1,6 +1,6 @@
 //! One row: its priority, its matches and its buckets.
 ghost use Rattle.std.specs.Prelude.{◌≡◌, ◌≤◌, ◌<◌, ◌*◌, ◌++◌, ℕ, [], ◌∷◌, length, min, take, drop, false, not, nat_lt, ◌&&◌, ◌==◌, if◌then◌else◌, IfOk, OnOk};
-ghost use Rattle.nk_extract.specs.RuleTree.{put, priority_of, bit_of};
+ghost use Rattle.nk_extract.specs.RuleTree.{put_match, priority_of, bit_of};
 ghost use Rattle.nk_extract.specs.Ways.{bucket_list, rows_behind};
 
 use crate::bucket::buckets;
@@ -9,29 +9,28 @@ use nk_store::Out;
 use nk_table::Plain;
 use std::alloc::{AllocError, Global};
 
-/// How many fields there are, which of them is the tag, and its value in these rows.
+/// How many fields there are, and the match of the tag in these rows: the field, its value and all its digits.
 #[derive(Clone, Copy)]
 pub(crate) struct Frame {
     pub width: usize,
-    pub tag: Fid,
-    pub to: u64,
+    pub tag: (Fid, u64, u8),
 }
 
 /// What a way through the diagram has matched so far, and whether a drop there is printed.
 #[derive(Drop)]
 pub(crate) struct Way {
-    pub matches: List<(Fid, u64)>,
+    pub matches: List<(Fid, u64, u8)>,
     pub shown: bool,
 }
 
 impl Way {
-    /// The way with one more value matched.
-    pub fn with(&self, alloc: Global, f: Fid, v: u64, shown: bool) -> Result<Way, AllocError>
-        ensures matches { IfOk result (λ w. w.matches ≡ self.now.matches ++ (f, v) ∷ []) }
+    /// The way with one more match.
+    pub fn with(&self, alloc: Global, at: (Fid, u64, u8), shown: bool) -> Result<Way, AllocError>
+        ensures matches { IfOk result (λ w. w.matches ≡ self.now.matches ++ at ∷ []) }
         ensures shown { IfOk result (λ w. w.shown ≡ shown) }
     {
         let mut matches = self.matches.copy()?;
-        matches.push((f, v))?;
+        matches.push(at)?;
         Ok(Way { matches, shown })
     }
 }
@@ -46,29 +45,30 @@ pub(crate) fn leaf_row(
 ) -> Result<(), AllocError>
     requires { frame.now.width ≤ 18 }
     ensures { OnOk result (rows.new.items ≡ rows.old.items
-        ++ rows_behind frame.now.width frame.now.tag frame.now.to way.now.matches way.now.shown
-        (record { matches = []; buckets = bucket_list frame.now.tag outs.now; shown = false } ∷ [])) }
+        ++ rows_behind frame.now.width frame.now.tag way.now.matches way.now.shown
+        (record { matches = []; buckets = bucket_list frame.now.tag.0 outs.now; shown = false } ∷ [])) }
 {
     if outs.len() == 0 && !way.shown {
         return Ok(());
     }
+    let (tag, _, _) = frame.tag;
     let matches = way.matches.as_slice();
     let row = Plain {
-        priority: priority(frame.width, frame.tag, matches),
-        matches: tagged(alloc, frame.tag, frame.to, matches)?,
-        buckets: buckets(alloc, frame.tag, outs)?,
+        priority: priority(frame.width, tag, matches),
+        matches: tagged(alloc, frame.tag, matches)?,
+        buckets: buckets(alloc, tag, outs)?,
     };
     rows.push(row)?;
     Ok(())
 }
 
 /// The priority of a row with these matches: the sum of their fields' bits.
-fn priority(width: usize, tag: Fid, matches: &[(Fid, u64)]) -> u16
+fn priority(width: usize, tag: Fid, matches: &[(Fid, u64, u8)]) -> u16
     requires { width ≤ 18 }
     ensures { result ≡ min 65535 (priority_of width tag matches.now) }
 {
     let mut all = 0;
-    for (f, _) in matches {
+    for (f, _, _) in matches {
         all = (all + bit(width, tag, *f)).min(65_535);
     }
     all as u16
@@ -99,27 +99,26 @@ fn with_field(bit: u32, tag: Fid, f: Fid, g: usize) -> u32
     }
 }
 
-/// The matches with the tag put in by field.
+/// The matches with the tag's put in by field.
 fn tagged(
     alloc: Global,
-    tag: Fid,
-    to: u64,
-    matches: &[(Fid, u64)],
-) -> Result<List<(Fid, u64)>, AllocError>
-    ensures { IfOk result (λ ms. ms ≡ put (tag, to) matches.now) }
+    tag: (Fid, u64, u8),
+    matches: &[(Fid, u64, u8)],
+) -> Result<List<(Fid, u64, u8)>, AllocError>
+    ensures { IfOk result (λ ms. ms ≡ put_match tag matches.now) }
 {
-    let k = place(tag, matches);
+    let k = place(tag.0, matches);
     let mut all = Vec::from_slice(alloc, &matches[..k])?;
-    all.push((tag, to))?;
+    all.push(tag)?;
     all.extend_from_slice(&matches[k..])?;
     Ok(List::from_vec(all))
 }
 
-/// Where the tag stands among the matches.
-fn place(tag: Fid, matches: &[(Fid, u64)]) -> usize
+/// Where a field's match stands among the matches.
+fn place(tag: Fid, matches: &[(Fid, u64, u8)]) -> usize
     ensures within { result ≤ length matches.now }
-    ensures is { (to : ℕ) → put (tag, to) matches.now
-        ≡ take result matches.now ++ (tag, to) ∷ drop result matches.now }
+    ensures is { (to len : ℕ) → put_match (tag, to, len) matches.now
+        ≡ take result matches.now ++ (tag, to, len) ∷ drop result matches.now }
 {
     for i in 0..matches.len() {
         if tag < matches[i].0 {

@@ -1,5 +1,6 @@
 //! The rows of a diagram at a switch.
-ghost use Rattle.std.specs.Prelude.{◌≡◌, ℕ, Some, IfOk};
+ghost use Rattle.std.specs.Prelude.{◌≡◌, ℕ, Some, IfOk, slice_index};
+ghost use Rattle.nk_prefix.specs.Prefix as prefix;
 ghost use Rattle.nk_store.specs.Held.{IsId, node_of};
 ghost use Rattle.nk_extract.specs.Ways.{at_switch};
 ghost use Rattle.nk_extract.specs.RowsOf.{IsFrame, IsPrintable, AreRowsOf};
@@ -7,12 +8,13 @@ ghost use Rattle.nk_extract.specs.RowsOf.{IsFrame, IsPrintable, AreRowsOf};
 use crate::row::{Frame, Way};
 use crate::walk::walk;
 use nk_field::List;
+use nk_prefix::digits_of;
 use nk_store::{Id, Node, Store, part_child};
 use nk_table::Plain;
 use std::alloc::{AllocError, Global};
 
 /// The rows of a diagram at a switch for one tag: those of the reduced tree whose leaf at each packet of the switch is
-/// the bucket list of the diagram's leaf there. They stand by exact values ascending, the else-child last.
+/// the bucket list of the diagram's leaf there. They stand by blocks ascending, the else-child last.
 ///
 /// The store has a tag, and at each packet of the switch each act of the leaf assigns what it changes, neither the
 /// switch nor the tag; the leaf is the same whatever the tag. Fails where memory runs out.
@@ -33,8 +35,7 @@ pub fn rows_of(
         Some(tag) => {
             let frame = Frame {
                 width: st.width(),
-                tag,
-                to,
+                tag: (tag, to, digits_of(st.max(tag))),
             };
             rows_in(alloc, st, d, switch, &frame)
         }
@@ -51,10 +52,11 @@ fn rows_in(
     frame: &Frame,
 ) -> Result<Vec<Plain>, AllocError>
     requires id { IsId st.now d }
-    requires frame { IsFrame st.now frame.now.width frame.now.tag }
-    requires printable { IsPrintable st.now frame.now.tag switch d }
+    requires frame { IsFrame st.now frame.now.width frame.now.tag.0 }
+    requires digits { frame.now.tag.2 ≡ prefix.digits_of (slice_index st.now.maxes frame.now.tag.0) }
+    requires printable { IsPrintable st.now frame.now.tag.0 switch d }
     ensures { IfOk result (λ rows.
-        AreRowsOf st.now frame.now.width frame.now.tag switch frame.now.to d rows.items) }
+        AreRowsOf st.now frame.now.width frame.now.tag.0 switch frame.now.tag.1 d rows.items) }
 {
     let mut rows = Vec::new(alloc);
     let way = Way {

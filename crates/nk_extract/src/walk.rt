@@ -6,16 +6,19 @@ ghost use Rattle.nk_extract.specs.Ways.{node_ways, span_rows, ways, rows_behind,
 
 use crate::row::{Frame, Way, leaf_row};
 use nk_field::Fid;
+use nk_prefix::blocks;
 use nk_store::{Id, Node, Store, else_child};
 use nk_table::Plain;
 use std::alloc::AllocError;
 
-/// A choice between the exact values of a field and the else-child.
+/// A choice between the blocks of a field's values and the else-child.
 #[derive(Clone, Copy)]
 struct Choice {
     field: Fid,
+    /// The field's largest value.
+    max: u64,
     other: Id,
-    /// Whether a drop is printed behind an exact value.
+    /// Whether a drop is printed behind a block.
     shown: bool,
 }
 
@@ -39,8 +42,8 @@ pub(crate) fn walk(
     requires id { IsId st.now d }
     requires width { frame.now.width ≤ 18 }
     ensures { OnOk result (rows.new.items ≡ rows.old.items
-        ++ rows_behind frame.now.width frame.now.tag frame.now.to way.now.matches way.now.shown
-        (ways frame.now.tag st.now d)) }
+        ++ rows_behind frame.now.width frame.now.tag way.now.matches way.now.shown
+        (ways frame.now.tag.0 st.now d)) }
 {
     match st.view(d) {
         Node::Leaf(outs) => leaf_row(st.alloc(), frame, outs.as_slice(), way, rows),
@@ -48,7 +51,7 @@ pub(crate) fn walk(
     }
 }
 
-/// The rows of a choice behind a way: those of the exact values ascending, and the else-child's last.
+/// The rows of a choice behind a way: those of the blocks ascending, and the else-child's last.
 #[cycle(walk)]
 fn walk_case(
     st: &Store,
@@ -62,17 +65,18 @@ fn walk_case(
     requires case { IsCase st.now d f parts.now }
     requires width { frame.now.width ≤ 18 }
     ensures { OnOk result (rows.new.items ≡ rows.old.items
-        ++ rows_behind frame.now.width frame.now.tag frame.now.to way.now.matches way.now.shown
-        (node_ways frame.now.tag (Case f parts.now) (λ c. is_empty_leaf (node_of st.now c))
-        (ways frame.now.tag st.now))) }
+        ++ rows_behind frame.now.width frame.now.tag way.now.matches way.now.shown
+        (node_ways st.now.maxes frame.now.tag.0 (Case f parts.now) (λ c. is_empty_leaf (node_of st.now c))
+        (ways frame.now.tag.0 st.now))) }
 {
-    let high = st.max(f);
-    let other = else_child(st.alloc(), high, parts)?;
+    let max = st.max(f);
+    let other = else_child(st.alloc(), max, parts)?;
     let shown = printed(st.drops(other), way.shown);
     let mut from: u128 = 0;
     for (end, c) in parts {
         let choice = Choice {
             field: f,
+            max,
             other,
             shown,
         };
@@ -87,7 +91,7 @@ fn walk_case(
     walk(st, frame, other, way, rows)
 }
 
-/// The rows of a span's child, for each of its values behind a way; none where it is the else-child.
+/// The rows of a span's child, for each of its blocks behind a way; none where it is the else-child.
 #[cycle(walk)]
 fn walk_span(
     st: &Store,
@@ -99,13 +103,14 @@ fn walk_span(
 ) -> Result<(), AllocError>
     requires id { IsId st.now span.child }
     requires width { frame.now.width ≤ 18 }
-    requires order { span.first ≤ span.last }
+    requires within { span.last ≤ choice.max }
     ensures { OnOk result (rows.new.items ≡ rows.old.items
-        ++ span_rows frame.now.width frame.now.tag frame.now.to way.now.matches choice.field choice.shown choice.other
-        (ways frame.now.tag st.now) (record { first = span.first; last = span.last; child = span.child })) }
+        ++ span_rows frame.now.width frame.now.tag way.now.matches choice.max choice.field choice.shown choice.other
+        (ways frame.now.tag.0 st.now) (record { first = span.first; last = span.last; child = span.child })) }
 {
     let Choice {
         field,
+        max,
         other,
         shown,
     } = choice;
@@ -113,18 +118,17 @@ fn walk_span(
     if child == other {
         return Ok(());
     }
-    let mut value = first;
-    'values: loop {
-        let next = way.with(st.alloc(), field, value, shown)?;
+    let all = blocks(st.alloc(), first, last, max)?;
+    let cut = all.as_slice();
+    for block in cut {
+        let (value, len) = *block;
+        let next = way.with(st.alloc(), (field, value, len), shown)?;
         walk(st, frame, child, &next, rows)?;
-        if value == last {
-            return Ok(());
-        }
-        value += 1;
     }
+    Ok(())
 }
 
-/// Whether a drop is printed behind an exact value, by the else-child's being the empty leaf.
+/// Whether a drop is printed behind a block, by the else-child's being the empty leaf.
 fn printed(else_drops: bool, shown: bool) -> bool
     ensures { result ≡ (not else_drops || shown) }
 {

@@ -15,18 +15,18 @@ use Rattle.nk_group.proofs.Kept.{groups_keep_buckets}
 
 -- rows that match a packet keep theirs
 kept_matching :
-    (gs : List Group) (ps : List Plain) (rs : List Row) (pk : List ℕ) → AreKept gs ps rs
-    → AreKept gs (matching ps pk) (filter (agrees pk) rs)
-kept_matching gs [] [] pk k = tt
-kept_matching gs [] (r ∷ rs) pk k = absurd k
-kept_matching gs (p ∷ ps) [] pk k = absurd k
-kept_matching gs (p ∷ ps) (r ∷ rs) pk k =
-    subst (λ b. AreKept gs (matching (p ∷ ps) pk) (cond b (r ∷ filter (agrees pk) rs) (filter (agrees pk) rs))) (sym (ap (agrees_with pk) k.1))
-    (by (agrees_with pk p.matches) (kept_matching gs ps rs pk k.3))
+    (maxima : List ℕ) (gs : List Group) (ps : List Plain) (rs : List Row) (pk : List ℕ) → AreKept gs ps rs
+    → AreKept gs (matching maxima ps pk) (filter (agrees maxima pk) rs)
+kept_matching maxima gs [] [] pk k = tt
+kept_matching maxima gs [] (r ∷ rs) pk k = absurd k
+kept_matching maxima gs (p ∷ ps) [] pk k = absurd k
+kept_matching maxima gs (p ∷ ps) (r ∷ rs) pk k =
+    subst (λ b. AreKept gs (matching maxima (p ∷ ps) pk) (cond b (r ∷ filter (agrees maxima pk) rs) (filter (agrees maxima pk) rs))) (sym (ap (agrees_with maxima pk) k.1))
+    (by (agrees_with maxima pk p.matches) (kept_matching maxima gs ps rs pk k.3))
   where
     by :
-        (b : Bool) → AreKept gs (matching ps pk) (filter (agrees pk) rs)
-        → AreKept gs (cond b (p ∷ matching ps pk) (matching ps pk)) (cond b (r ∷ filter (agrees pk) rs) (filter (agrees pk) rs))
+        (b : Bool) → AreKept gs (matching maxima ps pk) (filter (agrees maxima pk) rs)
+        → AreKept gs (cond b (p ∷ matching maxima ps pk) (matching maxima ps pk)) (cond b (r ∷ filter (agrees maxima pk) rs) (filter (agrees maxima pk) rs))
     by true h = (k.0, k.1, k.2, h)
     by false h = h
 
@@ -102,14 +102,14 @@ none_kept gs (r ∷ rs) k = absurd k
 
 -- the rows with their groups choose what the plain rows do
 pub groups_keep_the_choice : GroupsKeepTheChoice
-groups_keep_the_choice ps pk buckets c =
-    let k = kept_matching (groups_of ps) ps (rows_after [] ps) pk (groups_keep_buckets ps) in
+groups_keep_the_choice maxima ps pk buckets c =
+    let k = kept_matching maxima (groups_of ps) ps (rows_after [] ps) pk (groups_keep_buckets ps) in
     ⊎_elim
     (λ t.
-    highest_is (groups_of ps) [] t.1.before t.0 t.1.after (filter (agrees pk) (rows_after [] ps)) tt t.1.lower_before t.1.lower_after
-    (subst (λ l. AreKept (groups_of ps) l (filter (agrees pk) (rows_after [] ps))) t.1.is k)
+    highest_is (groups_of ps) [] t.1.before t.0 t.1.after (filter (agrees maxima pk) (rows_after [] ps)) tt t.1.lower_before t.1.lower_after
+    (subst (λ l. AreKept (groups_of ps) l (filter (agrees maxima pk) (rows_after [] ps))) t.1.is k)
     ∙ t.2)
     (λ n.
-    ap (λ l. buckets_of_row (groups_of ps) (highest [] l)) (none_kept (groups_of ps) (filter (agrees pk) (rows_after [] ps)) (subst (λ l. AreKept (groups_of ps) l (filter (agrees pk) (rows_after [] ps))) n.0 k))
+    ap (λ l. buckets_of_row (groups_of ps) (highest [] l)) (none_kept (groups_of ps) (filter (agrees maxima pk) (rows_after [] ps)) (subst (λ l. AreKept (groups_of ps) l (filter (agrees maxima pk) (rows_after [] ps))) n.0 k))
     ∙ sym n.1)
     c

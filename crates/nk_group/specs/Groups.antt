@@ -68,5 +68,5 @@ GroupsDiffer = (ps : List Plain) → AllPairs (λ a b. a.buckets ≢ b.buckets) 
 -- where the plain rows choose buckets at a packet, the rows with their groups choose the same
 abbrev pub GroupsKeepTheChoice : Type 0
 GroupsKeepTheChoice =
-    (ps : List Plain) (pk : List ℕ) (buckets : List Bucket) → Choose ps pk buckets
-    → buckets_of_row (groups_of ps) (highest [] (filter (agrees pk) (rows_after [] ps))) ≡ buckets
+    (maxima : List ℕ) (ps : List Plain) (pk : List ℕ) (buckets : List Bucket) → Choose maxima ps pk buckets
+    → buckets_of_row (groups_of ps) (highest [] (filter (agrees maxima pk) (rows_after [] ps))) ≡ buckets

@@ -25,12 +25,21 @@ fn of_two(alloc: Global, is_sum: bool, p: Pol, q: Pol) -> Result<Pol, AllocError
     }
 }
 
+/// A test of one of the two fields, or a range of its values: of both, of one or of none.
+fn condition(draws: &mut Draws) -> Pol {
+    let (f, n) = place(draws);
+    if draws.below(2) == 0 {
+        Pol::Test(f, n)
+    } else {
+        Pol::Range(f, n, draws.below(2))
+    }
+}
+
 /// A predicate of at most that depth.
 fn predicate(alloc: Global, draws: &mut Draws, depth: u32) -> Result<Pol, AllocError> {
     let kind = draws.below(4);
     if depth == 0 || kind == 0 {
-        let (f, n) = place(draws);
-        return Ok(Pol::Test(f, n));
+        return Ok(condition(draws));
     }
     let p = predicate(alloc, draws, depth - 1)?;
     if kind == 1 {

@@ -27,7 +27,7 @@ fn push_rest(
         Pol::Link(_, _, b, n, own) => {
             push_rest_of_link(u64::from(*own), (*b, *n), label, h, so_far, ends)
         }
-        Pol::Test(_, _) | Pol::Set(_, _) | Pol::Not(_) => Ok(()),
+        Pol::Test(_, _) | Pol::Range(_, _, _) | Pol::Set(_, _) | Pol::Not(_) => Ok(()),
     }
 }
 

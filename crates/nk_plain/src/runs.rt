@@ -153,6 +153,14 @@ fn push_crossed(
     }
 }
 
+/// Puts the history itself, where it is wanted.
+fn push_where(h: &History, wanted: bool, ends: &mut Vec<History>) -> Result<(), AllocError> {
+    if wanted {
+        push_once(ends, h.copy()?)?;
+    }
+    Ok(())
+}
+
 /// Goes on from a history by the policy: puts each run so far that comes at one end, and each history to which the policy
 /// leads at the other, each once.
 #[cycle(push_ends)]
@@ -164,11 +172,10 @@ pub fn push_ends(
     ends: &mut Vec<History>,
 ) -> Result<(), AllocError> {
     match p {
-        Pol::Test(f, n) => {
-            if h.last.get(*f) == *n {
-                push_once(ends, h.copy()?)?;
-            }
-            Ok(())
+        Pol::Test(f, n) => push_where(h, h.last.get(*f) == *n, ends),
+        Pol::Range(f, lo, hi) => {
+            let value = h.last.get(*f);
+            push_where(h, *lo <= value && value <= *hi, ends)
         }
         Pol::Set(f, n) => {
             let mut last = h.last;
@@ -236,10 +243,7 @@ fn push_unless(
 ) -> Result<(), AllocError> {
     let mut inner = Vec::new(alloc);
     push_ends(alloc, q, h, so_far, &mut inner)?;
-    if inner.is_empty() {
-        push_once(ends, h.copy()?)?;
-    }
-    Ok(())
+    push_where(h, inner.is_empty(), ends)
 }
 
 /// Those of any number of rounds: one more from each history that came.

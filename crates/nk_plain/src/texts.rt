@@ -5,7 +5,7 @@ use std::alloc::{AllocError, Global};
 /// What policies are made of, besides dups.
 #[derive(Clone, Copy)]
 pub struct Atoms {
-    /// The tests.
+    /// The tests, ranges and other predicates.
     pub tests: &'static [&'static [u8]],
     /// What changes a packet: assignments, and links.
     pub deeds: &'static [&'static [u8]],
@@ -13,7 +13,17 @@ pub struct Atoms {
 
 /// Those over two fields of two values.
 pub const TWO_FIELDS: Atoms = Atoms {
-    tests: &[b"a=0", b"a=1", b"b=0", b"b=1", b"~(a=1;b=0)", b"~a=0 + b=1"],
+    tests: &[
+        b"a=0",
+        b"a=1",
+        b"b=0",
+        b"b=1",
+        b"~(a=1;b=0)",
+        b"~a=0 + b=1",
+        b"a in 1..1",
+        b"a in 0..1;b in 0..0",
+        b"~b in 1..0",
+    ],
     deeds: &[b"a:=0", b"a:=1", b"b:=0", b"b:=1"],
 };
 

@@ -56,11 +56,13 @@ use crate::trial::tried;
 use std::{fs, io};
 
 /// The files, in the order in which they are told. One that isn't named here isn't run.
-const FILES: [&str; 16] = [
+const FILES: [&str; 18] = [
     "words.rows",
     "texts.rows",
     "refused.rows",
     "tables.rows",
+    "ranges.rows",
+    "prefixes.rows",
     "limits.rows",
     "networks.rows",
     "traced.rows",

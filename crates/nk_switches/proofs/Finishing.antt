@@ -18,7 +18,7 @@ use Rattle.nk_switches.specs.Matched.{Matched}
 use Rattle.nk_switches.specs.States.{IsStateAt}
 use Rattle.nk_switches.specs.Tagged.{members_of, LeadsWith, SendsBy, IsTagTable}
 use Rattle.nk_switches.specs.Made.{TagTree, rows_of_trees, IsTagAt, IsStop, IsTagTree, IsTableAt, IsTagState, AreStatesAt, IsPrintableState, ArePrintableStates, IsTreeBy, IsTableBy, HavePlaces}
-use Rattle.nk_switches.proofs.Growing.{leads_grown, stay_grown, members_kept, sets_longer}
+use Rattle.nk_switches.proofs.Growing.{declared_same, leads_grown, stay_grown, members_kept, sets_longer}
 use Rattle.nk_switches.proofs.Matching.{of_second, matched_maps, matched_with, matched_through}
 use Rattle.nk_switches.proofs.Printing.{state_printable}
 use Rattle.nk_switches.proofs.Tagging.{sends_leads, leads_sends}
@@ -66,7 +66,7 @@ module _ (first st : Held) (old ss : List (List ℕ)) (rows tags : List ℕ) (ta
     tree_is : (sw : ℕ) (x : TagState) (e : TagTree) → IsTagAt first old rows tags tag sw x.tag → IsTagState st ss rows tags sw x → IsTreeBy st table tag sw x e →
         IsTagTree first old rows tags tag sw e
     tree_is sw x e at k t = record {
-      reduced = subst (λ m. IsReduced e.tree m 1) (ap (λ n. take n st.maxes) g.width ∙ ap (take first.width) g.maxes) t.reduced;
+      reduced = subst (λ m. IsReduced e.tree m 1) (declared_same first st g) t.reduced;
       tag_free = t.tag_free;
       leaves = λ pk p here.
           let q : IsPacket st pk = subst (λ m. InRange m pk) (sym g.maxes) p in
@@ -94,8 +94,8 @@ module _ (first st : Held) (old ss : List (List ℕ)) (rows tags : List ℕ) (ta
           let x = of_second (IsTreeBy st table tag states.switch) states.states by.trees e by.each i in
           tree_is s.switch x.0 e (of_tag s states stop k x.0 x.1) (members_from_all (IsTagState st ss rows tags s.switch) states.states k.each x.0 x.1)
           (subst (λ n. IsTreeBy st table tag n x.0 e) k.switch x.2));
-      groups = by.groups ∙ ap (λ n. groups_of (rows_of_trees n tag by.trees)) g.width;
-      rows = by.rows ∙ ap (λ n. rows_after [] (rows_of_trees n tag by.trees)) g.width;
+      groups = by.groups ∙ ap (λ m. groups_of (rows_of_trees m tag by.trees)) (declared_same first st g);
+      rows = by.rows ∙ ap (λ m. rows_after [] (rows_of_trees m tag by.trees)) (declared_same first st g);
     }
 
     -- a stop with its diagrams

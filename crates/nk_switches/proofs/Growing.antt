@@ -1,6 +1,6 @@
 -- What rows and states do stays while the store and the sets grow.
 use Rattle.std.proofs.Common.{◌≡◌, ℕ, zero, suc, ◌+◌, ◌<◌, ◌≤◌, ◌↔◌, List, [], ◌++◌, length, length-append, append_assoc, refl, sym, ◌∙◌, ap, subst, arith, get_or, set}
-use Rattle.std.specs.Prelude.{All, map}
+use Rattle.std.specs.Prelude.{All, map, take}
 use Rattle.std.specs.List.{Contains}
 use Rattle.std.proofs.lemmas.List.{get_or_append_left}
 use Rattle.nk_store.specs.Nodes.{InRange}
@@ -125,3 +125,7 @@ printable_grown st new tag sw e g k = record {
   where
     back : (pk : List ℕ) → IsPacket new pk → IsPacket st pk
     back pk p = subst (λ m. InRange m pk) g.maxes p
+
+-- the declared fields keep their largest values
+pub declared_same : (old new : Held) → Grows old new → take new.width new.maxes ≡ take old.width old.maxes
+declared_same old new g = ap (λ n. take n new.maxes) g.width ∙ ap (take old.width) g.maxes

@@ -23,7 +23,7 @@ use Rattle.nk_switches.specs.declared.stop.SwitchStates.{SwitchStates}
 use Rattle.nk_switches.specs.Matched.{Matched}
 use Rattle.nk_switches.specs.Tagged.{SendsBy}
 use Rattle.nk_switches.specs.Made.{TagTree, rows_of_trees, IsPrintableState, ArePrintableStates, IsTreeBy, AreRowsBy, IsTableBy}
-use Rattle.nk_switches.proofs.Growing.{sends_grown, printable_grown}
+use Rattle.nk_switches.proofs.Growing.{declared_same, sends_grown, printable_grown}
 use Rattle.nk_switches.proofs.Matching.{matched_push, matched_with}
 
 -- bucket lists of the same results
@@ -86,19 +86,19 @@ module _ (st new : Held) (table : List (Option ℕ)) (d r : ℕ) (g : Grows st n
 
   -- its rows are those of the tree by the table
   pub tree_of_rows : (tag sw t : ℕ) (rows : List Plain) → AreRowsOf new new.width tag sw t r rows →
-      (e : TagTree) × IsTreeBy st table tag sw (record { tag = t; diagram = d }) e × (rows ≡ rows_for st.width tag e.tag e.tree)
+      (e : TagTree) × IsTreeBy st table tag sw (record { tag = t; diagram = d }) e × (rows ≡ rows_for (take st.width st.maxes) tag e.tag e.tree)
   tree_of_rows tag sw t rows k = (
     record { tag = t; tree = k.tree },
     record {
       tag_is = refl;
-      reduced = subst (λ m. IsReduced k.tree m 1) (ap (λ n. take n new.maxes) g.width ∙ ap (take st.width) g.maxes) k.reduced;
+      reduced = subst (λ m. IsReduced k.tree m 1) (declared_same st new g) k.reduced;
       tag_free = k.tag_free;
       leaves = λ pk p here.
           let q : IsPacket new pk = subst (λ m. InRange m pk) (sym g.maxes) p in
           subst (λ n. AreBuckets n tag (λ y u. SendsBy st table d pk y u) pk (leaf_at k.tree [] pk)) g.width
           (buckets_same new.width tag (λ y u. Sends new r pk y u) (λ y u. SendsBy st table d pk y u) pk (leaf_at k.tree [] pk) (λ y u. retarget_sends pk y u q) (k.leaves pk q here));
     },
-    k.rows_are ∙ ap (λ n. rows_for n tag t k.tree) g.width,
+    k.rows_are ∙ ap (λ m. rows_for m tag t k.tree) (declared_same st new g),
   )
 
 module _ (st cur : Held) (table : List (Option ℕ)) (tag sw : ℕ) (g : Grows st cur) where
@@ -106,7 +106,7 @@ module _ (st cur : Held) (table : List (Option ℕ)) (tag sw : ℕ) (g : Grows s
   pub tree_back : (s : TagState) (e : TagTree) → IsPrintableState st tag sw s → IsTreeBy cur table tag sw s e → IsTreeBy st table tag sw s e
   tree_back s e k t = record {
     tag_is = t.tag_is;
-    reduced = subst (λ m. IsReduced e.tree m 1) (ap (λ n. take n cur.maxes) g.width ∙ ap (take st.width) g.maxes) t.reduced;
+    reduced = subst (λ m. IsReduced e.tree m 1) (declared_same st cur g) t.reduced;
     tag_free = t.tag_free;
     leaves = λ pk p here.
         let q : IsPacket cur pk = subst (λ m. InRange m pk) (sym g.maxes) p in
@@ -122,7 +122,7 @@ module _ (st cur : Held) (table : List (Option ℕ)) (tag sw : ℕ) (g : Grows s
 
   -- one more tag's rows
   pub rows_more : (states : List TagState) (i : ℕ) (s : TagState) (all rows more : List Plain) → i < length states → s ≡ get_or states i s → more ≡ all ++ rows →
-      IsPrintableState st tag sw s → ((e : TagTree) × IsTreeBy cur table tag sw s e × (rows ≡ rows_for cur.width tag e.tag e.tree)) →
+      IsPrintableState st tag sw s → ((e : TagTree) × IsTreeBy cur table tag sw s e × (rows ≡ rows_for (take cur.width cur.maxes) tag e.tag e.tree)) →
       AreRowsBy st table tag sw (take i states) all → AreRowsBy st table tag sw (take (i + 1) states) more
   rows_more states i s all rows more lt at is k one so_far =
       let e = one.0 in
@@ -130,8 +130,8 @@ module _ (st cur : Held) (table : List (Option ℕ)) (tag sw : ℕ) (g : Grows s
         trees ++ e ∷ [],
         subst (λ l. Matched (IsTreeBy st table tag sw) l (trees ++ e ∷ [])) (ap (λ x. take i states ++ x ∷ []) at ∙ sym (take_more states i s lt))
             (matched_push (IsTreeBy st table tag sw) (take i states) trees s e so_far.1 (tree_back s e k one.1)),
-        is ∙ ap (λ l. l ++ rows) so_far.2 ∙ ap (λ l. rows_of_trees st.width tag trees ++ l) (one.2 ∙ ap (λ n. rows_for n tag e.tag e.tree) g.width ∙ sym (append-nil (rows_for st.width tag e.tag e.tree)))
-            ∙ sym (flat_map-append (λ (x : TagTree). rows_for st.width tag x.tag x.tree) trees (e ∷ [])),
+        is ∙ ap (λ l. l ++ rows) so_far.2 ∙ ap (λ l. rows_of_trees (take st.width st.maxes) tag trees ++ l) (one.2 ∙ ap (λ m. rows_for m tag e.tag e.tree) (declared_same st cur g) ∙ sym (append-nil (rows_for (take st.width st.maxes) tag e.tag e.tree)))
+            ∙ sym (flat_map-append (λ (x : TagTree). rows_for (take st.width st.maxes) tag x.tag x.tree) trees (e ∷ [])),
       )
 
 -- a table of a later store is one of the earlier
@@ -141,8 +141,8 @@ table_back st cur table tag s t g all k = record {
   trees = k.trees;
   each = matched_with (IsPrintableState st tag s.switch) (IsTreeBy cur table tag s.switch) (IsTreeBy st table tag s.switch)
       (λ x e p m. tree_back st cur table tag s.switch g x e p m) s.states k.trees (λ x i. members_from_all (IsPrintableState st tag s.switch) s.states all x i) k.each;
-  groups = k.groups ∙ ap (λ n. groups_of (rows_of_trees n tag k.trees)) g.width;
-  rows = k.rows ∙ ap (λ n. rows_after [] (rows_of_trees n tag k.trees)) g.width;
+  groups = k.groups ∙ ap (λ m. groups_of (rows_of_trees m tag k.trees)) (declared_same st cur g);
+  rows = k.rows ∙ ap (λ m. rows_after [] (rows_of_trees m tag k.trees)) (declared_same st cur g);
 }
 
 -- states that can be printed can be printed later

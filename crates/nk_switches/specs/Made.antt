@@ -22,9 +22,9 @@ pub record TagTree : Type 0 where
   pub tag : ℕ
   pub tree : Diagram (List Bucket)
 
--- the rows of these trees in turn, each with its whole bucket list
-abbrev pub rows_of_trees : ℕ → ℕ → List TagTree → List Plain
-rows_of_trees width tag trees = flat_map (λ e. rows_for width tag e.tag e.tree) trees
+-- the rows of these trees in turn, each with its whole bucket list, over fields with their largest values
+abbrev pub rows_of_trees : List ℕ → ℕ → List TagTree → List Plain
+rows_of_trees maxima tag trees = flat_map (λ e. rows_for maxima tag e.tag e.tree) trees
 
 -- the tag's rows are there and stay at the switch
 pub record IsTagAt (st : Held) (ss : List (List ℕ)) (rows tags : List ℕ) (tag sw t : ℕ) : Type 0 where
@@ -58,8 +58,8 @@ pub record IsTableAt (st : Held) (ss : List (List ℕ)) (diagrams tags : List �
   pub trees : List TagTree
   pub tags_are : map (λ e. e.tag) trees ≡ s.tags
   pub each : All (IsTagTree st ss diagrams tags tag s.switch) trees
-  pub groups : table.groups ≡ groups_of (rows_of_trees st.width tag trees)
-  pub rows : table.rows ≡ rows_after [] (rows_of_trees st.width tag trees)
+  pub groups : table.groups ≡ groups_of (rows_of_trees (take st.width st.maxes) tag trees)
+  pub rows : table.rows ≡ rows_after [] (rows_of_trees (take st.width st.maxes) tag trees)
 
 -- the diagram of a tag's rows at a switch
 pub record IsTagState (st : Held) (ss : List (List ℕ)) (rows tags : List ℕ) (sw : ℕ) (e : TagState) : Type 0 where
@@ -93,12 +93,12 @@ pub record IsTreeBy (st : Held) (table : List (Option ℕ)) (tag sw : ℕ) (s : 
 -- the rows of the trees of a switch's diagrams
 abbrev pub AreRowsBy : Held → List (Option ℕ) → ℕ → ℕ → List TagState → List Plain → Type 0
 AreRowsBy st table tag sw states rows =
-    (trees : List TagTree) × Matched (IsTreeBy st table tag sw) states trees × (rows ≡ rows_of_trees st.width tag trees)
+    (trees : List TagTree) × Matched (IsTreeBy st table tag sw) states trees × (rows ≡ rows_of_trees (take st.width st.maxes) tag trees)
 
 -- the table that is made of a switch's diagrams
 pub record IsTableBy (st : Held) (table : List (Option ℕ)) (tag : ℕ) (s : SwitchStates) (t : Table) : Type 0 where
   pub switch : t.switch ≡ s.switch
   pub trees : List TagTree
   pub each : Matched (IsTreeBy st table tag s.switch) s.states trees
-  pub groups : t.groups ≡ groups_of (rows_of_trees st.width tag trees)
-  pub rows : t.rows ≡ rows_after [] (rows_of_trees st.width tag trees)
+  pub groups : t.groups ≡ groups_of (rows_of_trees (take st.width st.maxes) tag trees)
+  pub rows : t.rows ≡ rows_after [] (rows_of_trees (take st.width st.maxes) tag trees)

@@ -1,5 +1,5 @@
 //! The tables of switches, by the diagrams of their tags.
-ghost use Rattle.std.specs.Prelude.{◌≡◌, ℕ, Some, All, IfOk, OnOk, ◌++◌};
+ghost use Rattle.std.specs.Prelude.{◌≡◌, ℕ, Some, All, IfOk, OnOk, ◌++◌, take};
 ghost use Rattle.nk_store.specs.Held.{IsId, Grows};
 ghost use Rattle.nk_extract.specs.RowsOf.{IsFrame};
 ghost use Rattle.nk_extract.specs.RuleTree.{rows_for};
@@ -26,7 +26,7 @@ fn tag_rows(
     requires printable { (tag : ℕ) → st.old.tag ≡ Some tag → IsPrintableState st.old tag sw state }
     ensures grows { Grows st.old st.new }
     ensures rows { IfOk result (λ rows. (tag : ℕ) → st.old.tag ≡ Some tag → (e : TagTree)
-        × IsTreeBy st.old table.now tag sw state e × (rows.items ≡ rows_for st.old.width tag e.tag e.tree)) }
+        × IsTreeBy st.old table.now tag sw state e × (rows.items ≡ rows_for (take st.old.width st.old.maxes) tag e.tag e.tree)) }
 {
     let d = retarget(st, state.diagram, table)?;
     rows_of(st.alloc(), st, d, sw, state.tag)

@@ -7,7 +7,7 @@ mod search;
 
 use nk_field::{Act, Fid, Fields, List};
 use nk_topo::Topo;
-pub use search::{acting_row, lookup};
+pub use search::{acting_row, digits_at, lookup, rows_at};
 
 /// Where a bucket sends a packet.
 #[derive(Clone, Copy, PartialEq, Eq, Hash, Debug)]

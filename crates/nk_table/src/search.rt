@@ -39,7 +39,7 @@ pub fn acting_row<'a>(fields: &Fields, rows: &'a [Row], p: &Packet) -> Option<&'
 }
 
 /// The rows of a switch, none where it has no table.
-fn rows_at<'a>(tables: &'a [Table], switch: u16) -> &'a [Row]
+pub fn rows_at<'a>(tables: &'a [Table], switch: u16) -> &'a [Row]
     ensures { result.now ≡ rows_of tables.now switch }
 {
     for table in tables {
@@ -72,7 +72,7 @@ fn agrees_at(fields: &Fields, at: &(Fid, u64, u8), p: &Packet) -> bool
 }
 
 /// How many binary digits the largest value of a field has; of no field, those of 0.
-fn digits_at(fields: &Fields, f: Fid) -> u8
+pub fn digits_at(fields: &Fields, f: Fid) -> u8
     ensures is { result ≡ prefix.digits_of (slice_index fields.now.maxima f) }
     ensures small { result ≤ 64 }
 {

@@ -1,6 +1,6 @@
 -- Each state can be completed to a text.
 use Rattle.std.proofs.Common.{◌≡◌, subst, List, [], ◌∷◌, ◌++◌, refl, sym, ◌∙◌, ap, append_assoc, append-nil}
-use Rattle.std.specs.Prelude.{Some}
+use Rattle.std.specs.Prelude.{None, Some}
 use Rattle.nk_lex.specs.declared.kind.Kind.TheVariants as kind
 use Rattle.nk_tabtext.specs.declared.written.Word.{Word}
 use Rattle.nk_tabtext.specs.declared.written.Number.{Number}
@@ -9,6 +9,7 @@ use Rattle.nk_tabtext.specs.declared.written.Declaration.{Declaration}
 use Rattle.nk_tabtext.specs.declared.written.Declaration.TheVariants as declared
 use Rattle.nk_tabtext.specs.declared.written.Way.{Way}
 use Rattle.nk_tabtext.specs.declared.written.Way.TheVariants as way
+use Rattle.nk_tabtext.specs.declared.written.WrittenMatch.{WrittenMatch}
 use Rattle.nk_tabtext.specs.declared.written.WrittenBucket.{WrittenBucket}
 use Rattle.nk_tabtext.specs.declared.written.WrittenTarget.{WrittenTarget}
 use Rattle.nk_tabtext.specs.declared.written.WrittenTarget.TheVariants as target
@@ -23,7 +24,7 @@ use Rattle.nk_tabtext.specs.declared.stage.Stage.{Stage}
 use Rattle.nk_tabtext.specs.declared.stage.Stage.TheVariants as stage
 use Rattle.nk_tabtext.specs.Terminal.{Terminal, name, number, mark}
 use Rattle.nk_tabtext.specs.Spelling.{GoesOn}
-use Rattle.nk_tabtext.specs.Machine.{Reading, reading, opened, opened_table, no_number, with_declaration, with_row, row_of, bucket_done, next_reading, text_ended}
+use Rattle.nk_tabtext.specs.Machine.{Reading, reading, opened, opened_table, no_number, with_declaration, with_row, with_match, row_of, bucket_done, next_reading, text_ended}
 use Rattle.nk_tabtext.proofs.Spelled.{Fits, IsAt, Leads, leads, ends, spelled}
 
 -- a state that can be completed
@@ -66,7 +67,7 @@ declared_more : (x : WrittenTables) (c : WrittenTable) (d : Declaration) → Com
 declared_more x c d = between (with_declaration x d) c
 
 -- one more row
-row_more : (x : WrittenTables) (c : WrittenTable) (p : Number) (ms : List Pair) (t : WrittenTarget) → Completes (reading stage.Rows x (with_row c (row_of p ms t)))
+row_more : (x : WrittenTables) (c : WrittenTable) (p : Number) (ms : List WrittenMatch) (t : WrittenTarget) → Completes (reading stage.Rows x (with_row c (row_of p ms t)))
 row_more x c p ms t = rows x (with_row c (row_of p ms t))
 
 module _ (x : WrittenTables) (c : WrittenTable) where
@@ -144,19 +145,25 @@ module _ (x : WrittenTables) (c : WrittenTable) where
   group : Completes (reading stage.Group x c)
   group = by_token stage.Group x c (number no_number) _ refl (group_numbered no_number)
 
-  target_group : (p : Number) (ms : List Pair) → Completes (reading (stage.TargetGroup p ms) x c)
+  target_group : (p : Number) (ms : List WrittenMatch) → Completes (reading (stage.TargetGroup p ms) x c)
   target_group p ms = by_token (stage.TargetGroup p ms) x c (number p) _ refl (row_more x c p ms (target.Group p))
 
-  target_wanted : (p : Number) (ms : List Pair) → Completes (reading (stage.Target p ms) x c)
+  target_wanted : (p : Number) (ms : List WrittenMatch) → Completes (reading (stage.Target p ms) x c)
   target_wanted p ms = by_token (stage.Target p ms) x c (mark kind.Drop) _ refl (row_more x c p ms target.Discard)
 
-  matches : (p : Number) (ms : List Pair) → Completes (reading (stage.Matches p ms) x c)
+  matches : (p : Number) (ms : List WrittenMatch) → Completes (reading (stage.Matches p ms) x c)
   matches p ms = by_token (stage.Matches p ms) x c (mark kind.Arrow) _ refl (target_wanted p ms)
 
-  match_tested : (p : Number) (ms : List Pair) (w : Word) → Completes (reading (stage.MatchTested p ms w) x c)
-  match_tested p ms w = by_token (stage.MatchTested p ms w) x c (number p) _ refl (matches p (ms ++ record { name = w; number = p } ∷ []))
+  match_slashed : (p : Number) (ms : List WrittenMatch) (w : Word) (n : Number) → Completes (reading (stage.MatchSlashed p ms w n) x c)
+  match_slashed p ms w n = by_token (stage.MatchSlashed p ms w n) x c (number p) _ refl (matches p (with_match ms w n (Some p)))
 
-  match_named : (p : Number) (ms : List Pair) (w : Word) → Completes (reading (stage.MatchNamed p ms w) x c)
+  match_valued : (p : Number) (ms : List WrittenMatch) (w : Word) (n : Number) → Completes (reading (stage.MatchValued p ms w n) x c)
+  match_valued p ms w n = by_token (stage.MatchValued p ms w n) x c (mark kind.Arrow) _ refl (target_wanted p (with_match ms w n None))
+
+  match_tested : (p : Number) (ms : List WrittenMatch) (w : Word) → Completes (reading (stage.MatchTested p ms w) x c)
+  match_tested p ms w = by_token (stage.MatchTested p ms w) x c (number p) _ refl (match_valued p ms w p)
+
+  match_named : (p : Number) (ms : List WrittenMatch) (w : Word) → Completes (reading (stage.MatchNamed p ms w) x c)
   match_named p ms w = by_token (stage.MatchNamed p ms w) x c (mark kind.Equal) _ refl (match_tested p ms w)
 
   row_numbered : (p : Number) → Completes (reading (stage.RowNumbered p) x c)
@@ -208,5 +215,7 @@ completes (stage.RowNumbered p) x c = row_numbered x c p
 completes (stage.Matches p ms) x c = matches x c p ms
 completes (stage.MatchNamed p ms w) x c = match_named x c p ms w
 completes (stage.MatchTested p ms w) x c = match_tested x c p ms w
+completes (stage.MatchValued p ms w n) x c = match_valued x c p ms w n
+completes (stage.MatchSlashed p ms w n) x c = match_slashed x c p ms w n
 completes (stage.Target p ms) x c = target_wanted x c p ms
 completes (stage.TargetGroup p ms) x c = target_group x c p ms

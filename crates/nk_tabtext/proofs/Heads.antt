@@ -1,14 +1,15 @@
 -- The lines of switches by their numbers, and the parts of the text one behind the other.
-use Rattle.std.proofs.Common.{◌≡◌, ℕ, ◌<◌, ◌++◌, true, false, inl, inr, ⊎_elim, List, [], ◌∷◌, refl, sym, ap, ◌∙◌, arith, append_assoc}
+use Rattle.std.proofs.Common.{◌≡◌, ℕ, ◌<◌, ◌++◌, ◌||◌, Bool, true, false, inl, inr, ⊎_elim, List, [], ◌∷◌, refl, sym, ap, ◌∙◌, arith, append_assoc}
 use Rattle.std.specs.Prelude.{◌==◌, map, codes, if◌then◌else◌}
-use Rattle.std.specs.List.{flat_map}
+use Rattle.std.specs.List.{flat_map, list_any}
 use Rattle.std.proofs.lemmas.Bool.Decides.{nat_tests}
 use Rattle.nk_topo.specs.Topology.{SwitchPorts, Topology, IsTopology, numbers_of, ports_among, ports_of}
 use Rattle.nk_topo.proofs.Members.{In, InOrder, order_from_pairs}
 use Rattle.nk_table.proofs.Crossing.{joined_mapped}
 use Rattle.nk_topo.specs.Inside.{link_of}
 use Rattle.nk_table.specs.declared.Tables.{Tables}
-use Rattle.nk_tabtext.specs.Text.{switch_text, link_text, topology_text, fields_text, tag_text, section_text, table_bytes}
+use Rattle.nk_table.specs.Rules.{rows_of}
+use Rattle.nk_tabtext.specs.Text.{switch_text, link_text, topology_text, fields_text, tag_text, section_text, have_prefix, version_of, version_text, table_bytes}
 
 -- a switch has the ports that its number has among switches that ascend
 own_ports : (ss : List SwitchPorts) (s : SwitchPorts) → InOrder (λ q r. q.switch < r.switch) ss → In ss s →
@@ -50,20 +51,34 @@ topology_lines t a b ls e f =
     ∙ append_assoc a (flat_map switch_text t.switches) (flat_map (λ k. link_text (link_of k)) ls)
     ∙ ap (λ l. a ++ (flat_map switch_text t.switches ++ l)) (sym (joined_mapped link_of link_text ls) ∙ ap (flat_map link_text) f)
 
+-- what is found at a switch is found at its number
+found_over_numbers : (p : ℕ → Bool) (ss : List SwitchPorts) → list_any (λ s. p s.switch) ss ≡ list_any p (map (λ s. s.switch) ss)
+found_over_numbers p [] = refl
+found_over_numbers p (s ∷ ss) = ap (λ b. p s.switch || b) (found_over_numbers p ss)
+
+-- the version, by the numbers of the switches
+pub version_is : (t : Tables) (numbers : List ℕ) (b : Bool) → b ≡ list_any (λ n. have_prefix t.fields (rows_of t.tables n)) numbers →
+    numbers ≡ numbers_of t.topo → (if b then 2 else 1) ≡ version_of t
+version_is t numbers b is same =
+    ap (λ v. if v then 2 else 1)
+    (is ∙ ap (list_any (λ n. have_prefix t.fields (rows_of t.tables n))) same
+    ∙ sym (found_over_numbers (λ n. have_prefix t.fields (rows_of t.tables n)) t.topo.switches))
+
 -- the parts of the text, one behind the other
-pub whole : (t : Tables) (numbers a b d e f : List ℕ) → a ≡ codes "tables 1\n" → b ≡ a ++ fields_text t.fields →
+pub whole : (t : Tables) (numbers a b d e f : List ℕ) → a ≡ version_text (version_of t) → b ≡ a ++ fields_text t.fields →
     d ≡ b ++ tag_text t.fields → e ≡ d ++ topology_text t.topo →
     f ≡ e ++ flat_map (λ n. section_text t.fields t.tables n) numbers → numbers ≡ numbers_of t.topo → f ≡ table_bytes t
 whole t numbers a b d e f first second third fourth fifth same =
     let tables = flat_map (λ n. section_text t.fields t.tables n) numbers in
+    let first_line = version_text (version_of t) in
     let sections : flat_map (λ n. section_text t.fields t.tables n) numbers
     ≡ flat_map (λ s. section_text t.fields t.tables s.switch) t.topo.switches =
     ap (flat_map (λ n. section_text t.fields t.tables n)) same
     ∙ joined_mapped (λ (s : SwitchPorts). s.switch) (λ n. section_text t.fields t.tables n) t.topo.switches in
     fifth
     ∙ ap (λ l. l ++ tables) (fourth ∙ ap (λ l. l ++ topology_text t.topo) (third ∙ ap (λ l. l ++ tag_text t.fields) (second ∙ ap (λ l. l ++ fields_text t.fields) first)))
-    ∙ regroup (codes "tables 1\n") (fields_text t.fields) (tag_text t.fields) (topology_text t.topo) tables
-    ∙ ap (λ l. codes "tables 1\n" ++ fields_text t.fields ++ tag_text t.fields ++ topology_text t.topo ++ l) sections
+    ∙ regroup first_line (fields_text t.fields) (tag_text t.fields) (topology_text t.topo) tables
+    ∙ ap (λ l. first_line ++ fields_text t.fields ++ tag_text t.fields ++ topology_text t.topo ++ l) sections
   where
     regroup : (v w x y z : List ℕ) → (((v ++ w) ++ x) ++ y) ++ z ≡ v ++ w ++ x ++ y ++ z
     regroup v w x y z = simp append_assoc

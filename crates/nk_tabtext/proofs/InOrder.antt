@@ -10,7 +10,7 @@ use Rattle.nk_table.specs.declared.Row.{Row}
 use Rattle.nk_table.specs.declared.Table.{Table}
 use Rattle.nk_table.specs.declared.Target.{Target}
 use Rattle.nk_table.specs.declared.Target.TheVariants as does
-use Rattle.nk_tabtext.specs.InOrder.{IsTargetInOrder, IsTableInOrder}
+use Rattle.nk_tabtext.specs.InOrder.{MatchesAscend, IsTargetInOrder, IsTableInOrder}
 use Rattle.nk_tabtext.specs.ReadBack.{IsBucketOf, IsGroupOf, IsTargetOf, IsRowOf, IsTableOf}
 
 pub target_in_order : (fields : FieldTable) (groups : List Group) (target : Target) → IsTargetOf fields groups target → IsTargetInOrder target
@@ -20,9 +20,9 @@ target_in_order fields groups does.Discard h = tt
 
 -- the rows of a text
 pub matches_in_order : (fields : FieldTable) (groups : List Group) (rows : List Row) → All (IsRowOf fields groups) rows →
-    All (λ r. AscendsFrom 1 r.matches) rows
+    All (λ r. MatchesAscend 1 r.matches) rows
 matches_in_order fields groups rows h =
-    all_from_members (λ (r : Row). AscendsFrom 1 r.matches) rows (λ r i. (members_from_all (IsRowOf fields groups) rows h r i).ascend)
+    all_from_members (λ (r : Row). MatchesAscend 1 r.matches) rows (λ r i. (members_from_all (IsRowOf fields groups) rows h r i).ascend)
 
 pub targets_in_order : (fields : FieldTable) (groups : List Group) (rows : List Row) → All (IsRowOf fields groups) rows →
     All (λ r. IsTargetInOrder r.target) rows

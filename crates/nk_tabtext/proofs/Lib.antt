@@ -8,9 +8,11 @@ pub mod HeadLines
 pub mod HeadValues
 pub mod Heads
 pub mod InOrder
+pub mod Keyed
 pub mod Lines
 pub mod Loops
 pub mod Marks
+pub mod Matched
 pub mod Merging
 pub mod Numbers
 pub mod Passing

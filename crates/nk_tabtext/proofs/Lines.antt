@@ -1,7 +1,7 @@
 -- The lexemes of the printed text, line by line: their bytes, that they stand apart, and what they spell.
 use Rattle.std.proofs.Common.{◌≡◌, ◌≤◌, ◌+◌, ℕ, List, [], ◌∷◌, ◌++◌, Bool, true, false, length, refl, sym, ◌∙◌, ap, append_assoc, decimal, codes, map}
-use Rattle.std.specs.Prelude.{⊤}
-use Rattle.std.specs.List.{flat_map}
+use Rattle.std.specs.Prelude.{⊤, if◌then◌else◌, Option, Some, None}
+use Rattle.std.specs.List.{flat_map, AllByRecursion}
 use Rattle.nk_lex.specs.declared.kind.Kind.TheVariants as kind
 use Rattle.nk_lex.specs.Kinds.{kind_of_name}
 use Rattle.nk_lex.specs.Lex.{largest}
@@ -13,13 +13,15 @@ use Rattle.nk_table.specs.declared.Exit.TheVariants as exit
 use Rattle.nk_tabtext.specs.declared.written.Word.{Word}
 use Rattle.nk_tabtext.specs.declared.written.Number.{Number}
 use Rattle.nk_tabtext.specs.declared.written.Pair.{Pair}
+use Rattle.nk_tabtext.specs.declared.written.WrittenMatch.{WrittenMatch}
 use Rattle.nk_tabtext.specs.declared.written.Way.{Way}
 use Rattle.nk_tabtext.specs.declared.written.Way.TheVariants as way
 use Rattle.nk_tabtext.specs.declared.written.WrittenBucket.{WrittenBucket}
 use Rattle.nk_tabtext.specs.Terminal.{Terminal, name, number, mark, terminal_from}
-use Rattle.nk_tabtext.specs.Spelling.{spell_match, spell_set, way_token, spell_bucket}
-use Rattle.nk_tabtext.specs.Text.{is_tag, name_of, match_text, set_text, where_same, matches_text, sets_text, exit_text, bucket_text}
+use Rattle.nk_tabtext.specs.Spelling.{spell_length, spell_match, spell_set, way_token, spell_bucket}
+use Rattle.nk_tabtext.specs.Text.{is_tag, is_exact, name_of, length_text, match_text, set_text, where_same, matches_text, sets_text, exit_text, bucket_text}
 use Rattle.nk_tabtext.specs.Answer.{terminals}
+use Rattle.nk_tabtext.proofs.Keyed.{kept_where, set_field, sets_where, matches_where, all_where}
 
 -- ---- lists one behind the other
 
@@ -80,48 +82,48 @@ named line w h = ap (λ k. terminal_from k line 0 w) h.1
 pub put : (x y : Terminal) (xs ys : List Terminal) → x ≡ y → xs ≡ ys → x ∷ xs ≡ y ∷ ys
 put x y xs ys e f = ap (λ z. z ∷ xs) e ∙ ap (λ l. y ∷ l) f
 
--- ---- pairs
+-- ---- matches and assignments
 
--- a pair that a text can write
+-- an assignment that a text can write
 abbrev pub IsShown : FieldTable → ℕ × ℕ → Type 0
 IsShown fs m = IsName (name_of fs m.0) × (m.1 ≤ largest)
 
 abbrev pub AreShown : FieldTable → List (ℕ × ℕ) → Type 0
-AreShown fs [] = ⊤
-AreShown fs (m ∷ ms) = IsShown fs m × AreShown fs ms
+AreShown fs ss = AllByRecursion (IsShown fs) ss
 
--- a pair as it is written
+-- as it is written
 abbrev pub written_pair : FieldTable → ℕ → ℕ × ℕ → Pair
 written_pair fs line m = record { name = word_on line (name_of fs m.0); number = number_on line m.1 }
 
--- something where two flags agree, else nothing
-abbrev pub kept_where : {X : Type 0} → Bool → Bool → X → List X → List X
-kept_where true true x rest = x ∷ rest
-kept_where true false x rest = rest
-kept_where false true x rest = rest
-kept_where false false x rest = x ∷ rest
+-- a match that a text can write
+abbrev pub IsMatchShown : FieldTable → ℕ × ℕ × ℕ → Type 0
+IsMatchShown fs m = IsName (name_of fs m.0) × (m.1 ≤ largest) × (m.2 ≤ largest)
 
--- the pairs of the tag, or the other ones
-abbrev pub pairs_where : FieldTable → Bool → List (ℕ × ℕ) → List (ℕ × ℕ)
-pairs_where fs flag [] = []
-pairs_where fs flag (m ∷ ms) = kept_where (is_tag fs m.0) flag m (pairs_where fs flag ms)
+abbrev pub AreMatchesShown : FieldTable → List (ℕ × ℕ × ℕ) → Type 0
+AreMatchesShown fs ms = AllByRecursion (IsMatchShown fs) ms
 
--- of those all can be written
-pub shown_where : (fs : FieldTable) (flag : Bool) (ms : List (ℕ × ℕ)) → AreShown fs ms → AreShown fs (pairs_where fs flag ms)
-shown_where fs flag [] h = tt
-shown_where fs flag (m ∷ ms) h = by (is_tag fs m.0) flag (shown_where fs flag ms h.1)
-  where
-    by : (a b : Bool) → AreShown fs (pairs_where fs flag ms) → AreShown fs (kept_where a b m (pairs_where fs flag ms))
-    by true true r = (h.0, r)
-    by true false r = r
-    by false true r = r
-    by false false r = (h.0, r)
+-- as it is written, its length where not all digits count
+abbrev pub written_length : Bool → ℕ → ℕ → Option Number
+written_length true line n = None
+written_length false line n = Some (number_on line n)
 
--- the lexemes of matches and of assignments
-abbrev pub lex_matches : FieldTable → List (ℕ × ℕ) → List Lexeme → List Lexeme
+abbrev pub written_match : FieldTable → ℕ → ℕ × ℕ × ℕ → WrittenMatch
+written_match fs line m = record {
+  name = word_on line (name_of fs m.0);
+  number = number_on line m.1;
+  length = written_length (is_exact fs m) line m.2;
+}
+
+-- their lexemes
+abbrev lex_length : Bool → ℕ → List Lexeme → List Lexeme
+lex_length true n r = r
+lex_length false n r = Lexeme.sign Sign.slash ∷ Lexeme.numeral n ∷ r
+
+abbrev pub lex_matches : FieldTable → List (ℕ × ℕ × ℕ) → List Lexeme → List Lexeme
 lex_matches fs [] r = r
 lex_matches fs (m ∷ ms) r =
-    Lexeme.word (name_of fs m.0) ∷ Lexeme.sign Sign.equal ∷ Lexeme.numeral m.1 ∷ Lexeme.space ∷ lex_matches fs ms r
+    Lexeme.word (name_of fs m.0) ∷ Lexeme.sign Sign.equal ∷ Lexeme.numeral m.1
+    ∷ lex_length (is_exact fs m) m.2 (Lexeme.space ∷ lex_matches fs ms r)
 
 abbrev pub lex_sets : FieldTable → List (ℕ × ℕ) → List Lexeme → List Lexeme
 lex_sets fs [] r = r
@@ -129,45 +131,50 @@ lex_sets fs (m ∷ ms) r =
     Lexeme.word (name_of fs m.0) ∷ Lexeme.sign Sign.becomes ∷ Lexeme.numeral m.1 ∷ Lexeme.space ∷ lex_sets fs ms r
 
 -- their bytes
-pub matches_bytes : (fs : FieldTable) (flag : Bool) (ms : List (ℕ × ℕ)) (r : List Lexeme)
-    → text_of (lex_matches fs (pairs_where fs flag ms) r) ≡ matches_text fs flag ms ++ text_of r
+length_bytes : (b : Bool) (n : ℕ) (r : List Lexeme) → text_of (lex_length b n r) ≡ (if b then [] else codes "/" ++ decimal n) ++ text_of r
+length_bytes true n r = refl
+length_bytes false n r = sym (append_assoc (codes "/") (decimal n) (text_of r))
+
+pub matches_bytes : (fs : FieldTable) (flag : Bool) (ms : List (ℕ × ℕ × ℕ)) (r : List Lexeme)
+    → text_of (lex_matches fs (matches_where fs flag ms) r) ≡ matches_text fs flag ms ++ text_of r
 matches_bytes fs flag [] r = refl
 matches_bytes fs flag (m ∷ ms) r = by (is_tag fs m.0) flag (matches_bytes fs flag ms r)
   where
     rest : List ℕ
     rest = matches_text fs flag ms
 
-    there : text_of (lex_matches fs (pairs_where fs flag ms) r) ≡ rest ++ text_of r
-        → text_of (lex_matches fs (m ∷ pairs_where fs flag ms) r) ≡ (match_text fs m ++ rest) ++ text_of r
+    there : text_of (lex_matches fs (matches_where fs flag ms) r) ≡ rest ++ text_of r
+        → text_of (lex_matches fs (m ∷ matches_where fs flag ms) r) ≡ (match_text fs m ++ rest) ++ text_of r
     there e =
-        ap (λ l. name_of fs m.0 ++ (codes "=" ++ (decimal m.1 ++ (codes " " ++ l)))) e
-        ∙ sym (left4 (name_of fs m.0) (codes "=") (decimal m.1) (codes " ") (rest ++ text_of r))
+        ap (λ l. name_of fs m.0 ++ (codes "=" ++ (decimal m.1 ++ l)))
+        (length_bytes (is_exact fs m) m.2 (Lexeme.space ∷ lex_matches fs (matches_where fs flag ms) r) ∙ ap (λ l. length_text fs m ++ (codes " " ++ l)) e)
+        ∙ sym (left5 (name_of fs m.0) (codes "=") (decimal m.1) (length_text fs m) (codes " ") (rest ++ text_of r))
         ∙ sym (append_assoc (match_text fs m) rest (text_of r))
 
-    by : (a b : Bool) → text_of (lex_matches fs (pairs_where fs flag ms) r) ≡ rest ++ text_of r
-        → text_of (lex_matches fs (kept_where a b m (pairs_where fs flag ms)) r) ≡ (where_same a b (match_text fs m) ++ rest) ++ text_of r
+    by : (a b : Bool) → text_of (lex_matches fs (matches_where fs flag ms) r) ≡ rest ++ text_of r
+        → text_of (lex_matches fs (kept_where a b m (matches_where fs flag ms)) r) ≡ (where_same a b (match_text fs m) ++ rest) ++ text_of r
     by true true e = there e
     by true false e = e
     by false true e = e
     by false false e = there e
 
 sets_bytes : (fs : FieldTable) (flag : Bool) (ms : List (ℕ × ℕ)) (r : List Lexeme)
-    → text_of (lex_sets fs (pairs_where fs flag ms) r) ≡ sets_text fs flag ms ++ text_of r
+    → text_of (lex_sets fs (sets_where fs flag ms) r) ≡ sets_text fs flag ms ++ text_of r
 sets_bytes fs flag [] r = refl
 sets_bytes fs flag (m ∷ ms) r = by (is_tag fs m.0) flag (sets_bytes fs flag ms r)
   where
     rest : List ℕ
     rest = sets_text fs flag ms
 
-    there : text_of (lex_sets fs (pairs_where fs flag ms) r) ≡ rest ++ text_of r
-        → text_of (lex_sets fs (m ∷ pairs_where fs flag ms) r) ≡ (set_text fs m ++ rest) ++ text_of r
+    there : text_of (lex_sets fs (sets_where fs flag ms) r) ≡ rest ++ text_of r
+        → text_of (lex_sets fs (m ∷ sets_where fs flag ms) r) ≡ (set_text fs m ++ rest) ++ text_of r
     there e =
         ap (λ l. name_of fs m.0 ++ (codes ":=" ++ (decimal m.1 ++ (codes " " ++ l)))) e
         ∙ sym (left4 (name_of fs m.0) (codes ":=") (decimal m.1) (codes " ") (rest ++ text_of r))
         ∙ sym (append_assoc (set_text fs m) rest (text_of r))
 
-    by : (a b : Bool) → text_of (lex_sets fs (pairs_where fs flag ms) r) ≡ rest ++ text_of r
-        → text_of (lex_sets fs (kept_where a b m (pairs_where fs flag ms)) r) ≡ (where_same a b (set_text fs m) ++ rest) ++ text_of r
+    by : (a b : Bool) → text_of (lex_sets fs (sets_where fs flag ms) r) ≡ rest ++ text_of r
+        → text_of (lex_sets fs (kept_where a b m (sets_where fs flag ms)) r) ≡ (where_same a b (set_text fs m) ++ rest) ++ text_of r
     by true true e = there e
     by true false e = e
     by false true e = e
@@ -193,10 +200,29 @@ open_apart (Lexeme.numeral m ∷ ys) = refl
 open_apart (Lexeme.sign t ∷ ys) = refl
 
 -- they stand apart
-pub matches_apart : (fs : FieldTable) (ms : List (ℕ × ℕ)) (r : List Lexeme) → AreShown fs ms → AreApart r → AreApart (lex_matches fs ms r)
+value_apart : (b : Bool) (v n : ℕ) (r : List Lexeme) → IsApart (Lexeme.numeral v) (lex_length b n (Lexeme.space ∷ r))
+value_apart true v n r = refl
+value_apart false v n r = refl
+
+length_apart : (b : Bool) (n : ℕ) (r : List Lexeme) → n ≤ largest → AreApart r → AreApart (lex_length b n (Lexeme.space ∷ r))
+length_apart true n r h a = (tt, space_apart r, a)
+length_apart false n r h a = (tt, refl, (h, refl, (tt, space_apart r, a)))
+
+pub matches_apart : (fs : FieldTable) (ms : List (ℕ × ℕ × ℕ)) (r : List Lexeme) → AreMatchesShown fs ms → AreApart r → AreApart (lex_matches fs ms r)
 matches_apart fs [] r h a = a
-matches_apart fs (m ∷ ms) r h a =
-    (h.0.0.0, refl, (tt, refl, (h.0.1, refl, (tt, space_apart (lex_matches fs ms r), matches_apart fs ms r h.1 a))))
+matches_apart fs (m ∷ ms) r h a = (
+  h.0.0.0,
+  refl,
+  (
+    tt,
+    refl,
+    (
+      h.0.1,
+      value_apart (is_exact fs m) m.1 m.2 (lex_matches fs ms r),
+      length_apart (is_exact fs m) m.2 (lex_matches fs ms r) h.0.2 (matches_apart fs ms r h.1 a),
+    ),
+  ),
+)
 
 sets_apart : (fs : FieldTable) (ms : List (ℕ × ℕ)) (r : List Lexeme) → AreShown fs ms → AreApart r → AreApart (lex_sets fs ms r)
 sets_apart fs [] r h a = a
@@ -204,12 +230,22 @@ sets_apart fs (m ∷ ms) r h a =
     (h.0.0.0, refl, (tt, refl, (h.0.1, refl, (tt, space_apart (lex_sets fs ms r), sets_apart fs ms r h.1 a))))
 
 -- they spell
-pub matches_spelled : (fs : FieldTable) (line : ℕ) (ms : List (ℕ × ℕ)) (r : List Lexeme) → AreShown fs ms
-    → terminals_on line (lex_matches fs ms r) ≡ flat_map spell_match (map (written_pair fs line) ms) ++ terminals_on line r
+length_spelled : (b : Bool) (line n : ℕ) (r : List Lexeme)
+    → terminals_on line (lex_length b n (Lexeme.space ∷ r)) ≡ spell_length (written_length b line n) ++ terminals_on line r
+length_spelled true line n r = refl
+length_spelled false line n r = refl
+
+pub matches_spelled : (fs : FieldTable) (line : ℕ) (ms : List (ℕ × ℕ × ℕ)) (r : List Lexeme) → AreMatchesShown fs ms
+    → terminals_on line (lex_matches fs ms r) ≡ flat_map spell_match (map (written_match fs line) ms) ++ terminals_on line r
 matches_spelled fs line [] r h = refl
 matches_spelled fs line (m ∷ ms) r h =
+    let l = spell_length (written_length (is_exact fs m) line m.2) in
+    let rest = flat_map spell_match (map (written_match fs line) ms) in
     put _ _ _ _ (named line (name_of fs m.0) h.0.0)
-    (ap (λ l. mark kind.Equal ∷ number (number_on line m.1) ∷ l) (matches_spelled fs line ms r h.1))
+    (ap (λ x. mark kind.Equal ∷ number (number_on line m.1) ∷ x)
+    (length_spelled (is_exact fs m) line m.2 (lex_matches fs ms r)
+    ∙ ap (λ x. l ++ x) (matches_spelled fs line ms r h.1)
+    ∙ sym (append_assoc l rest (terminals_on line r))))
 
 sets_spelled : (fs : FieldTable) (line : ℕ) (ms : List (ℕ × ℕ)) (r : List Lexeme) → AreShown fs ms
     → terminals_on line (lex_sets fs ms r) ≡ flat_map spell_set (map (written_pair fs line) ms) ++ terminals_on line r
@@ -230,7 +266,7 @@ IsBucketShown fs b = AreShown fs b.sets × IsExitShown b.exit
 
 -- the pairs in the order of a bucket's text
 abbrev pub bucket_order : FieldTable → List (ℕ × ℕ) → List (ℕ × ℕ)
-bucket_order fs ss = pairs_where fs false ss ++ pairs_where fs true ss
+bucket_order fs ss = sets_where fs false ss ++ sets_where fs true ss
 
 abbrev pub written_way : ℕ → Exit → Way
 written_way line exit.Back = way.Back
@@ -246,7 +282,7 @@ lex_exit (exit.Port n) r = Lexeme.word (codes "out") ∷ Lexeme.space ∷ Lexeme
 
 abbrev pub lex_bucket : FieldTable → Bucket → List Lexeme → List Lexeme
 lex_bucket fs b r =
-    Lexeme.sign Sign.open_bracket ∷ lex_sets fs (pairs_where fs false b.sets) (lex_sets fs (pairs_where fs true b.sets) (lex_exit b.exit r))
+    Lexeme.sign Sign.open_bracket ∷ lex_sets fs (sets_where fs false b.sets) (lex_sets fs (sets_where fs true b.sets) (lex_exit b.exit r))
 
 exit_bytes : (e : Exit) (r : List Lexeme) → text_of (lex_exit e r) ≡ exit_text e ++ (codes "]" ++ text_of r)
 exit_bytes exit.Back r = refl
@@ -254,7 +290,7 @@ exit_bytes (exit.Port n) r = sym (append_assoc (codes "out ") (decimal n) (codes
 
 pub bucket_bytes : (fs : FieldTable) (b : Bucket) (r : List Lexeme) → text_of (lex_bucket fs b r) ≡ bucket_text fs b ++ text_of r
 bucket_bytes fs b r =
-    ap (λ l. codes "[" ++ l) (sets_bytes fs false b.sets (lex_sets fs (pairs_where fs true b.sets) (lex_exit b.exit r))
+    ap (λ l. codes "[" ++ l) (sets_bytes fs false b.sets (lex_sets fs (sets_where fs true b.sets) (lex_exit b.exit r))
     ∙ ap (λ l. sets_text fs false b.sets ++ l) (sets_bytes fs true b.sets (lex_exit b.exit r)
     ∙ ap (λ l. sets_text fs true b.sets ++ l) (exit_bytes b.exit r)))
     ∙ sym (left5 (codes "[") (sets_text fs false b.sets) (sets_text fs true b.sets) (exit_text b.exit) (codes "]") (text_of r))
@@ -275,9 +311,9 @@ exit_apart (exit.Port n) r h a = ((refl, refl), refl, (tt, refl, (h, refl, (tt, 
 pub bucket_apart : (fs : FieldTable) (b : Bucket) (r : List Lexeme) → IsBucketShown fs b → AreApart r → AreApart (lex_bucket fs b r)
 bucket_apart fs b r h a = (
   tt,
-  open_apart (lex_sets fs (pairs_where fs false b.sets) (lex_sets fs (pairs_where fs true b.sets) (lex_exit b.exit r))),
-  sets_apart fs (pairs_where fs false b.sets) (lex_sets fs (pairs_where fs true b.sets) (lex_exit b.exit r)) (shown_where fs false b.sets h.0)
-      (sets_apart fs (pairs_where fs true b.sets) (lex_exit b.exit r) (shown_where fs true b.sets h.0) (exit_apart b.exit r h.1 a)),
+  open_apart (lex_sets fs (sets_where fs false b.sets) (lex_sets fs (sets_where fs true b.sets) (lex_exit b.exit r))),
+  sets_apart fs (sets_where fs false b.sets) (lex_sets fs (sets_where fs true b.sets) (lex_exit b.exit r)) (all_where set_field (IsShown fs) fs false b.sets h.0)
+      (sets_apart fs (sets_where fs true b.sets) (lex_exit b.exit r) (all_where set_field (IsShown fs) fs true b.sets h.0) (exit_apart b.exit r h.1 a)),
 )
 
 exit_spelled : (line : ℕ) (e : Exit) (r : List Lexeme)
@@ -285,7 +321,7 @@ exit_spelled : (line : ℕ) (e : Exit) (r : List Lexeme)
 exit_spelled line exit.Back r = refl
 exit_spelled line (exit.Port n) r = refl
 
--- pairs in two parts
+-- parts one behind the other
 pub flat_joined : {X : Type 0} (f : X → List Terminal) (xs ys : List X) → flat_map f (xs ++ ys) ≡ flat_map f xs ++ flat_map f ys
 flat_joined f [] ys = refl
 flat_joined f (x ∷ xs) ys = ap (λ l. f x ++ l) (flat_joined f xs ys) ∙ sym (append_assoc (f x) (flat_map f xs) (flat_map f ys))
@@ -295,7 +331,7 @@ map_joined f [] ys = refl
 map_joined f (x ∷ xs) ys = ap (λ l. f x ∷ l) (map_joined f xs ys)
 
 -- what two parts spell
-pub parts_spelled : {X : Type 0} (f : X → List Terminal) (g : ℕ × ℕ → X) (xs ys : List (ℕ × ℕ)) (r : List Terminal)
+pub parts_spelled : {X Y : Type 0} (f : X → List Terminal) (g : Y → X) (xs ys : List Y) (r : List Terminal)
     → flat_map f (map g xs) ++ (flat_map f (map g ys) ++ r) ≡ flat_map f (map g (xs ++ ys)) ++ r
 parts_spelled f g xs ys r =
     sym (append_assoc (flat_map f (map g xs)) (flat_map f (map g ys)) r)
@@ -305,13 +341,13 @@ parts_spelled f g xs ys r =
 pub bucket_spelled : (fs : FieldTable) (line : ℕ) (b : Bucket) (r : List Lexeme) → IsBucketShown fs b
     → terminals_on line (lex_bucket fs b r) ≡ spell_bucket (written_bucket fs line b) ++ terminals_on line r
 bucket_spelled fs line b r h =
-    let fw = pairs_where fs false b.sets in
-    let tw = pairs_where fs true b.sets in
+    let fw = sets_where fs false b.sets in
+    let tw = sets_where fs true b.sets in
     let pair = written_pair fs line in
     let last = mark kind.Out ∷ way_token (written_way line b.exit) ∷ mark kind.CloseBracket ∷ [] in
     ap (λ l. mark kind.OpenBracket ∷ l)
-    (sets_spelled fs line fw (lex_sets fs tw (lex_exit b.exit r)) (shown_where fs false b.sets h.0)
-    ∙ ap (λ l. flat_map spell_set (map pair fw) ++ l) (sets_spelled fs line tw (lex_exit b.exit r) (shown_where fs true b.sets h.0))
+    (sets_spelled fs line fw (lex_sets fs tw (lex_exit b.exit r)) (all_where set_field (IsShown fs) fs false b.sets h.0)
+    ∙ ap (λ l. flat_map spell_set (map pair fw) ++ l) (sets_spelled fs line tw (lex_exit b.exit r) (all_where set_field (IsShown fs) fs true b.sets h.0))
     ∙ parts_spelled spell_set pair fw tw (terminals_on line (lex_exit b.exit r))
     ∙ ap (λ l. flat_map spell_set (map pair (bucket_order fs b.sets)) ++ l) (exit_spelled line b.exit r)
     ∙ sym (append_assoc (flat_map spell_set (map pair (bucket_order fs b.sets))) last (terminals_on line r)))

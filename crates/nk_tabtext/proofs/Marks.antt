@@ -44,7 +44,9 @@ kind_at n =
     else if n == 31 then kind.Arrow
     else if n == 32 then kind.Colon
     else if n == 33 then kind.Comma
-    else if n == 34 then kind.OpenBracket
+    else if n == 34 then kind.Slash
+    else if n == 35 then kind.DotDot
+    else if n == 36 then kind.OpenBracket
     else kind.CloseBracket
 
 -- is the kind that has it
@@ -83,6 +85,8 @@ kind_there kind.FatArrow = refl
 kind_there kind.Arrow = refl
 kind_there kind.Colon = refl
 kind_there kind.Comma = refl
+kind_there kind.Slash = refl
+kind_there kind.DotDot = refl
 kind_there kind.OpenBracket = refl
 kind_there kind.CloseBracket = refl
 

@@ -1,15 +1,17 @@
 -- What is spelled is read.
 use Rattle.std.proofs.Common.{◌≡◌, List, [], ◌∷◌, ◌++◌, false, refl, sym, ◌∙◌, ap, append_assoc, append-nil, Option}
-use Rattle.std.specs.Prelude.{Some, option_and_then, if◌then◌else◌}
+use Rattle.std.specs.Prelude.{None, Some, option_and_then, if◌then◌else◌}
 use Rattle.std.specs.List.{flat_map}
 use Rattle.nk_lex.specs.declared.kind.Kind.{Kind}
 use Rattle.nk_lex.specs.declared.kind.Kind.TheVariants as kind
+use Rattle.nk_tabtext.specs.declared.written.Word.{Word}
 use Rattle.nk_tabtext.specs.declared.written.Number.{Number}
 use Rattle.nk_tabtext.specs.declared.written.Pair.{Pair}
 use Rattle.nk_tabtext.specs.declared.written.Declaration.{Declaration}
 use Rattle.nk_tabtext.specs.declared.written.Declaration.TheVariants as declared
 use Rattle.nk_tabtext.specs.declared.written.Way.{Way}
 use Rattle.nk_tabtext.specs.declared.written.Way.TheVariants as way
+use Rattle.nk_tabtext.specs.declared.written.WrittenMatch.{WrittenMatch}
 use Rattle.nk_tabtext.specs.declared.written.WrittenBucket.{WrittenBucket}
 use Rattle.nk_tabtext.specs.declared.written.WrittenTarget.{WrittenTarget}
 use Rattle.nk_tabtext.specs.declared.written.WrittenTarget.TheVariants as target
@@ -23,7 +25,7 @@ use Rattle.nk_tabtext.specs.declared.stage.Owner.TheVariants as owner
 use Rattle.nk_tabtext.specs.declared.stage.Stage.TheVariants as stage
 use Rattle.nk_tabtext.specs.Terminal.{Terminal, mark, is_mark}
 use Rattle.nk_tabtext.specs.Spelling.{spell_port, spell_declaration, spell_match, spell_set, way_token, spell_bucket, spell_target, spell_row, spell_group, spell_table, spell_text}
-use Rattle.nk_tabtext.specs.Machine.{Reading, reading, opened, opened_table, no_table, with_declaration, with_table, with_group, with_row, row_of, bucket_done, begin, begin_row, begin_group, read_all, first_reading, written_at_end}
+use Rattle.nk_tabtext.specs.Machine.{Reading, reading, opened, opened_table, no_table, with_declaration, with_table, with_group, with_row, with_match, match_of, row_of, bucket_done, begin, begin_row, begin_group, read_all, first_reading, written_at_end}
 
 -- what the tokens come to at their end
 abbrev finish : Option Reading → Option WrittenTables
@@ -154,16 +156,34 @@ rows_follow : (x : WrittenTables) (c : WrittenTable) (r : List Terminal) → IsB
 rows_follow x c [] b = refl
 rows_follow x c (t ∷ r) b = ap (λ f. finish (option_and_then (read_all r) (if f then Some (reading stage.Group x c) else begin_row x c t))) b
 
--- matches
-matches_pass : (x : WrittenTables) (c : WrittenTable) (p : Number) (ns ms : List Pair) (r : List Terminal)
-    → read_all (flat_map spell_match ms ++ r) (reading (stage.Matches p ns) x c) ≡ read_all r (reading (stage.Matches p (ns ++ ms)) x c)
-matches_pass x c p ns [] r = ap (λ l. read_all r (reading (stage.Matches p l) x c)) (sym (append-nil ns))
+-- matches up to the arrow
+abbrev with_arrow : List WrittenMatch → List Terminal → List Terminal
+with_arrow ms r = flat_map spell_match ms ++ mark kind.Arrow ∷ r
+
+-- behind a value without length stands no `/`
+value_passes : (x : WrittenTables) (c : WrittenTable) (p : Number) (ns : List WrittenMatch) (w : Word) (n : Number) (ms : List WrittenMatch) (r : List Terminal)
+    → read_all (with_arrow ms r) (reading (stage.MatchValued p ns w n) x c) ≡ read_all (with_arrow ms r) (reading (stage.Matches p (with_match ns w n None)) x c)
+value_passes x c p ns w n [] r = refl
+value_passes x c p ns w n (m ∷ ms) r = refl
+
+-- a match
+match_passes : (x : WrittenTables) (c : WrittenTable) (p : Number) (ns : List WrittenMatch) (w : Word) (n : Number) (l : Option Number) (ms : List WrittenMatch) (r : List Terminal)
+    → read_all (spell_match (match_of w n l) ++ with_arrow ms r) (reading (stage.Matches p ns) x c)
+    ≡ read_all (with_arrow ms r) (reading (stage.Matches p (with_match ns w n l)) x c)
+match_passes x c p ns w n None ms r = value_passes x c p ns w n ms r
+match_passes x c p ns w n (Some l) ms r = refl
+
+matches_pass : (x : WrittenTables) (c : WrittenTable) (p : Number) (ns ms : List WrittenMatch) (r : List Terminal)
+    → read_all (with_arrow ms r) (reading (stage.Matches p ns) x c) ≡ read_all r (reading (stage.Target p (ns ++ ms)) x c)
+matches_pass x c p ns [] r = ap (λ l. read_all r (reading (stage.Target p l) x c)) (sym (append-nil ns))
 matches_pass x c p ns (m ∷ ms) r =
-    matches_pass x c p (ns ++ m ∷ []) ms r
-    ∙ ap (λ l. read_all r (reading (stage.Matches p l) x c)) (append_assoc ns (m ∷ []) ms)
+    ap (λ l. read_all l (reading (stage.Matches p ns) x c)) (append_assoc (spell_match m) (flat_map spell_match ms) (mark kind.Arrow ∷ r))
+    ∙ match_passes x c p ns m.name m.number m.length ms r
+    ∙ matches_pass x c p (ns ++ m ∷ []) ms r
+    ∙ ap (λ l. read_all r (reading (stage.Target p l) x c)) (append_assoc ns (m ∷ []) ms)
 
 -- a target
-target_passes : (x : WrittenTables) (c : WrittenTable) (p : Number) (ms : List Pair) (t : WrittenTarget) (r : List Terminal)
+target_passes : (x : WrittenTables) (c : WrittenTable) (p : Number) (ms : List WrittenMatch) (t : WrittenTarget) (r : List Terminal)
     → read_all (spell_target t ++ r) (reading (stage.Target p ms) x c) ≡ read_all r (reading stage.Rows x (with_row c (row_of p ms t)))
 target_passes x c p ms (target.Bucket b) r = bucket_passes x c (owner.Row p ms) b r
 target_passes x c p ms (target.Group n) r = refl
@@ -174,7 +194,7 @@ row_passes : (x : WrittenTables) (c : WrittenTable) (w : WrittenRow) (r : List T
     → read_all (spell_row w ++ r) (reading stage.Rows x c) ≡ read_all r (reading stage.Rows x (with_row c w))
 row_passes x c w r =
     ap (λ l. read_all l (reading (stage.Matches w.priority []) x c)) (append_assoc (flat_map spell_match w.matches) (mark kind.Arrow ∷ spell_target w.target) r)
-    ∙ matches_pass x c w.priority [] w.matches (mark kind.Arrow ∷ spell_target w.target ++ r)
+    ∙ matches_pass x c w.priority [] w.matches (spell_target w.target ++ r)
     ∙ target_passes x c w.priority w.matches w.target r
 
 -- rows

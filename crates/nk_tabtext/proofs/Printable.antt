@@ -50,14 +50,14 @@ from_is : (line : ℕ) (x : WrittenTables) (t : Tables) → AllByRecursion IsDec
 from_is line x t ds ts e =
     let q = checked_ok (version_fault x.version) _ t e in
     let said = both_ok (said_after x.declarations nothing_said)
-    (λ s. and_then (tables_read s [] x.tables) (λ es. unless (fault_if (is_none s.fields.tag) line) (whole s es))) t q.1 in
+    (λ s. and_then (tables_read x.version.value s [] x.tables) (λ es. unless (fault_if (is_none s.fields.tag) line) (whole s es))) t q.1 in
     let s = said.0 in
-    let read = both_ok (tables_read s [] x.tables) (λ es. unless (fault_if (is_none s.fields.tag) line) (whole s es)) t said.2 in
+    let read = both_ok (tables_read x.version.value s [] x.tables) (λ es. unless (fault_if (is_none s.fields.tag) line) (whole s es)) t said.2 in
     let fits : IsSaid s = declared_fits x.declarations s ds said.1 in
     let last = unless_ok (fault_if (is_none s.fields.tag) line) (whole s read.0) t read.2 in
     subst IsPrintable last.1 (whole_is s read.0 fits
     (some_tag s.fields.tag (not_wrong (is_none s.fields.tag) line last.0))
-    (tables_kept s fits.fields.table [] x.tables read.0 ts tt tt read.1))
+    (tables_kept x.version.value s fits.fields.table [] x.tables read.0 ts tt tt read.1))
 
 -- a text without lexical fault
 lexed_ok : (r : Result (List Token) LexError) (ts : List Token) → lexed r ≡ Ok ts → r ≡ Ok ts

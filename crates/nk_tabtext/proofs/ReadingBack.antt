@@ -1,9 +1,8 @@
 -- What is printed of tables is read back as them.
 use Rattle.std.proofs.Common.{◌≡◌, ◌≤◌, ◌<◌, ◌+◌, ℕ, List, [], ◌∷◌, ◌++◌, length, take, drop, refl, sym, ap, subst, ◌∙◌, append_assoc, append-nil, map, arith, codes, decimal, Option, Some, None, length-drop}
-use Rattle.std.specs.Prelude.{Ok, Err, All, AllPairs, ◌≢◌, IsSome, is_none}
+use Rattle.std.specs.Prelude.{Ok, Err, All, AllPairs, ◌≢◌, ◌==◌, ◌||◌, not, true, false, Bool, if◌then◌else◌, IsSome, is_none}
 use Rattle.std.specs.declared.result.Result.{Result}
-use Rattle.std.specs.List.{flat_map, AllByRecursion}
-use Rattle.std.proofs.lemmas.Fmt.{decimal_digit}
+use Rattle.std.specs.List.{flat_map, list_any, AllByRecursion}
 use Rattle.std.proofs.lemmas.List.Elements.{recursion_from_All, All-tail}
 use Rattle.nk_lex.specs.declared.kind.Kind.TheVariants as kind
 use Rattle.nk_lex.specs.Lex.{largest, tokens_of}
@@ -13,6 +12,7 @@ use Rattle.nk_field.specs.Packet.{IsFieldTable, built_in}
 use Rattle.nk_topo.specs.Topology.{SwitchPorts, numbers_of}
 use Rattle.nk_topo.proofs.Members.{In, order_from_pairs, members_from_all, contains_from_in}
 use Rattle.nk_table.specs.declared.Tables.{Tables}
+use Rattle.nk_table.specs.Rules.{rows_of}
 use Rattle.nk_tabtext.specs.declared.written.Declaration.{Declaration}
 use Rattle.nk_tabtext.specs.declared.written.Declaration.TheVariants as declared
 use Rattle.nk_tabtext.specs.declared.written.WrittenTable.{WrittenTable}
@@ -21,17 +21,18 @@ use Rattle.nk_tabtext.specs.declared.written.ReadError.{ReadError}
 use Rattle.nk_tabtext.specs.Terminal.{number, mark}
 use Rattle.nk_tabtext.specs.Spelling.{spell_declaration, spell_table, spell_text}
 use Rattle.nk_tabtext.specs.Machine.{and_then, written_of}
-use Rattle.nk_tabtext.specs.Text.{name_of, field_lines, tag_line, switch_text, link_text, section_text, table_bytes}
-use Rattle.nk_tabtext.specs.Values.{Said, nothing_said, fault_if, unless, said_with, said_after, tables_read, table_for, whole, tables_from, last_line, lexed}
+use Rattle.nk_tabtext.specs.Text.{name_of, have_prefix, field_lines, tag_line, switch_text, link_text, section_text, version_of, version_text, table_bytes}
+use Rattle.nk_tabtext.specs.Values.{Said, nothing_said, fault_if, unless, checked, said_with, said_after, tables_read, table_for, whole, tables_from, last_line, lexed}
 use Rattle.nk_tabtext.specs.ReadBack.{IsPrintable, IsReadBack, IsTableOf}
-use Rattle.nk_tabtext.proofs.Lines.{left4, terminals_on, of_tokens, word_on, number_on, feed_apart, flat_joined}
+use Rattle.nk_tabtext.proofs.Lines.{left3, left4, terminals_on, of_tokens, word_on, number_on, feed_apart, flat_joined}
 use Rattle.nk_tabtext.proofs.TableLines.{behind, written_tables, lex_tables, table_lines, tables_bytes, tables_apart, tables_spelled, AreTablesShown}
 use Rattle.nk_tabtext.proofs.HeadLines.{AreFieldsShown, lex_fields, written_fields, behind_fields, fields_bytes, fields_apart, fields_spelled, lex_tag, tag_bytes, tag_apart, tag_spelled, lex_switches, written_switches, switches_bytes, switches_apart, switches_spelled, AreLinksShown, lex_links, written_links, links_bytes, links_apart, links_spelled}
 use Rattle.nk_tabtext.proofs.HeadValues.{FieldsFit, SwitchesFit, said_of, fields_back, with_switches, switches_back}
 use Rattle.nk_tabtext.proofs.Valued.{AreTablesGood, TablesFrom, table_entry, tables_back, each_is}
 use Rattle.nk_tabtext.proofs.Answering.{reads}
+use Rattle.nk_tabtext.proofs.Heads.{version_is}
 use Rattle.nk_tabtext.proofs.HeadBack.{two_first, has_one, fields_fit, fields_shown, tag_back, ports_from, IsSwitchFine, Below, switches_fit, switches_shown, AreLinkable, links_back, links_shown}
-use Rattle.nk_tabtext.proofs.TablesBack.{AreDeclarable, NumbersFit, numbers_fit, tables_good, tables_shown, tables_rise, sections, over_numbers}
+use Rattle.nk_tabtext.proofs.TablesBack.{AreDeclarable, NumbersFit, numbers_fit, tables_good, tables_shown, tables_rise, sections, found_in_tables, over_numbers}
 
 -- one list of declarations and then another
 said_joined : (xs ys : List Declaration) (s : Said) → said_after (xs ++ ys) s ≡ and_then (said_after xs s) (said_after ys)
@@ -72,7 +73,7 @@ abbrev lex_head : Tables → ℕ → List Lexeme
 lex_head t f = lex_fields (names_of t) (maxima_of t) (lex_tag (name_of t.fields f) (lex_topo t))
 
 abbrev lexemes : Tables → ℕ → List Lexeme
-lexemes t f = Lexeme.word (codes "tables") ∷ Lexeme.space ∷ Lexeme.numeral 1 ∷ Lexeme.line_feed ∷ lex_head t f
+lexemes t f = Lexeme.word (codes "tables") ∷ Lexeme.space ∷ Lexeme.numeral (version_of t) ∷ Lexeme.line_feed ∷ lex_head t f
 
 -- as it is written
 abbrev topo_declared : Tables → List Declaration
@@ -86,7 +87,7 @@ head_declared t f = written_fields 2 (names_of t) (maxima_of t) ++ tag_declared 
 
 abbrev written : Tables → ℕ → WrittenTables
 written t f = record {
-  version = number_on 1 1;
+  version = number_on 1 (version_of t);
   declarations = head_declared t f;
   tables = written_tables t.fields (tables_at t) t.tables;
 }
@@ -107,7 +108,7 @@ record Fits (t : Tables) (f : ℕ) : Type 0 where
   links_shown : AreLinksShown t.topo.links
   each : map (λ u. u.switch) t.tables ≡ numbers_of t.topo
   tables_shown : AreTablesShown t.fields t.tables
-  tables_good : AreTablesGood (said t) 0 t.tables
+  tables_good : AreTablesGood (version_of t) (said t) 0 t.tables
   tables_rise : TablesFrom 0 t.tables
 
 -- ---- bytes, lexemes and what they spell
@@ -119,24 +120,36 @@ bytes_are t f h =
     let sw = flat_map switch_text t.topo.switches in
     let ln = flat_map link_text t.topo.links in
     let ts = flat_map (table_lines t.fields) t.tables in
-    let one : decimal 1 ≡ 49 ∷ [] = decimal_digit 1 (omega arith) in
-    ap (λ l. codes "tables " ++ (l ++ (codes "\n" ++ text_of (lex_head t f)))) one
-    ∙ ap (λ l. codes "tables 1\n" ++ l)
+    let first = version_text (version_of t) in
+    sym (left3 (codes "tables ") (decimal (version_of t)) (codes "\n") (text_of (lex_head t f)))
+    ∙ ap (λ l. first ++ l)
     (fields_bytes (names_of t) (maxima_of t) (lex_tag (name_of t.fields f) (lex_topo t))
     ∙ ap (λ l. fl ++ l) (tag_bytes (name_of t.fields f) (lex_topo t)
     ∙ ap (λ l. tl ++ l) (switches_bytes t.topo.switches (lex_links t.topo.links (lex_tables t.fields t.tables []))
     ∙ ap (λ l. sw ++ l) (links_bytes t.topo.links (lex_tables t.fields t.tables [])
     ∙ ap (λ l. ln ++ l) (tables_bytes t.fields t.tables [] ∙ append-nil ts))
     ∙ sym (append_assoc sw ln ts))))
-    ∙ sym (left4 (codes "tables 1\n") fl tl (sw ++ ln) ts)
-    ∙ ap (λ o. (((codes "tables 1\n" ++ fl) ++ tag_line t.fields o) ++ (sw ++ ln)) ++ ts) (sym h.tag)
-    ∙ ap (λ l. (((codes "tables 1\n" ++ fl) ++ tag_line t.fields t.fields.tag) ++ (sw ++ ln)) ++ l) (sym each_table)
+    ∙ sym (left4 first fl tl (sw ++ ln) ts)
+    ∙ ap (λ o. (((first ++ fl) ++ tag_line t.fields o) ++ (sw ++ ln)) ++ ts) (sym h.tag)
+    ∙ ap (λ l. (((first ++ fl) ++ tag_line t.fields t.fields.tag) ++ (sw ++ ln)) ++ l) (sym each_table)
   where
     each_table : flat_map (λ s. section_text t.fields t.tables s.switch) t.topo.switches ≡ flat_map (table_lines t.fields) t.tables
     each_table =
         over_numbers (section_text t.fields t.tables) t.topo.switches
         ∙ ap (flat_map (section_text t.fields t.tables)) (sym h.each)
         ∙ sections t.fields 0 [] t.tables tt h.tables_rise
+
+-- the version is 1 or 2
+module _ (b : Bool) where
+  version_small : (if b then 2 else 1) ≤ largest
+  version_small = elim b as (λ v. (if v then 2 else 1) ≤ largest) [ true ↦ omega arith | false ↦ omega arith ]
+
+  version_known : (((if b then 2 else 1) == 1) || ((if b then 2 else 1) == 2)) ≡ true
+  version_known = elim b as (λ v. (((if v then 2 else 1) == 1) || ((if v then 2 else 1) == 2)) ≡ true) [ true ↦ refl | false ↦ refl ]
+
+-- whether some match is a prefix
+abbrev some_prefix : Tables → Bool
+some_prefix t = list_any (λ s. have_prefix t.fields (rows_of t.tables s.switch)) t.topo.switches
 
 apart : (t : Tables) (f : ℕ) → Fits t f → AreApart (lexemes t f)
 apart t f h = (
@@ -146,7 +159,7 @@ apart t f h = (
     tt,
     refl,
     (
-      omega arith,
+      version_small (some_prefix t),
       refl,
       (
         tt,
@@ -169,7 +182,7 @@ spelled t f h =
     let each = flat_map spell_declaration in
     let tag = spell_declaration (tag_declared t f) in
     let ts = flat_map spell_table (written_tables t.fields (tables_at t) t.tables) in
-    ap (λ l. mark kind.Tables ∷ number (number_on 1 1) ∷ l)
+    ap (λ l. mark kind.Tables ∷ number (number_on 1 (version_of t)) ∷ l)
     (fields_spelled 2 (names_of t) (maxima_of t) (lex_tag (name_of t.fields f) (lex_topo t)) h.fields_shown
     ∙ ap (λ l. each fw ++ l) (tag_spelled (tag_at t) (name_of t.fields f) (lex_topo t) h.name
     ∙ ap (λ l. tag ++ l) (switches_spelled (switches_at t) t.topo.switches (lex_links t.topo.links (lex_tables t.fields t.tables [])) (switches_shown 0 t.topo.switches h.switches)
@@ -201,14 +214,15 @@ all_said t f h =
 
 values : (t : Tables) (f line : ℕ) → Fits t f → tables_from line (written t f) ≡ Ok t
 values t f line h =
-    ap (λ r. and_then r (λ s. and_then (tables_read s [] ws) (λ ts. unless (fault_if (is_none s.fields.tag) line) (whole s ts)))) (all_said t f h)
-    ∙ ap (λ r. and_then r (λ ts. unless (fault_if (is_none t.fields.tag) line) (whole (said t) ts))) (tables_back (said t) (tables_at t) 0 [] t.tables tt h.tables_good)
+    ap (λ b. checked (fault_if (not b) 1) (and_then (said_after (head_declared t f) nothing_said) rest)) (version_known (some_prefix t))
+    ∙ ap (λ r. and_then r rest) (all_said t f h)
+    ∙ ap (λ r. and_then r (λ ts. unless (fault_if (is_none t.fields.tag) line) (whole (said t) ts))) (tables_back (version_of t) (said t) (tables_at t) 0 [] t.tables tt h.tables_good)
     ∙ ap (λ o. unless (fault_if (is_none o) line) (whole (said t) (map table_entry t.tables))) h.tag
     ∙ ap (λ ns. Ok (record { fields = t.fields; topo = t.topo; tables = map (table_for (map table_entry t.tables)) ns })) (sym h.each)
     ∙ ap (λ ts. Ok (record { fields = t.fields; topo = t.topo; tables = ts })) (each_is 0 [] t.tables tt h.tables_rise)
   where
-    ws : List WrittenTable
-    ws = written_tables t.fields (tables_at t) t.tables
+    rest : Said → Result Tables ReadError
+    rest s = and_then (tables_read (version_of t) s [] (written_tables t.fields (tables_at t) t.tables)) (λ ts. unless (fault_if (is_none s.fields.tag) line) (whole s ts))
 
 -- ---- what printable tables are
 
@@ -232,7 +246,7 @@ fits t f h e = record {
   links_shown = links_shown ss t.topo.links switches (λ l i. (links.from_port l i, links.to_port l i));
   each = h.each;
   tables_shown = tables_shown t.topo t.fields declarable 0 t.tables numbers tables;
-  tables_good = tables_good (said t) declarable 0 t.tables numbers tables;
+  tables_good = tables_good (version_of t) (said t) declarable 0 t.tables numbers only tables;
   tables_rise = tables_rise t.topo 0 t.tables numbers;
 }
   where
@@ -271,6 +285,12 @@ fits t f h e = record {
 
     numbers : NumbersFit t.topo 0 (map (λ u. u.switch) t.tables)
     numbers = subst (NumbersFit t.topo 0) (sym h.each) (numbers_fit t.topo 0 t.topo.switches switches (λ s i. i))
+
+    only : list_any (λ u. have_prefix t.fields u.rows) t.tables ≡ true → version_of t ≡ 2
+    only e =
+        sym (version_is t (map (λ u. u.switch) t.tables) true
+        (sym (found_in_tables (have_prefix t.fields) 0 [] t.tables tt (tables_rise t.topo 0 t.tables numbers) ∙ e))
+        h.each)
 
     tables : AllByRecursion (IsTableOf t.fields) t.tables
     tables = recursion_from_All (IsTableOf t.fields) t.tables h.tables

@@ -9,6 +9,7 @@ use Rattle.nk_tabtext.specs.declared.written.Number.{Number}
 use Rattle.nk_tabtext.specs.declared.written.Pair.{Pair}
 use Rattle.nk_tabtext.specs.declared.written.Declaration.{Declaration}
 use Rattle.nk_tabtext.specs.declared.written.Declaration.TheVariants as declared
+use Rattle.nk_tabtext.specs.declared.written.WrittenMatch.{WrittenMatch}
 use Rattle.nk_tabtext.specs.declared.written.WrittenBucket.{WrittenBucket}
 use Rattle.nk_tabtext.specs.declared.written.WrittenTarget.TheVariants as target
 use Rattle.nk_tabtext.specs.declared.written.WrittenRow.{WrittenRow}
@@ -25,7 +26,7 @@ use Rattle.nk_tabtext.specs.declared.stage.Stage.{Stage}
 use Rattle.nk_tabtext.specs.declared.stage.Stage.TheVariants as stage
 use Rattle.nk_tabtext.specs.Terminal.{Terminal, name, number, mark, is_mark, with_name, with_number}
 use Rattle.nk_tabtext.specs.Spelling.{spell_port, spell_declaration, spell_match, spell_set, way_token, spell_bucket, spell_matches, spell_row, spell_group, spell_table, spell_text}
-use Rattle.nk_tabtext.specs.Machine.{Reading, with_declaration, with_table, with_group, with_row, row_of, quad_step, link_on, place_step, bucket_done, bucket_on, begin, begin_row, begin_group, next_reading, read_one, read_all, first_reading, text_ended}
+use Rattle.nk_tabtext.specs.Machine.{Reading, with_declaration, with_table, with_group, with_row, with_match, match_of, row_of, quad_step, link_on, place_step, bucket_done, bucket_on, begin, begin_row, begin_group, begin_match, next_reading, read_one, read_all, first_reading, text_ended}
 use Rattle.nk_tabtext.proofs.Marks.{mark_is}
 
 -- the tokens of a part of a link
@@ -87,6 +88,8 @@ spelled (stage.RowNumbered p) x c = within x c ++ mark kind.Row ∷ number p ∷
 spelled (stage.Matches p ms) x c = within x c ++ spell_matches p ms
 spelled (stage.MatchNamed p ms w) x c = (within x c ++ spell_matches p ms) ++ name w ∷ []
 spelled (stage.MatchTested p ms w) x c = (within x c ++ spell_matches p ms) ++ name w ∷ mark kind.Equal ∷ []
+spelled (stage.MatchValued p ms w n) x c = within x c ++ spell_matches p (with_match ms w n None)
+spelled (stage.MatchSlashed p ms w n) x c = (within x c ++ spell_matches p (with_match ms w n None)) ++ mark kind.Slash ∷ []
 spelled (stage.Target p ms) x c = (within x c ++ spell_matches p ms) ++ mark kind.Arrow ∷ []
 spelled (stage.TargetGroup p ms) x c = (within x c ++ spell_matches p ms) ++ mark kind.Arrow ∷ mark kind.Group ∷ []
 
@@ -123,6 +126,8 @@ Fits (stage.RowNumbered p) x c = Unit {0}
 Fits (stage.Matches p ms) x c = Unit {0}
 Fits (stage.MatchNamed p ms w) x c = Unit {0}
 Fits (stage.MatchTested p ms w) x c = Unit {0}
+Fits (stage.MatchValued p ms w n) x c = Unit {0}
+Fits (stage.MatchSlashed p ms w n) x c = Unit {0}
 Fits (stage.Target p ms) x c = Unit {0}
 Fits (stage.TargetGroup p ms) x c = Unit {0}
 
@@ -229,6 +234,21 @@ row_begins x c t =
 -- a group, a row or a table begins
 group_begins : (x : WrittenTables) (c : WrittenTable) (t : Terminal) → c.rows ≡ [] → Leads (begin_group x c t) (within x c ++ t ∷ [])
 group_begins x c t h = via_mark same t (within x c) kind.Group _ _ (refl, h) (row_begins x c t)
+
+-- a match or the arrow begins
+match_begins : (x : WrittenTables) (c : WrittenTable) (p : Number) (ms : List WrittenMatch) (t : Terminal)
+    → Leads (begin_match x c p ms t) ((within x c ++ spell_matches p ms) ++ t ∷ [])
+match_begins x c p ms t =
+    via_name same t (within x c ++ spell_matches p ms) _ _ (λ w. (refl, tt))
+    (via_mark same t (within x c ++ spell_matches p ms) kind.Arrow _ _ (refl, tt) tt)
+
+-- matches and one more, with what stands behind them
+match_pushed : (a : List Terminal) (p : Number) (ms : List WrittenMatch) (w : Word) (n : Number) (l : Option Number) (us : List Terminal)
+    → (a ++ spell_matches p (with_match ms w n l)) ++ us ≡ (a ++ spell_matches p ms) ++ (spell_match (match_of w n l) ++ us)
+match_pushed a p ms w n l us =
+    ap (λ z. (a ++ mark kind.Row ∷ number p ∷ mark kind.Colon ∷ z) ++ us) (flat_more spell_match ms (match_of w n l))
+    ∙ ap (λ z. z ++ us) (sym (append_assoc a (spell_matches p ms) (spell_match (match_of w n l))))
+    ∙ append_assoc (a ++ spell_matches p ms) (spell_match (match_of w n l)) us
 
 -- tokens behind others behind others
 regroup : (xs ys zs us : List Terminal) → (xs ++ (ys ++ zs)) ++ us ≡ xs ++ (ys ++ (zs ++ us))
@@ -357,17 +377,28 @@ leads stage.Rows x c t h = row_begins x c t
 leads stage.Row x c t h = via_number same t (within x c ++ mark kind.Row ∷ []) _ _ (λ p. (append_assoc (within x c) (mark kind.Row ∷ []) (number p ∷ []), tt)) tt
 leads (stage.RowNumbered p) x c t h =
     via_mark same t (within x c ++ mark kind.Row ∷ number p ∷ []) kind.Colon _ _ (append_assoc (within x c) (mark kind.Row ∷ number p ∷ []) (mark kind.Colon ∷ []), tt) tt
-leads (stage.Matches p ms) x c t h =
-    via_name same t (within x c ++ spell_matches p ms) _ _ (λ w. (refl, tt))
-    (via_mark same t (within x c ++ spell_matches p ms) kind.Arrow _ _ (refl, tt) tt)
+leads (stage.Matches p ms) x c t h = match_begins x c p ms t
 leads (stage.MatchNamed p ms w) x c t h =
     via_mark same t ((within x c ++ spell_matches p ms) ++ name w ∷ []) kind.Equal _ _ (append_assoc (within x c ++ spell_matches p ms) (name w ∷ []) (mark kind.Equal ∷ []), tt) tt
 leads (stage.MatchTested p ms w) x c t h =
     via_number same t ((within x c ++ spell_matches p ms) ++ name w ∷ mark kind.Equal ∷ []) _ _
     (λ n. (
       append_assoc (within x c ++ spell_matches p ms) (name w ∷ mark kind.Equal ∷ []) (number n ∷ [])
-          ∙ append_assoc (within x c) (spell_matches p ms) (name w ∷ mark kind.Equal ∷ number n ∷ [])
-          ∙ ap (λ l. within x c ++ mark kind.Row ∷ number p ∷ mark kind.Colon ∷ l) (sym (flat_more spell_match ms (record { name = w; number = n }))),
+          ∙ sym (match_pushed (within x c) p ms w n None [])
+          ∙ append-nil (within x c ++ spell_matches p (with_match ms w n None)),
+      tt,
+    )) tt
+leads (stage.MatchValued p ms w n) x c t h =
+    via_mark same t (within x c ++ spell_matches p (with_match ms w n None)) kind.Slash _ _ (refl, tt)
+    (match_begins x c p (with_match ms w n None) t)
+leads (stage.MatchSlashed p ms w n) x c t h =
+    let us = within x c ++ spell_matches p (with_match ms w n None) in
+    via_number same t (us ++ mark kind.Slash ∷ []) _ _
+    (λ l. (
+      append_assoc us (mark kind.Slash ∷ []) (number l ∷ [])
+          ∙ match_pushed (within x c) p ms w n None (mark kind.Slash ∷ number l ∷ [])
+          ∙ sym (match_pushed (within x c) p ms w n (Some l) [])
+          ∙ append-nil (within x c ++ spell_matches p (with_match ms w n (Some l))),
       tt,
     )) tt
 leads (stage.Target p ms) x c t h =
@@ -441,5 +472,7 @@ ends (stage.RowNumbered p) x c y h e = absurd (none_some y e)
 ends (stage.Matches p ms) x c y h e = absurd (none_some y e)
 ends (stage.MatchNamed p ms w) x c y h e = absurd (none_some y e)
 ends (stage.MatchTested p ms w) x c y h e = absurd (none_some y e)
+ends (stage.MatchValued p ms w n) x c y h e = absurd (none_some y e)
+ends (stage.MatchSlashed p ms w n) x c y h e = absurd (none_some y e)
 ends (stage.Target p ms) x c y h e = absurd (none_some y e)
 ends (stage.TargetGroup p ms) x c y h e = absurd (none_some y e)

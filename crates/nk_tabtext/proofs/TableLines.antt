@@ -22,7 +22,8 @@ use Rattle.nk_tabtext.specs.Text.{matches_text, bucket_text, target_text, row_te
 use Rattle.nk_table.specs.declared.Table.{Table}
 use Rattle.nk_tabtext.specs.declared.written.WrittenTable.{WrittenTable}
 use Rattle.nk_tabtext.specs.Spelling.{spell_table}
-use Rattle.nk_tabtext.proofs.Lines.{left3, left4, left5, left8, terminals_on, number_on, AreShown, written_pair, pairs_where, shown_where, lex_matches, matches_bytes, matches_apart, matches_spelled, parts_spelled, space_apart, feed_apart, IsBucketShown, written_bucket, lex_bucket, bucket_bytes, bucket_apart, bucket_spelled}
+use Rattle.nk_tabtext.proofs.Keyed.{match_field, matches_where, all_where}
+use Rattle.nk_tabtext.proofs.Lines.{left3, left4, left5, left8, terminals_on, number_on, AreMatchesShown, IsMatchShown, written_match, lex_matches, matches_bytes, matches_apart, matches_spelled, parts_spelled, space_apart, feed_apart, IsBucketShown, written_bucket, lex_bucket, bucket_bytes, bucket_apart, bucket_spelled}
 
 -- ---- groups
 
@@ -108,21 +109,21 @@ IsTargetShown fs (does.Group n) = n ≤ largest
 IsTargetShown fs does.Discard = ⊤
 
 abbrev pub IsRowShown : FieldTable → Row → Type 0
-IsRowShown fs r = (r.priority ≤ largest) × AreShown fs r.matches × IsTargetShown fs r.target
+IsRowShown fs r = (r.priority ≤ largest) × AreMatchesShown fs r.matches × IsTargetShown fs r.target
 
 abbrev pub written_target : FieldTable → ℕ → Target → WrittenTarget
 written_target fs line (does.Bucket b) = target.Bucket (written_bucket fs line b)
 written_target fs line (does.Group n) = target.Group (number_on line n)
 written_target fs line does.Discard = target.Discard
 
--- the pairs in the order of a row's text
-abbrev pub row_order : FieldTable → List (ℕ × ℕ) → List (ℕ × ℕ)
-row_order fs ms = pairs_where fs true ms ++ pairs_where fs false ms
+-- the matches in the order of a row's text
+abbrev pub row_order : FieldTable → List (ℕ × ℕ × ℕ) → List (ℕ × ℕ × ℕ)
+row_order fs ms = matches_where fs true ms ++ matches_where fs false ms
 
 abbrev pub written_row : FieldTable → ℕ → Row → WrittenRow
 written_row fs line w = record {
   priority = number_on line w.priority;
-  matches = map (written_pair fs line) (row_order fs w.matches);
+  matches = map (written_match fs line) (row_order fs w.matches);
   target = written_target fs line w.target;
 }
 
@@ -139,7 +140,7 @@ lex_act fs t r = Lexeme.sign Sign.arrow ∷ Lexeme.space ∷ lex_target fs t r
 abbrev lex_row : FieldTable → Row → List Lexeme → List Lexeme
 lex_row fs w r =
     Lexeme.word (codes "row") ∷ Lexeme.space ∷ Lexeme.numeral w.priority ∷ Lexeme.space ∷ Lexeme.sign Sign.colon ∷ Lexeme.space
-    ∷ lex_matches fs (pairs_where fs true w.matches) (lex_matches fs (pairs_where fs false w.matches) (lex_act fs w.target r))
+    ∷ lex_matches fs (matches_where fs true w.matches) (lex_matches fs (matches_where fs false w.matches) (lex_act fs w.target r))
 
 target_bytes : (fs : FieldTable) (t : Target) (r : List Lexeme) → text_of (lex_target fs t r) ≡ target_text fs t ++ (codes "\n" ++ text_of r)
 target_bytes fs (does.Bucket b) r = bucket_bytes fs b (Lexeme.line_feed ∷ r)
@@ -149,7 +150,7 @@ target_bytes fs does.Discard r = refl
 row_bytes : (fs : FieldTable) (w : Row) (r : List Lexeme) → text_of (lex_row fs w r) ≡ row_text fs w ++ text_of r
 row_bytes fs w r =
     ap (λ l. codes "row " ++ (decimal w.priority ++ (codes " : " ++ l)))
-    (matches_bytes fs true w.matches (lex_matches fs (pairs_where fs false w.matches) (lex_act fs w.target r))
+    (matches_bytes fs true w.matches (lex_matches fs (matches_where fs false w.matches) (lex_act fs w.target r))
     ∙ ap (λ l. matches_text fs true w.matches ++ l) (matches_bytes fs false w.matches (lex_act fs w.target r)
     ∙ ap (λ l. matches_text fs false w.matches ++ (codes "-> " ++ l)) (target_bytes fs w.target r)))
     ∙ sym (left8 (codes "row ") (decimal w.priority) (codes " : ") (matches_text fs true w.matches) (matches_text fs false w.matches) (codes "-> ") (target_text fs w.target) (codes "\n") (text_of r))
@@ -161,8 +162,8 @@ target_apart fs does.Discard r h a = ((refl, refl), refl, (tt, feed_apart r, a))
 
 row_apart : (fs : FieldTable) (w : Row) (r : List Lexeme) → IsRowShown fs w → AreApart r → AreApart (lex_row fs w r)
 row_apart fs w r h a =
-    let tw = pairs_where fs true w.matches in
-    let fw = pairs_where fs false w.matches in (
+    let tw = matches_where fs true w.matches in
+    let fw = matches_where fs false w.matches in (
       (refl, refl),
       refl,
       (
@@ -180,8 +181,8 @@ row_apart fs w r h a =
               (
                 tt,
                 space_apart (lex_matches fs tw (lex_matches fs fw (lex_act fs w.target r))),
-                matches_apart fs tw (lex_matches fs fw (lex_act fs w.target r)) (shown_where fs true w.matches h.1)
-                    (matches_apart fs fw (lex_act fs w.target r) (shown_where fs false w.matches h.1)
+                matches_apart fs tw (lex_matches fs fw (lex_act fs w.target r)) (all_where match_field (IsMatchShown fs) fs true w.matches h.1)
+                    (matches_apart fs fw (lex_act fs w.target r) (all_where match_field (IsMatchShown fs) fs false w.matches h.1)
                     (tt, refl, (tt, space_apart (lex_target fs w.target r), target_apart fs w.target r h.2 a))),
               ),
             ),
@@ -199,16 +200,16 @@ target_spelled fs line does.Discard r h = refl
 row_spelled : (fs : FieldTable) (line : ℕ) (w : Row) (r : List Lexeme) → IsRowShown fs w
     → terminals_on line (lex_row fs w r) ≡ spell_row (written_row fs line w) ++ terminals_on (line + 1) r
 row_spelled fs line w r h =
-    let tw = pairs_where fs true w.matches in
-    let fw = pairs_where fs false w.matches in
-    let pair = written_pair fs line in
+    let tw = matches_where fs true w.matches in
+    let fw = matches_where fs false w.matches in
+    let one = written_match fs line in
     let rest = terminals_on (line + 1) r in
     ap (λ l. mark kind.Row ∷ number (number_on line w.priority) ∷ mark kind.Colon ∷ l)
-    (matches_spelled fs line tw (lex_matches fs fw (lex_act fs w.target r)) (shown_where fs true w.matches h.1)
-    ∙ ap (λ l. flat_map spell_match (map pair tw) ++ l) (matches_spelled fs line fw (lex_act fs w.target r) (shown_where fs false w.matches h.1)
-    ∙ ap (λ l. flat_map spell_match (map pair fw) ++ mark kind.Arrow ∷ l) (target_spelled fs line w.target r h.2))
-    ∙ parts_spelled spell_match pair tw fw (mark kind.Arrow ∷ spell_target (written_target fs line w.target) ++ rest)
-    ∙ sym (append_assoc (flat_map spell_match (map pair (row_order fs w.matches))) (mark kind.Arrow ∷ spell_target (written_target fs line w.target)) rest))
+    (matches_spelled fs line tw (lex_matches fs fw (lex_act fs w.target r)) (all_where match_field (IsMatchShown fs) fs true w.matches h.1)
+    ∙ ap (λ l. flat_map spell_match (map one tw) ++ l) (matches_spelled fs line fw (lex_act fs w.target r) (all_where match_field (IsMatchShown fs) fs false w.matches h.1)
+    ∙ ap (λ l. flat_map spell_match (map one fw) ++ mark kind.Arrow ∷ l) (target_spelled fs line w.target r h.2))
+    ∙ parts_spelled spell_match one tw fw (mark kind.Arrow ∷ spell_target (written_target fs line w.target) ++ rest)
+    ∙ sym (append_assoc (flat_map spell_match (map one (row_order fs w.matches))) (mark kind.Arrow ∷ spell_target (written_target fs line w.target)) rest))
 
 -- ---- tables
 

@@ -1,6 +1,6 @@
 -- What printable tables of switches are to the reader, and the text of each switch.
-use Rattle.std.proofs.Common.{◌≡◌, ◌≤◌, ◌<◌, ◌+◌, ℕ, List, [], ◌∷◌, ◌++◌, Bool, true, false, refl, sym, ap, subst, ◌∙◌, append_assoc, map, arith, ◌||◌, inl, inr, ⊎_elim}
-use Rattle.std.specs.Prelude.{◌==◌, All, if◌then◌else◌}
+use Rattle.std.proofs.Common.{◌≡◌, ◌≤◌, ◌<◌, ◌+◌, ℕ, List, [], ◌∷◌, ◌++◌, Bool, true, false, not, refl, sym, ap, subst, ◌∙◌, append_assoc, map, arith, ◌||◌, inl, inr, ⊎_elim}
+use Rattle.std.specs.Prelude.{◌==◌, ◌^◌, All, if◌then◌else◌, slice_index}
 use Rattle.std.specs.List.{list_any, flat_map, AllByRecursion}
 use Rattle.std.proofs.lemmas.Bool.Decides.{nat_tests}
 use Rattle.std.proofs.lemmas.List.Elements.{recursion_from_All}
@@ -8,6 +8,8 @@ use Rattle.nk_lex.specs.Lex.{largest}
 use Rattle.nk_lex.specs.Spelling.{IsName}
 use Rattle.nk_field.specs.Packet.{FieldTable, IsFieldTable, IsValue}
 use Rattle.nk_field.specs.Act.{AscendsFrom}
+use Rattle.nk_prefix.specs.Prefix.{digits_of}
+use Rattle.nk_prefix.proofs.Powers.{fewest}
 use Rattle.nk_topo.specs.Topology.{Topology, SwitchPorts, is_switch}
 use Rattle.nk_topo.proofs.Members.{In, InOrder, order_from_pairs}
 use Rattle.nk_table.specs.declared.Table.{Table}
@@ -19,12 +21,14 @@ use Rattle.nk_table.specs.declared.Target.TheVariants as does
 use Rattle.nk_table.specs.declared.Exit.{Exit}
 use Rattle.nk_table.specs.declared.Exit.TheVariants as exit
 use Rattle.nk_table.specs.Rules.{rows_of, groups_of}
-use Rattle.nk_tabtext.specs.Text.{section_text}
-use Rattle.nk_tabtext.specs.ReadBack.{IsExit, IsBucketOf, IsGroupOf, IsTargetOf, IsRowOf, IsTableOf}
+use Rattle.nk_tabtext.specs.InOrder.{MatchesAscend}
+use Rattle.nk_tabtext.specs.Text.{is_exact, have_prefix, section_text}
+use Rattle.nk_tabtext.specs.ReadBack.{IsExit, IsBucketOf, IsGroupOf, IsTargetOf, IsMatchOf, IsRowOf, IsTableOf}
 use Rattle.nk_tabtext.specs.Values.{Said}
-use Rattle.nk_tabtext.proofs.Lines.{AreShown, IsExitShown, IsBucketShown}
+use Rattle.nk_tabtext.proofs.Lines.{AreShown, AreMatchesShown, IsExitShown, IsBucketShown}
 use Rattle.nk_tabtext.proofs.TableLines.{AreBucketsShown, AreGroupsShown, IsTargetShown, AreRowsShown, AreTablesShown, table_lines}
 use Rattle.nk_tabtext.proofs.Merging.{AreGood}
+use Rattle.nk_tabtext.proofs.Matched.{AreFine}
 use Rattle.nk_tabtext.proofs.Valued.{IsBucketGood, AreBucketsGood, AreGroupsGood, IsTargetGood, AreRowsGood, AreTablesGood, TablesFrom}
 use Rattle.nk_tabtext.proofs.HeadValues.{SwitchesFit}
 use Rattle.nk_tabtext.proofs.HeadBack.{name_there, has_one}
@@ -34,6 +38,18 @@ pub record AreDeclarable (fs : FieldTable) : Type 0 where
   pub table : IsFieldTable fs
   pub maxima : All (λ m. m ≤ largest) fs.maxima
   pub names : All IsName fs.names
+
+-- a text of this version has these rows: where some match is a prefix it is version 2
+abbrev Allows : ℕ → FieldTable → List Row → Type 0
+Allows version fs ws = have_prefix fs ws ≡ true → version ≡ 2
+
+-- one of two tests passes
+pub or_first : (a b : Bool) → a ≡ true → (a || b) ≡ true
+or_first a b e = ap (λ x. x || b) e
+
+pub or_second : (a b : Bool) → b ≡ true → (a || b) ≡ true
+or_second true b e = refl
+or_second false b e = e
 
 module _ (fs : FieldTable) (is : AreDeclarable fs) where
   -- pairs that ascend
@@ -47,6 +63,41 @@ module _ (fs : FieldTable) (is : AreDeclarable fs) where
   shown_pairs (m ∷ ms) v =
       let most = is.maxima m.0 0 v.0.0 in
       ((is.names m.0 [] (omega (arith, v.0.0, is.table.named)), omega (arith, v.0.1, most)), shown_pairs ms v.1)
+
+  -- matches that ascend
+  fine_matches : (version k : ℕ) (ms : List (ℕ × ℕ × ℕ)) → 1 ≤ k → MatchesAscend k ms → AllByRecursion (IsMatchOf fs) ms
+      → (list_any (λ m. not (is_exact fs m)) ms ≡ true → version ≡ 2) → AreFine version fs ms
+  fine_matches version k [] le a v only = tt
+  fine_matches version k (m ∷ ms) le a v only = (
+    record {
+      named = name_there fs is.table m.0 v.0.value.0;
+      low = omega (arith, le, a.0);
+      within = v.0.value.1;
+      some = v.0.some;
+      most = v.0.most;
+      zeros = v.0.zeros;
+      prefix = λ e. only (or_first (not (is_exact fs m)) _ (ap not e));
+    },
+    fine_matches version (m.0 + 1) ms (omega (arith, le, a.0)) a.1 v.1 (λ e. only (or_second (not (is_exact fs m)) _ e)),
+  )
+
+  -- a field has at most 48 digits
+  few_digits : (max : ℕ) → max ≤ largest → digits_of max ≤ largest
+  few_digits max le = let few : digits_of max ≤ 48 = fewest max 48 (omega arith) (omega (arith, le)) in omega (arith, few)
+
+  shown_matches : (ms : List (ℕ × ℕ × ℕ)) → AllByRecursion (IsMatchOf fs) ms → AreMatchesShown fs ms
+  shown_matches [] v = tt
+  shown_matches (m ∷ ms) v =
+      let at = v.0.value in
+      let most = is.maxima m.0 0 at.0 in
+      let few = few_digits (slice_index fs.maxima m.0) most in (
+        (
+          is.names m.0 [] (omega (arith, at.0, is.table.named)),
+          omega (arith, at.1, most),
+          omega (arith, v.0.most, few),
+        ),
+        shown_matches ms v.1,
+      )
 
   -- ---- buckets
 
@@ -97,12 +148,19 @@ module _ (fs : FieldTable) (is : AreDeclarable fs) where
   target_good gs (does.Group n) h = h
   target_good gs does.Discard h = tt
 
-  rows_good : (gs : List Group) (ws : List Row) → AllByRecursion (IsRowOf fs gs) ws → AreRowsGood fs gs ws
-  rows_good gs [] h = tt
-  rows_good gs (w ∷ ws) h = (
-    (h.0.priority, h.0.ascend, good_pairs 1 1 w.matches (omega arith) h.0.ascend (recursion_from_All _ w.matches h.0.values), target_good gs w.target h.0.target),
-    rows_good gs ws h.1,
-  )
+  rows_good : (version : ℕ) (gs : List Group) (ws : List Row) → Allows version fs ws → AllByRecursion (IsRowOf fs gs) ws → AreRowsGood version fs gs ws
+  rows_good version gs [] only h = tt
+  rows_good version gs (w ∷ ws) only h =
+      let here = list_any (λ m. not (is_exact fs m)) w.matches in (
+        (
+          h.0.priority,
+          h.0.ascend,
+          fine_matches version 1 w.matches (omega arith) h.0.ascend (recursion_from_All (IsMatchOf fs) w.matches h.0.matches)
+              (λ e. only (or_first here (have_prefix fs ws) e)),
+          target_good gs w.target h.0.target,
+        ),
+        rows_good version gs ws (λ e. only (or_second here (have_prefix fs ws) e)) h.1,
+      )
 
   -- a group that is one of these has a number that a text can write
   group_small : (gs : List Group) (n : ℕ) → AllByRecursion (IsGroupOf fs) gs → list_any (λ g. g.number == n) gs ≡ true → n ≤ largest
@@ -125,7 +183,7 @@ module _ (fs : FieldTable) (is : AreDeclarable fs) where
   rows_shown : (gs : List Group) (ws : List Row) → AllByRecursion (IsGroupOf fs) gs → AllByRecursion (IsRowOf fs gs) ws → AreRowsShown fs ws
   rows_shown gs [] k h = tt
   rows_shown gs (w ∷ ws) k h = (
-    (omega (arith, h.0.priority), shown_pairs w.matches (recursion_from_All _ w.matches h.0.values), target_shown gs w.target k h.0.target),
+    (omega (arith, h.0.priority), shown_matches w.matches (recursion_from_All (IsMatchOf fs) w.matches h.0.matches), target_shown gs w.target k h.0.target),
     rows_shown gs ws k h.1,
   )
 
@@ -159,19 +217,21 @@ numbers_fit topo low [] h i = tt
 numbers_fit topo low (s ∷ ss) h i =
     ((h.0.0, h.0.1, there topo.switches s (i s (inl refl))), numbers_fit topo (s.switch + 1) ss h.1 (λ r j. i r (inr j)))
 
-pub tables_good : (s : Said) (is : AreDeclarable s.fields) (low : ℕ) (ts : List Table) → NumbersFit s.topo low (map (λ t. t.switch) ts)
-    → AllByRecursion (IsTableOf s.fields) ts → AreTablesGood s low ts
-tables_good s is low [] n h = tt
-tables_good s is low (t ∷ ts) n h =
-    let gs = recursion_from_All (IsGroupOf s.fields) t.groups h.0.groups in (
+pub tables_good : (version : ℕ) (s : Said) (is : AreDeclarable s.fields) (low : ℕ) (ts : List Table) → NumbersFit s.topo low (map (λ t. t.switch) ts)
+    → (list_any (λ t. have_prefix s.fields t.rows) ts ≡ true → version ≡ 2) → AllByRecursion (IsTableOf s.fields) ts → AreTablesGood version s low ts
+tables_good version s is low [] n only h = tt
+tables_good version s is low (t ∷ ts) n only h =
+    let gs = recursion_from_All (IsGroupOf s.fields) t.groups h.0.groups in
+    let later = list_any (λ u. have_prefix s.fields u.rows) ts in (
       (
         n.0.0,
         n.0.1,
         n.0.2,
         groups_good s.fields is 1 t.groups gs (order_from_pairs (λ g k. g.number < k.number) t.groups h.0.ascend) (all_low s.fields is t.groups gs),
-        rows_good s.fields is t.groups t.rows (recursion_from_All (IsRowOf s.fields t.groups) t.rows h.0.rows),
+        rows_good s.fields is version t.groups t.rows (λ e. only (or_first (have_prefix s.fields t.rows) later e))
+            (recursion_from_All (IsRowOf s.fields t.groups) t.rows h.0.rows),
       ),
-      tables_good s is (t.switch + 1) ts n.1 h.1,
+      tables_good version s is (t.switch + 1) ts n.1 (λ e. only (or_second (have_prefix s.fields t.rows) later e)) h.1,
     )
 
 pub tables_shown : (topo : Topology) (fs : FieldTable) (is : AreDeclarable fs) (low : ℕ) (ts : List Table) → NumbersFit topo low (map (λ t. t.switch) ts)
@@ -235,6 +295,17 @@ sections fs low before (t ∷ ts) b h =
   where
     lines : List Group → List Row → List ℕ
     lines gs ws = table_lines fs (record { switch = t.switch; groups = gs; rows = ws })
+
+-- what is found in the tables of switches, by their numbers
+pub found_in_tables : (found : List Row → Bool) (low : ℕ) (before ts : List Table) → TablesBelow low before → TablesFrom low ts
+    → list_any (λ n. found (rows_of (before ++ ts) n)) (map (λ t. t.switch) ts) ≡ list_any (λ t. found t.rows) ts
+found_in_tables found low before [] b h = refl
+found_in_tables found low before (t ∷ ts) b h =
+    let below = below_more low t.switch before h.0 b in
+    let rest = list_any (λ n. found (rows_of (before ++ t ∷ ts) n)) (map (λ u. u.switch) ts) in
+    ap (λ ws. found ws || rest) (rows_found before t ts below)
+    ∙ ap (λ all. found t.rows || list_any (λ n. found (rows_of all n)) (map (λ u. u.switch) ts)) (sym (append_assoc before (t ∷ []) ts))
+    ∙ ap (λ x. found t.rows || x) (found_in_tables found (t.switch + 1) (before ++ t ∷ []) ts (below_push (t.switch + 1) before t (below_more t.switch (t.switch + 1) before (omega arith) below) (omega arith)) h.1)
 
 -- over the numbers of switches
 pub over_numbers : {X : Type 0} (f : ℕ → List X) (ss : List SwitchPorts) → flat_map (λ s. f s.switch) ss ≡ flat_map f (map (λ s. s.switch) ss)

@@ -1,6 +1,6 @@
 -- What is read as tables of switches keeps the rules of a text.
 use Rattle.std.proofs.Common.{◌≡◌, ◌≤◌, ◌<◌, ◌+◌, ℕ, List, [], ◌∷◌, ◌++◌, Bool, true, false, cond, not, length, refl, sym, ap, subst, ◌∙◌, Option, Some, None, map, arith, ◌||◌, inl, inr, ⊎_elim}
-use Rattle.std.specs.Prelude.{◌==◌, Ok, Err, ltb, eqb, nat_lt, is_some, unwrap_or, slice_index}
+use Rattle.std.specs.Prelude.{◌==◌, Ok, Err, ltb, eqb, nat_lt, ◌-◌, ◌%◌, ◌^◌, is_some, unwrap_or, slice_index}
 use Rattle.std.specs.List.{list_any, AllByRecursion}
 use Rattle.std.specs.Map.{lookup}
 use Rattle.std.specs.Ordering.{nat_cmp, match_ordering}
@@ -13,7 +13,8 @@ use Rattle.std.proofs.lemmas.List.Elements.{All-nil, All-from_recursion}
 use Rattle.nk_field.specs.Packet.{FieldTable, IsFieldTable, IsValue, field_named}
 use Rattle.nk_field.specs.Act.{AscendsFrom, lay, act_then}
 use Rattle.nk_field.proofs.Thens.{order, then_ascends}
-use Rattle.nk_topo.proofs.Members.{In, InOrder, pairs_from_order}
+use Rattle.nk_prefix.specs.Prefix.{digits_of}
+use Rattle.nk_topo.proofs.Members.{In, InOrder, pairs_from_order, placed_behind, placed_front}
 use Rattle.nk_table.specs.declared.Table.{Table}
 use Rattle.nk_table.specs.declared.Row.{Row}
 use Rattle.nk_table.specs.declared.Group.{Group}
@@ -22,7 +23,9 @@ use Rattle.nk_table.specs.declared.Target.{Target}
 use Rattle.nk_table.specs.declared.Target.TheVariants as does
 use Rattle.nk_table.specs.declared.Exit.{Exit}
 use Rattle.nk_table.specs.declared.Exit.TheVariants as exit
+use Rattle.nk_tabtext.specs.declared.written.Number.{Number}
 use Rattle.nk_tabtext.specs.declared.written.Pair.{Pair}
+use Rattle.nk_tabtext.specs.declared.written.WrittenMatch.{WrittenMatch}
 use Rattle.nk_tabtext.specs.declared.written.Way.{Way}
 use Rattle.nk_tabtext.specs.declared.written.Way.TheVariants as way
 use Rattle.nk_tabtext.specs.declared.written.WrittenBucket.{WrittenBucket}
@@ -34,8 +37,9 @@ use Rattle.nk_tabtext.specs.declared.written.WrittenTable.{WrittenTable}
 use Rattle.nk_tabtext.specs.declared.written.ReadError.{ReadError}
 use Rattle.nk_tabtext.specs.declared.written.ReadError.TheVariants as error
 use Rattle.nk_tabtext.specs.Machine.{and_then}
-use Rattle.nk_tabtext.specs.Values.{Said, fault_if, first_of, above, unless, is_from, pair_read, pairs_read, way_read, bucket_of, bucket_read, buckets_read, has_key, group_fault, group_of, group_read, groups_read, target_read, row_with, row_read, rows_read, table_of, table_read, tables_read, empty_table, table_for}
-use Rattle.nk_tabtext.specs.ReadBack.{IsExit, IsBucketOf, IsGroupOf, IsTargetOf, IsRowOf, IsTableOf}
+use Rattle.nk_tabtext.specs.Values.{Said, fault_if, first_of, above, unless, is_from, pair_read, pairs_read, length_in, length_fault, ones_fault, match_read, put_match, matches_read, way_read, bucket_of, bucket_read, buckets_read, has_key, group_fault, group_of, group_read, groups_read, target_read, row_with, row_read, rows_read, table_of, table_read, tables_read, empty_table, table_for}
+use Rattle.nk_tabtext.specs.InOrder.{MatchesAscend}
+use Rattle.nk_tabtext.specs.ReadBack.{IsExit, IsBucketOf, IsGroupOf, IsTargetOf, IsMatchOf, IsRowOf, IsTableOf}
 use Rattle.nk_tabtext.proofs.Valued.{above_key, same_test}
 use Rattle.nk_tabtext.proofs.HeadKept.{both_ok, unless_ok, checked_ok, ok_is, both_fine, not_wrong, within, holds, neither, from_low, has_maximum, IsGroupOfText, IsTableOfText}
 
@@ -103,6 +107,113 @@ pairs_kept fs is low before (p ∷ ps) ms h e =
       then_ascends before low (s ∷ []) h.0 (this.0, tt),
       then_all (λ m. IsValue fs m.0 m.1) before (s ∷ []) h.1 (this.1, tt),
     ) step.2
+
+-- ---- matches
+
+-- a length that is written, or all digits
+length_kept : (version digits line : ℕ) (l : Option Number) → 1 ≤ digits → length_fault version digits l ≡ None
+    → (1 ≤ length_in digits l) × (length_in digits l ≤ digits)
+length_kept version digits line None some e = (some, omega arith)
+length_kept version digits line (Some l) some e =
+    let parts = neither _ _ (neither _ _ (not_wrong _ l.line e)).1 in
+    (low l.value parts.0, high digits l.value parts.1)
+  where
+    low : (n : ℕ) → (n == 0) ≡ false → 1 ≤ n
+    low n h = grind (arith, nat_tests, h)
+
+    high : (m n : ℕ) → nat_lt m n ≡ false → n ≤ m
+    high m n h = grind (arith, nat_tests, h)
+
+-- a match that is read
+match_kept : (version : ℕ) (fs : FieldTable) → IsFieldTable fs → (before : List (ℕ × ℕ × ℕ)) (m : WrittenMatch) (s : ℕ × ℕ × ℕ)
+    → match_read version fs before m ≡ Ok s → (1 ≤ s.0) × IsMatchOf fs s × (list_any (λ x. x.0 == s.0) before ≡ false)
+match_kept version fs is before m s e = by (field_named fs m.name.text) refl e
+  where
+    digits : Option ℕ → ℕ
+    digits o = digits_of (slice_index fs.maxima (unwrap_or o 0))
+
+    read : Option ℕ → Result (ℕ × ℕ × ℕ) ReadError
+    read o =
+        unless
+        (first_of
+        (first_of
+        (first_of (fault_if (not (is_from 1 o)) m.name.line) (fault_if (list_any (λ x. x.0 == unwrap_or o 0) before) m.name.line))
+        (fault_if (nat_lt (slice_index fs.maxima (unwrap_or o 0)) m.number.value) m.number.line))
+        (first_of (length_fault version (digits o) m.length) (ones_fault (digits o) (length_in (digits o) m.length) m.number)))
+        (unwrap_or o 0, m.number.value, length_in (digits o) m.length)
+
+    le : (m k : ℕ) → nat_lt m k ≡ false → k ≤ m
+    le m k h = grind (arith, nat_tests, h)
+
+    zero : (n : ℕ) → (n == 0) ≡ true → n ≡ 0
+    zero n h = grind (arith, nat_tests, h)
+
+    never : ◌≡◌ {A = Result (ℕ × ℕ × ℕ) ReadError} (Err (error.TableFault m.name.line)) (Ok s) → ⊥
+    never h = cc
+
+    Kept : ℕ × ℕ × ℕ → Type 0
+    Kept x = (1 ≤ x.0) × IsMatchOf fs x × (list_any (λ y. y.0 == x.0) before ≡ false)
+
+    by : (o : Option ℕ) → field_named fs m.name.text ≡ o → read o ≡ Ok s → Kept s
+    by None there h = absurd (never h)
+    by (Some f) there h =
+        let r = unless_ok _ _ s h in
+        let parts = both_fine _ _ r.0 in
+        let pair = both_fine _ _ parts.0 in
+        let name = both_fine _ _ pair.0 in
+        let last = both_fine _ _ parts.1 in
+        let d = digits_of (slice_index fs.maxima f) in
+        let length = length_kept version d m.number.line m.length (omega arith) last.0 in
+        subst Kept r.1 (
+          from_low 1 (Some f) f (holds _ (not_wrong _ m.name.line name.0)) refl,
+          record {
+            value = (has_maximum fs m.name.text f is there, le (slice_index fs.maxima f) m.number.value (not_wrong _ m.number.line pair.1));
+            some = length.0;
+            most = length.1;
+            zeros = zero _ (holds _ (not_wrong _ m.number.line last.1));
+          },
+          not_wrong _ m.name.line name.1,
+        )
+
+-- one more match
+put_ascends : (P : ℕ × ℕ × ℕ → Type 0) (low : ℕ) (before : List (ℕ × ℕ × ℕ)) (m : ℕ × ℕ × ℕ) → MatchesAscend low before → AllByRecursion P before
+    → low ≤ m.0 → list_any (λ x. x.0 == m.0) before ≡ false → P m → MatchesAscend low (put_match m before) × AllByRecursion P (put_match m before)
+put_ascends P low [] m up all le new p = ((le, tt), (p, tt))
+put_ascends P low (x ∷ xs) m up all le new p = by (nat_lt x.0 m.0) refl (λ first n. put_ascends P (x.0 + 1) xs m up.1 all.1 first n p)
+  where
+    other : list_any (λ y. y.0 == m.0) (x ∷ xs) ≡ false → ((x.0 == m.0) ≡ false) × (list_any (λ y. y.0 == m.0) xs ≡ false)
+    other e = neither (x.0 == m.0) (list_any (λ y. y.0 == m.0) xs) e
+
+    less : (a b : ℕ) → nat_lt a b ≡ true → a + 1 ≤ b
+    less a b h = grind (arith, nat_tests, h)
+
+    more : (a b : ℕ) → nat_lt a b ≡ false → (a == b) ≡ false → b + 1 ≤ a
+    more a b h k = grind (arith, nat_tests, h, k)
+
+    Kept : List (ℕ × ℕ × ℕ) → Type 0
+    Kept l = MatchesAscend low l × AllByRecursion P l
+
+    by : (b : Bool) → nat_lt x.0 m.0 ≡ b
+        → (x.0 + 1 ≤ m.0 → list_any (λ y. y.0 == m.0) xs ≡ false → MatchesAscend (x.0 + 1) (put_match m xs) × AllByRecursion P (put_match m xs))
+        → Kept (put_match m (x ∷ xs))
+    by true h go =
+        let rest = go (less x.0 m.0 h) (other new).1 in
+        subst Kept (sym (placed_behind (λ z. nat_lt z.0 m.0) m x xs h)) ((up.0, rest.0), (all.0, rest.1))
+    by false h go =
+        subst Kept (sym (placed_front (λ z. nat_lt z.0 m.0) m x xs h)) ((le, (more x.0 m.0 h (other new).0, up.1)), (p, all))
+
+-- matches that ascend, each one of the field table
+abbrev AreMatches : FieldTable → List (ℕ × ℕ × ℕ) → Type 0
+AreMatches fs ms = MatchesAscend 1 ms × AllByRecursion (IsMatchOf fs) ms
+
+matches_kept : (version : ℕ) (fs : FieldTable) → IsFieldTable fs → (before : List (ℕ × ℕ × ℕ)) (ps : List WrittenMatch) (ms : List (ℕ × ℕ × ℕ)) → AreMatches fs before
+    → matches_read version fs before ps ≡ Ok ms → AreMatches fs ms
+matches_kept version fs is before [] ms h e = subst (AreMatches fs) (ok_is before ms e) h
+matches_kept version fs is before (p ∷ ps) ms h e =
+    let step = both_ok (match_read version fs before p) (λ s. matches_read version fs (put_match s before) ps) ms e in
+    let s = step.0 in
+    let this = match_kept version fs is before p s step.1 in
+    matches_kept version fs is (put_match s before) ps ms (put_ascends (IsMatchOf fs) 1 before s h.0 h.1 this.0 this.2 this.1) step.2
 
 -- ---- buckets
 
@@ -269,25 +380,26 @@ module _ (fs : FieldTable) (is : IsFieldTable fs) where
       subst (IsTargetOf fs (groups_in es)) r.1 (key_there fs es n.value h (holds _ (not_wrong _ n.line r.0)))
   target_kept es target.Discard x h e = subst (IsTargetOf fs (groups_in es)) (ok_is does.Discard x e) tt
 
-  row_kept : (es : List (ℕ × Group)) (r : WrittenRow) (x : Row) → AllByRecursion (IsGroupEntry fs) es → row_read fs es r ≡ Ok x → IsRowOf fs (groups_in es) x
-  row_kept es r x h e =
+  row_kept : (version : ℕ) (es : List (ℕ × Group)) (r : WrittenRow) (x : Row) → AllByRecursion (IsGroupEntry fs) es → row_read version fs es r ≡ Ok x
+      → IsRowOf fs (groups_in es) x
+  row_kept version es r x h e =
       let q = checked_ok (above 65535 r.priority) _ x e in
-      let ms = both_ok (pairs_read fs 1 [] r.matches) (λ m. and_then (target_read fs es r.target) (λ t. Ok (row_with r.priority m t))) x q.1 in
+      let ms = both_ok (matches_read version fs [] r.matches) (λ m. and_then (target_read fs es r.target) (λ t. Ok (row_with r.priority m t))) x q.1 in
       let to = both_ok (target_read fs es r.target) (λ t. Ok (row_with r.priority ms.0 t)) x ms.2 in
-      let pairs : ArePairs fs 1 ms.0 = pairs_kept fs is 1 [] r.matches ms.0 (tt, tt) ms.1 in
+      let all : AreMatches fs ms.0 = matches_kept version fs is [] r.matches ms.0 (tt, tt) ms.1 in
       subst (IsRowOf fs (groups_in es)) (ok_is (row_with r.priority ms.0 to.0) x to.2) (record {
         priority = within 65535 r.priority q.0;
-        ascend = pairs.0;
-        values = All-from_recursion (λ m. IsValue fs m.0 m.1) ms.0 pairs.1;
+        ascend = all.0;
+        matches = All-from_recursion (IsMatchOf fs) ms.0 all.1;
         target = target_kept es r.target to.0 h to.1;
       })
 
-  rows_kept : (es : List (ℕ × Group)) (before : List Row) (rs : List WrittenRow) (xs : List Row) → AllByRecursion (IsGroupEntry fs) es
-      → AllByRecursion (IsRowOf fs (groups_in es)) before → rows_read fs es before rs ≡ Ok xs → AllByRecursion (IsRowOf fs (groups_in es)) xs
-  rows_kept es before [] xs h all e = subst (AllByRecursion (IsRowOf fs (groups_in es))) (ok_is before xs e) all
-  rows_kept es before (r ∷ rs) xs h all e =
-      let step = both_ok (row_read fs es r) (λ x. rows_read fs es (before ++ x ∷ []) rs) xs e in
-      rows_kept es (before ++ step.0 ∷ []) rs xs h (push_all (IsRowOf fs (groups_in es)) before step.0 all (row_kept es r step.0 h step.1)) step.2
+  rows_kept : (version : ℕ) (es : List (ℕ × Group)) (before : List Row) (rs : List WrittenRow) (xs : List Row) → AllByRecursion (IsGroupEntry fs) es
+      → AllByRecursion (IsRowOf fs (groups_in es)) before → rows_read version fs es before rs ≡ Ok xs → AllByRecursion (IsRowOf fs (groups_in es)) xs
+  rows_kept version es before [] xs h all e = subst (AllByRecursion (IsRowOf fs (groups_in es))) (ok_is before xs e) all
+  rows_kept version es before (r ∷ rs) xs h all e =
+      let step = both_ok (row_read version fs es r) (λ x. rows_read version fs es (before ++ x ∷ []) rs) xs e in
+      rows_kept version es (before ++ step.0 ∷ []) rs xs h (push_all (IsRowOf fs (groups_in es)) before step.0 all (row_kept version es r step.0 h step.1)) step.2
 
 -- ---- tables
 
@@ -295,28 +407,28 @@ module _ (fs : FieldTable) (is : IsFieldTable fs) where
 abbrev pub IsTableEntry : FieldTable → ℕ × Table → Type 0
 IsTableEntry fs e = (e.0 ≡ e.1.switch) × IsTableOf fs e.1
 
-table_kept : (s : Said) → IsFieldTable s.fields → (before : List (ℕ × Table)) (t : WrittenTable) (x : Table) → IsTableOfText t → table_read s before t ≡ Ok x
-    → IsTableOf s.fields x
-table_kept s is before t x small e =
+table_kept : (version : ℕ) (s : Said) → IsFieldTable s.fields → (before : List (ℕ × Table)) (t : WrittenTable) (x : Table) → IsTableOfText t
+    → table_read version s before t ≡ Ok x → IsTableOf s.fields x
+table_kept version s is before t x small e =
     let r = checked_ok _ _ x e in
-    let gs = both_ok (groups_read s.fields [] t.groups) (λ es. and_then (rows_read s.fields es [] t.rows) (λ ws. Ok (table_of t.switch es ws))) x r.1 in
-    let ws = both_ok (rows_read s.fields gs.0 [] t.rows) (λ rs. Ok (table_of t.switch gs.0 rs)) x gs.2 in
+    let gs = both_ok (groups_read s.fields [] t.groups) (λ es. and_then (rows_read version s.fields es [] t.rows) (λ ws. Ok (table_of t.switch es ws))) x r.1 in
+    let ws = both_ok (rows_read version s.fields gs.0 [] t.rows) (λ rs. Ok (table_of t.switch gs.0 rs)) x gs.2 in
     let groups = groups_kept s.fields is [] t.groups gs.0 small tt tt gs.1 in
-    let rows = rows_kept s.fields is gs.0 [] t.rows ws.0 groups.1 tt ws.1 in
+    let rows = rows_kept s.fields is version gs.0 [] t.rows ws.0 groups.1 tt ws.1 in
     subst (IsTableOf s.fields) (ok_is (table_of t.switch gs.0 ws.0) x ws.2) (record {
       groups = All-from_recursion (IsGroupOf s.fields) (groups_in gs.0) (groups_hold s.fields gs.0 groups.1);
       ascend = pairs_from_order (λ g k. g.number < k.number) (groups_in gs.0) (groups_rise s.fields 0 gs.0 groups.0 groups.1);
       rows = All-from_recursion (IsRowOf s.fields (groups_in gs.0)) ws.0 rows;
     })
 
-pub tables_kept : (s : Said) → IsFieldTable s.fields → (before : List (ℕ × Table)) (ts : List WrittenTable) (es : List (ℕ × Table)) → AllByRecursion IsTableOfText ts
-    → KeysRise 0 before → AllByRecursion (IsTableEntry s.fields) before → tables_read s before ts ≡ Ok es → AllByRecursion (IsTableEntry s.fields) es
-tables_kept s is before [] es small up h e = subst (AllByRecursion (IsTableEntry s.fields)) (ok_is before es e) h
-tables_kept s is before (t ∷ ts) es small up h e =
-    let step = both_ok (table_read s before t) (λ x. tables_read s (insert_entry nat_cmp before x.switch x) ts) es e in
+pub tables_kept : (version : ℕ) (s : Said) → IsFieldTable s.fields → (before : List (ℕ × Table)) (ts : List WrittenTable) (es : List (ℕ × Table)) → AllByRecursion IsTableOfText ts
+    → KeysRise 0 before → AllByRecursion (IsTableEntry s.fields) before → tables_read version s before ts ≡ Ok es → AllByRecursion (IsTableEntry s.fields) es
+tables_kept version s is before [] es small up h e = subst (AllByRecursion (IsTableEntry s.fields)) (ok_is before es e) h
+tables_kept version s is before (t ∷ ts) es small up h e =
+    let step = both_ok (table_read version s before t) (λ x. tables_read version s (insert_entry nat_cmp before x.switch x) ts) es e in
     let x = step.0 in
-    let put = put_kept (IsTableEntry s.fields) 0 before x.switch x up (omega arith) (refl, table_kept s is before t x small.0 step.1) h in
-    tables_kept s is (insert_entry nat_cmp before x.switch x) ts es small.1 put.0 put.1 step.2
+    let put = put_kept (IsTableEntry s.fields) 0 before x.switch x up (omega arith) (refl, table_kept version s is before t x small.0 step.1) h in
+    tables_kept version s is (insert_entry nat_cmp before x.switch x) ts es small.1 put.0 put.1 step.2
 
 -- the table of a switch
 table_found : (fs : FieldTable) (es : List (ℕ × Table)) (sw : ℕ) → AllByRecursion (IsTableEntry fs) es

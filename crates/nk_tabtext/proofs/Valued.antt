@@ -20,11 +20,13 @@ use Rattle.nk_table.specs.declared.Exit.{Exit}
 use Rattle.nk_table.specs.declared.Exit.TheVariants as exit
 use Rattle.nk_tabtext.specs.declared.written.WrittenTable.{WrittenTable}
 use Rattle.nk_tabtext.specs.Machine.{and_then}
-use Rattle.nk_tabtext.specs.Values.{Said, fault_if, first_of, unless, checked, way_read, bucket_of, bucket_read, buckets_read, has_key, group_of, group_fault, group_read, groups_read, target_read, row_with, row_read, rows_read, table_fault, table_of, table_read, tables_read, empty_table, table_for, pairs_read}
+use Rattle.nk_tabtext.specs.Values.{Said, fault_if, first_of, unless, checked, way_read, bucket_of, bucket_read, buckets_read, has_key, group_of, group_fault, group_read, groups_read, target_read, row_with, row_read, rows_read, table_fault, table_of, table_read, tables_read, empty_table, table_for, matches_read}
 use Rattle.nk_tabtext.specs.ReadBack.{IsExit}
 use Rattle.nk_tabtext.proofs.Lines.{number_on, written_way, written_bucket}
 use Rattle.nk_tabtext.proofs.TableLines.{HasOne, group_with, written_group, written_groups, written_target, written_row, written_rows, behind, written_tables}
-use Rattle.nk_tabtext.proofs.Merging.{AreGood, bucket_pairs, tag_first}
+use Rattle.nk_tabtext.specs.InOrder.{MatchesAscend}
+use Rattle.nk_tabtext.proofs.Merging.{AreGood, bucket_pairs}
+use Rattle.nk_tabtext.proofs.Matched.{AreFine, tag_first}
 
 -- no number above a bound
 not_above : (n k : ℕ) → n ≤ k → nat_lt k n ≡ false
@@ -45,7 +47,7 @@ way_back line (exit.Port n) h = ap (λ b. unless (fault_if b line) (exit.Port n)
 
 bucket_back : (fs : FieldTable) (line : ℕ) (b : Bucket) → IsBucketGood fs b → bucket_read fs (written_bucket fs line b) ≡ Ok b
 bucket_back fs line b h =
-    ap (λ r. and_then r (λ sets. and_then (way_read (written_way line b.exit)) (λ e. Ok (bucket_of sets e)))) (bucket_pairs fs 2 line 2 [] b.sets tt h.0 h.1)
+    ap (λ r. and_then r (λ sets. and_then (way_read (written_way line b.exit)) (λ e. Ok (bucket_of sets e)))) (bucket_pairs fs 2 line 2 b.sets h.0 h.1)
     ∙ ap (λ r. and_then r (λ e. Ok (bucket_of b.sets e))) (way_back line b.exit h.2)
 
 buckets_back : (fs : FieldTable) (line : ℕ) (before bs : List Bucket) → AreBucketsGood fs bs
@@ -190,10 +192,10 @@ IsTargetGood fs gs (does.Bucket b) = IsBucketGood fs b
 IsTargetGood fs gs (does.Group n) = list_any (λ g. g.number == n) gs ≡ true
 IsTargetGood fs gs does.Discard = Unit {0}
 
-abbrev pub AreRowsGood : FieldTable → List Group → List Row → Type 0
-AreRowsGood fs gs [] = Unit {0}
-AreRowsGood fs gs (w ∷ ws) =
-    ((w.priority ≤ 65535) × AscendsFrom 1 w.matches × AreGood fs 1 w.matches × IsTargetGood fs gs w.target) × AreRowsGood fs gs ws
+abbrev pub AreRowsGood : ℕ → FieldTable → List Group → List Row → Type 0
+AreRowsGood version fs gs [] = Unit {0}
+AreRowsGood version fs gs (w ∷ ws) =
+    ((w.priority ≤ 65535) × MatchesAscend 1 w.matches × AreFine version fs w.matches × IsTargetGood fs gs w.target) × AreRowsGood version fs gs ws
 
 target_back : (fs : FieldTable) (line : ℕ) (gs : List Group) (t : Target) → IsTargetGood fs gs t
     → target_read fs (map group_entry gs) (written_target fs line t) ≡ Ok t
@@ -201,21 +203,21 @@ target_back fs line gs (does.Bucket b) h = ap (λ r. and_then r (λ x. Ok (does.
 target_back fs line gs (does.Group n) h = ap (λ b. unless (fault_if (not b) line) (does.Group n)) (group_there n gs h)
 target_back fs line gs does.Discard h = refl
 
-rows_back : (fs : FieldTable) (line : ℕ) (gs : List Group) (before ws : List Row) → AreRowsGood fs gs ws
-    → rows_read fs (map group_entry gs) before (written_rows fs line ws) ≡ Ok (before ++ ws)
-rows_back fs line gs before [] h = ap (λ l. Ok l) (sym (append-nil before))
-rows_back fs line gs before (w ∷ ws) h =
-    ap (λ r. and_then r (λ x. rows_read fs es (before ++ x ∷ []) (written_rows fs (line + 1) ws))) one
-    ∙ rows_back fs (line + 1) gs (before ++ w ∷ []) ws h.1
+rows_back : (version : ℕ) (fs : FieldTable) (line : ℕ) (gs : List Group) (before ws : List Row) → AreRowsGood version fs gs ws
+    → rows_read version fs (map group_entry gs) before (written_rows fs line ws) ≡ Ok (before ++ ws)
+rows_back version fs line gs before [] h = ap (λ l. Ok l) (sym (append-nil before))
+rows_back version fs line gs before (w ∷ ws) h =
+    ap (λ r. and_then r (λ x. rows_read version fs es (before ++ x ∷ []) (written_rows fs (line + 1) ws))) one
+    ∙ rows_back version fs (line + 1) gs (before ++ w ∷ []) ws h.1
     ∙ ap (λ l. Ok l) (append_assoc before (w ∷ []) ws)
   where
     es : List (ℕ × Group)
     es = map group_entry gs
 
-    one : row_read fs es (written_row fs line w) ≡ Ok w
+    one : row_read version fs es (written_row fs line w) ≡ Ok w
     one =
-        ap (λ b. checked (fault_if b line) (and_then (pairs_read fs 1 [] (written_row fs line w).matches) (λ ms. and_then (target_read fs es (written_target fs line w.target)) (λ t. Ok (row_with (number_on line w.priority) ms t))))) (not_above w.priority 65535 h.0.0)
-        ∙ ap (λ r. and_then r (λ ms. and_then (target_read fs es (written_target fs line w.target)) (λ t. Ok (row_with (number_on line w.priority) ms t)))) (tag_first fs 1 line 1 w.matches h.0.1 h.0.2)
+        ap (λ b. checked (fault_if b line) (and_then (matches_read version fs [] (written_row fs line w).matches) (λ ms. and_then (target_read fs es (written_target fs line w.target)) (λ t. Ok (row_with (number_on line w.priority) ms t))))) (not_above w.priority 65535 h.0.0)
+        ∙ ap (λ r. and_then r (λ ms. and_then (target_read fs es (written_target fs line w.target)) (λ t. Ok (row_with (number_on line w.priority) ms t)))) (tag_first version fs line 1 w.matches h.0.1 h.0.2)
         ∙ ap (λ r. and_then r (λ t. Ok (row_with (number_on line w.priority) w.matches t))) (target_back fs line gs w.target h.0.3)
 
 -- ---- tables
@@ -224,24 +226,24 @@ rows_back fs line gs before (w ∷ ws) h =
 abbrev pub table_entry : Table → ℕ × Table
 table_entry t = (t.switch, t)
 
-abbrev pub AreTablesGood : Said → ℕ → List Table → Type 0
-AreTablesGood s low [] = Unit {0}
-AreTablesGood s low (t ∷ ts) =
-    ((low ≤ t.switch) × (t.switch ≤ 65535) × (is_switch s.topo t.switch ≡ true) × AreGroupsGood s.fields 1 t.groups × AreRowsGood s.fields t.groups t.rows)
-    × AreTablesGood s (t.switch + 1) ts
+abbrev pub AreTablesGood : ℕ → Said → ℕ → List Table → Type 0
+AreTablesGood version s low [] = Unit {0}
+AreTablesGood version s low (t ∷ ts) =
+    ((low ≤ t.switch) × (t.switch ≤ 65535) × (is_switch s.topo t.switch ≡ true) × AreGroupsGood s.fields 1 t.groups × AreRowsGood version s.fields t.groups t.rows)
+    × AreTablesGood version s (t.switch + 1) ts
 
 -- the entries' groups
 entries_groups : (gs : List Group) → map (λ e. e.1) (map group_entry gs) ≡ gs
 entries_groups [] = refl
 entries_groups (g ∷ gs) = ap (λ l. g ∷ l) (entries_groups gs)
 
-pub tables_back : (s : Said) (line low : ℕ) (before : List (ℕ × Table)) (ts : List Table) → KeysBelow low before → AreTablesGood s low ts
-    → tables_read s before (written_tables s.fields line ts) ≡ Ok (before ++ map table_entry ts)
-tables_back s line low before [] keys h = ap (λ l. Ok l) (sym (append-nil before))
-tables_back s line low before (t ∷ ts) keys h =
-    ap (λ r. and_then r (λ x. tables_read s (insert_entry nat_cmp before x.switch x) rest)) one
-    ∙ ap (λ l. tables_read s l rest) (put_last t.switch before t below)
-    ∙ tables_back s (behind rl t.rows) (t.switch + 1) (before ++ table_entry t ∷ []) ts (keys_push (t.switch + 1) before (table_entry t) (keys_more t.switch (t.switch + 1) before (omega arith) below) (omega arith)) h.1
+pub tables_back : (version : ℕ) (s : Said) (line low : ℕ) (before : List (ℕ × Table)) (ts : List Table) → KeysBelow low before → AreTablesGood version s low ts
+    → tables_read version s before (written_tables s.fields line ts) ≡ Ok (before ++ map table_entry ts)
+tables_back version s line low before [] keys h = ap (λ l. Ok l) (sym (append-nil before))
+tables_back version s line low before (t ∷ ts) keys h =
+    ap (λ r. and_then r (λ x. tables_read version s (insert_entry nat_cmp before x.switch x) rest)) one
+    ∙ ap (λ l. tables_read version s l rest) (put_last t.switch before t below)
+    ∙ tables_back version s (behind rl t.rows) (t.switch + 1) (before ++ table_entry t ∷ []) ts (keys_push (t.switch + 1) before (table_entry t) (keys_more t.switch (t.switch + 1) before (omega arith) below) (omega arith)) h.1
     ∙ ap (λ l. Ok l) (append_assoc before (table_entry t ∷ []) (map table_entry ts))
   where
     rl : ℕ
@@ -259,11 +261,11 @@ tables_back s line low before (t ∷ ts) keys h =
         ∙ ap (λ b. fault_if (not b || has_key before t.switch) line) h.0.2
         ∙ ap (λ o. fault_if (is_some o) line) (no_key t.switch before below)
 
-    one : table_read s before (record { switch = number_on line t.switch; groups = written_groups s.fields (line + 1) t.groups; rows = written_rows s.fields rl t.rows }) ≡ Ok t
+    one : table_read version s before (record { switch = number_on line t.switch; groups = written_groups s.fields (line + 1) t.groups; rows = written_rows s.fields rl t.rows }) ≡ Ok t
     one =
-        ap (λ f. checked f (and_then (groups_read s.fields [] (written_groups s.fields (line + 1) t.groups)) (λ gs. and_then (rows_read s.fields gs [] (written_rows s.fields rl t.rows)) (λ rs. Ok (table_of (number_on line t.switch) gs rs))))) fine
-        ∙ ap (λ r. and_then r (λ gs. and_then (rows_read s.fields gs [] (written_rows s.fields rl t.rows)) (λ rs. Ok (table_of (number_on line t.switch) gs rs)))) (groups_back s.fields (line + 1) 1 [] t.groups (omega arith) tt h.0.3)
-        ∙ ap (λ r. and_then r (λ rs. Ok (table_of (number_on line t.switch) (map group_entry t.groups) rs))) (rows_back s.fields rl t.groups [] t.rows h.0.4)
+        ap (λ f. checked f (and_then (groups_read s.fields [] (written_groups s.fields (line + 1) t.groups)) (λ gs. and_then (rows_read version s.fields gs [] (written_rows s.fields rl t.rows)) (λ rs. Ok (table_of (number_on line t.switch) gs rs))))) fine
+        ∙ ap (λ r. and_then r (λ gs. and_then (rows_read version s.fields gs [] (written_rows s.fields rl t.rows)) (λ rs. Ok (table_of (number_on line t.switch) gs rs)))) (groups_back s.fields (line + 1) 1 [] t.groups (omega arith) tt h.0.3)
+        ∙ ap (λ r. and_then r (λ rs. Ok (table_of (number_on line t.switch) (map group_entry t.groups) rs))) (rows_back version s.fields rl t.groups [] t.rows h.0.4)
         ∙ ap (λ l. Ok (record { switch = t.switch; groups = l; rows = t.rows })) (entries_groups t.groups)
 
 -- ascending tables

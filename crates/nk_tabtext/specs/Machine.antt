@@ -3,11 +3,13 @@ use Rattle.std.specs.Prelude.{◌≡◌, ℕ, List, [], ◌∷◌, ◌++◌, Opt
 use Rattle.std.specs.declared.result.Result.{Result}
 use Rattle.nk_lex.specs.declared.kind.Kind.TheVariants as kind
 use Rattle.nk_lex.specs.declared.token.Token.{Token}
+use Rattle.nk_tabtext.specs.declared.written.Word.{Word}
 use Rattle.nk_tabtext.specs.declared.written.Number.{Number}
 use Rattle.nk_tabtext.specs.declared.written.Pair.{Pair}
 use Rattle.nk_tabtext.specs.declared.written.Declaration.{Declaration}
 use Rattle.nk_tabtext.specs.declared.written.Declaration.TheVariants as declared
 use Rattle.nk_tabtext.specs.declared.written.Way.TheVariants as way
+use Rattle.nk_tabtext.specs.declared.written.WrittenMatch.{WrittenMatch}
 use Rattle.nk_tabtext.specs.declared.written.WrittenBucket.{WrittenBucket}
 use Rattle.nk_tabtext.specs.declared.written.WrittenTarget.{WrittenTarget}
 use Rattle.nk_tabtext.specs.declared.written.WrittenTarget.TheVariants as target
@@ -72,8 +74,16 @@ with_group t g = record t { groups = t.groups ++ g ∷ [] }
 abbrev pub with_row : WrittenTable → WrittenRow → WrittenTable
 with_row t r = record t { rows = t.rows ++ r ∷ [] }
 
+-- a match by its parts
+abbrev pub match_of : Word → Number → Option Number → WrittenMatch
+match_of w n l = record { name = w; number = n; length = l }
+
+-- matches and one more
+abbrev pub with_match : List WrittenMatch → Word → Number → Option Number → List WrittenMatch
+with_match ms w n l = ms ++ match_of w n l ∷ []
+
 -- a row by its parts
-abbrev pub row_of : Number → List Pair → WrittenTarget → WrittenRow
+abbrev pub row_of : Number → List WrittenMatch → WrittenTarget → WrittenRow
 row_of p ms t = record { priority = p; matches = ms; target = t }
 
 -- one more token of a link
@@ -139,8 +149,14 @@ begin_row x c t =
 abbrev pub begin_group : WrittenTables → WrittenTable → Terminal → Option Reading
 begin_group x c t = if is_mark kind.Group t then Some (reading stage.Group x c) else begin_row x c t
 
+-- a match or the arrow begins
+abbrev pub begin_match : WrittenTables → WrittenTable → Number → List WrittenMatch → Terminal → Option Reading
+begin_match x c p ms t =
+    with_name t (if is_mark kind.Arrow t then Some (reading (stage.Target p ms) x c) else None)
+    (λ w. Some (reading (stage.MatchNamed p ms w) x c))
+
 -- a target begins
-abbrev pub begin_target : WrittenTables → WrittenTable → Number → List Pair → Terminal → Option Reading
+abbrev pub begin_target : WrittenTables → WrittenTable → Number → List WrittenMatch → Terminal → Option Reading
 begin_target x c p ms t =
     if is_mark kind.OpenBracket t then Some (reading (stage.InBucket (owner.Row p ms) (place.Sets [])) x c)
     else if is_mark kind.Group t then Some (reading (stage.TargetGroup p ms) x c)
@@ -177,13 +193,15 @@ next_reading (stage.InBucket o p) x c t = bucket_on x c o (place_step p t)
 next_reading stage.Rows x c t = begin_row x c t
 next_reading stage.Row x c t = with_number t None (λ p. Some (reading (stage.RowNumbered p) x c))
 next_reading (stage.RowNumbered p) x c t = if is_mark kind.Colon t then Some (reading (stage.Matches p []) x c) else None
-next_reading (stage.Matches p ms) x c t =
-    with_name t (if is_mark kind.Arrow t then Some (reading (stage.Target p ms) x c) else None)
-    (λ w. Some (reading (stage.MatchNamed p ms w) x c))
+next_reading (stage.Matches p ms) x c t = begin_match x c p ms t
 next_reading (stage.MatchNamed p ms w) x c t =
     if is_mark kind.Equal t then Some (reading (stage.MatchTested p ms w) x c) else None
-next_reading (stage.MatchTested p ms w) x c t =
-    with_number t None (λ n. Some (reading (stage.Matches p (ms ++ record { name = w; number = n } ∷ [])) x c))
+next_reading (stage.MatchTested p ms w) x c t = with_number t None (λ n. Some (reading (stage.MatchValued p ms w n) x c))
+next_reading (stage.MatchValued p ms w n) x c t =
+    if is_mark kind.Slash t then Some (reading (stage.MatchSlashed p ms w n) x c)
+    else begin_match x c p (with_match ms w n None) t
+next_reading (stage.MatchSlashed p ms w n) x c t =
+    with_number t None (λ l. Some (reading (stage.Matches p (with_match ms w n (Some l))) x c))
 next_reading (stage.Target p ms) x c t = begin_target x c p ms t
 next_reading (stage.TargetGroup p ms) x c t =
     with_number t None (λ n. Some (reading stage.Rows x (with_row c (row_of p ms (target.Group n)))))

@@ -1,10 +1,11 @@
 -- Tables of the kind that a text describes: what is printed of them is read as them.
-use Rattle.std.specs.Prelude.{◌≡◌, ◌==◌, ◌≤◌, ◌<◌, ℕ, true, List, Ok, IsSome, All, AllPairs, length, map, ⊤}
+use Rattle.std.specs.Prelude.{◌≡◌, ◌==◌, ◌≤◌, ◌<◌, ℕ, ◌-◌, ◌%◌, ◌^◌, true, List, Ok, IsSome, All, AllPairs, length, map, slice_index, ⊤}
 use Rattle.std.specs.List.{list_any}
 use Rattle.nk_lex.specs.Lex.{largest}
 use Rattle.nk_lex.specs.Spelling.{IsName}
 use Rattle.nk_field.specs.Packet.{FieldTable, IsFieldTable, IsValue}
 use Rattle.nk_field.specs.Act.{AscendsFrom}
+use Rattle.nk_prefix.specs.Prefix.{digits_of}
 use Rattle.nk_topo.specs.Topology.{IsTopology, numbers_of}
 use Rattle.nk_table.specs.declared.Tables.{Tables}
 use Rattle.nk_table.specs.declared.Table.{Table}
@@ -17,6 +18,7 @@ use Rattle.nk_table.specs.declared.Exit.{Exit}
 use Rattle.nk_table.specs.declared.Exit.TheVariants as exit
 use Rattle.nk_lex.specs.declared.token.Token.{Token}
 use Rattle.nk_lex.specs.Lex.{tokens_of}
+use Rattle.nk_tabtext.specs.InOrder.{MatchesAscend}
 use Rattle.nk_tabtext.specs.Text.{table_bytes}
 use Rattle.nk_tabtext.specs.Values.{tables_of}
 
@@ -44,11 +46,18 @@ IsTargetOf fields groups (does.Bucket b) = IsBucketOf fields b
 IsTargetOf fields groups (does.Group n) = list_any (λ g. g.number == n) groups ≡ true
 IsTargetOf fields groups does.Discard = ⊤
 
--- a row matches fields but the switch, ascending, in range
+-- a match has a value in its field's range of which one digit counts or more, up to all, and zeros behind those
+pub record IsMatchOf (fields : FieldTable) (m : ℕ × ℕ × ℕ) : Type 0 where
+  pub value : IsValue fields m.0 m.1
+  pub some : 1 ≤ m.2
+  pub most : m.2 ≤ digits_of (slice_index fields.maxima m.0)
+  pub zeros : m.1 % 2 ^ (digits_of (slice_index fields.maxima m.0) - m.2) ≡ 0
+
+-- a row matches fields but the switch, ascending
 pub record IsRowOf (fields : FieldTable) (groups : List Group) (r : Row) : Type 0 where
   pub priority : r.priority ≤ 65535
-  pub ascend : AscendsFrom 1 r.matches
-  pub values : All (λ m. IsValue fields m.0 m.1) r.matches
+  pub ascend : MatchesAscend 1 r.matches
+  pub matches : All (IsMatchOf fields) r.matches
   pub target : IsTargetOf fields groups r.target
 
 -- a table's groups ascend by number

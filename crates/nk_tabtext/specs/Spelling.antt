@@ -5,10 +5,10 @@
 --           | link NUMBER : NUMBER -> NUMBER : NUMBER
 --   section : table NUMBER { groupd } { rowd }
 --   groupd  : group NUMBER = bucket { bucket }
---   rowd    : row NUMBER : { NAME = NUMBER } -> target
+--   rowd    : row NUMBER : { NAME = NUMBER | NAME = NUMBER / NUMBER } -> target
 --   target  : bucket | group NUMBER | drop
 --   bucket  : [ { NAME := NUMBER } out NUMBER ] | [ { NAME := NUMBER } out in ]
-use Rattle.std.specs.Prelude.{◌≡◌, List, [], ◌∷◌, ◌++◌}
+use Rattle.std.specs.Prelude.{◌≡◌, Option, Some, None, List, [], ◌∷◌, ◌++◌}
 use Rattle.std.specs.List.{flat_map}
 use Rattle.nk_lex.specs.declared.kind.Kind.TheVariants as kind
 use Rattle.nk_tabtext.specs.declared.written.Number.{Number}
@@ -17,6 +17,7 @@ use Rattle.nk_tabtext.specs.declared.written.Declaration.{Declaration}
 use Rattle.nk_tabtext.specs.declared.written.Declaration.TheVariants as declared
 use Rattle.nk_tabtext.specs.declared.written.Way.{Way}
 use Rattle.nk_tabtext.specs.declared.written.Way.TheVariants as way
+use Rattle.nk_tabtext.specs.declared.written.WrittenMatch.{WrittenMatch}
 use Rattle.nk_tabtext.specs.declared.written.WrittenBucket.{WrittenBucket}
 use Rattle.nk_tabtext.specs.declared.written.WrittenTarget.{WrittenTarget}
 use Rattle.nk_tabtext.specs.declared.written.WrittenTarget.TheVariants as target
@@ -39,9 +40,14 @@ spell_declaration (declared.Switch n p ps) =
 spell_declaration (declared.Link a m b n) =
     mark kind.Link ∷ number a ∷ mark kind.Colon ∷ number m ∷ mark kind.Arrow ∷ number b ∷ mark kind.Colon ∷ number n ∷ []
 
+-- how many digits of a match's value count, where it is written
+abbrev pub spell_length : Option Number → List Terminal
+spell_length None = []
+spell_length (Some n) = mark kind.Slash ∷ number n ∷ []
+
 -- a match
-abbrev pub spell_match : Pair → List Terminal
-spell_match p = name p.name ∷ mark kind.Equal ∷ number p.number ∷ []
+abbrev pub spell_match : WrittenMatch → List Terminal
+spell_match m = name m.name ∷ mark kind.Equal ∷ number m.number ∷ spell_length m.length
 
 -- an assignment
 abbrev pub spell_set : Pair → List Terminal
@@ -64,7 +70,7 @@ spell_target (target.Group n) = mark kind.Group ∷ number n ∷ []
 spell_target target.Discard = mark kind.Drop ∷ []
 
 -- a row up to its matches
-abbrev pub spell_matches : Number → List Pair → List Terminal
+abbrev pub spell_matches : Number → List WrittenMatch → List Terminal
 spell_matches p ms = mark kind.Row ∷ number p ∷ mark kind.Colon ∷ flat_map spell_match ms
 
 -- a row

@@ -57,8 +57,10 @@ place_of kind.FatArrow = 30
 place_of kind.Arrow = 31
 place_of kind.Colon = 32
 place_of kind.Comma = 33
-place_of kind.OpenBracket = 34
-place_of kind.CloseBracket = 35
+place_of kind.Slash = 34
+place_of kind.DotDot = 35
+place_of kind.OpenBracket = 36
+place_of kind.CloseBracket = 37
 
 -- a token of this kind, which is no name and no number
 abbrev pub is_mark : Kind → Terminal → Bool

@@ -1,10 +1,12 @@
--- The printed form of tables, as bytes. Its lines: `tables 1`; the declared fields with their largest values; the tag;
--- the switches with their ports; the links; and for each switch its table, that is its groups and its rows. What stands
--- in order in the tables, as they are read, stands so in the text: switches, ports, links, groups, matches by field.
-use Rattle.std.specs.Prelude.{ℕ, ◌==◌, Bool, true, false, codes, Option, Some, None, List, [], ◌∷◌, ◌++◌, drop, slice_index_or}
+-- The printed form of tables, as bytes. Its lines: `tables 2` where some match is a prefix, else `tables 1`; the declared
+-- fields with their largest values; the tag; the switches with their ports; the links; and for each switch its table, that
+-- is its groups and its rows. What stands in order in the tables, as they are read, stands so in the text: switches, ports,
+-- links, groups, matches by field.
+use Rattle.std.specs.Prelude.{ℕ, ◌==◌, not, Bool, true, false, if◌then◌else◌, codes, Option, Some, None, List, [], ◌∷◌, ◌++◌, drop, slice_index, slice_index_or}
 use Rattle.std.specs.Fmt.{decimal}
-use Rattle.std.specs.List.{flat_map}
+use Rattle.std.specs.List.{flat_map, list_any}
 use Rattle.nk_field.specs.Packet.{FieldTable}
+use Rattle.nk_prefix.specs.Prefix.{digits_of}
 use Rattle.nk_topo.specs.Topology.{Topology, SwitchPorts, Link}
 use Rattle.nk_table.specs.declared.Tables.{Tables}
 use Rattle.nk_table.specs.declared.Table.{Table}
@@ -78,9 +80,17 @@ link_text l =
 abbrev pub topology_text : Topology → List ℕ
 topology_text t = flat_map switch_text t.switches ++ flat_map link_text t.links
 
+-- all digits of the field count in a match
+abbrev pub is_exact : FieldTable → ℕ × ℕ × ℕ → Bool
+is_exact fs m = m.2 == digits_of (slice_index fs.maxima m.0)
+
+-- how many digits of its value count, unless all do
+abbrev pub length_text : FieldTable → ℕ × ℕ × ℕ → List ℕ
+length_text fs m = if is_exact fs m then [] else codes "/" ++ decimal m.2
+
 -- one match, with a space behind it
-abbrev pub match_text : FieldTable → ℕ × ℕ → List ℕ
-match_text fs m = name_of fs m.0 ++ codes "=" ++ decimal m.1 ++ codes " "
+abbrev pub match_text : FieldTable → ℕ × ℕ × ℕ → List ℕ
+match_text fs m = name_of fs m.0 ++ codes "=" ++ decimal m.1 ++ length_text fs m ++ codes " "
 
 -- one assignment, with a space behind it
 abbrev pub set_text : FieldTable → ℕ × ℕ → List ℕ
@@ -94,7 +104,7 @@ where_same false true text = []
 where_same false false text = text
 
 -- the matches of the tag, or the other ones
-abbrev pub matches_text : FieldTable → Bool → List (ℕ × ℕ) → List ℕ
+abbrev pub matches_text : FieldTable → Bool → List (ℕ × ℕ × ℕ) → List ℕ
 matches_text fs tag ms = flat_map (λ m. where_same (is_tag fs m.0) tag (match_text fs m)) ms
 
 -- the assignments of the tag, or the other ones
@@ -146,10 +156,22 @@ rules_text fs tables sw = flat_map (group_text fs) (groups_of tables sw) ++ flat
 abbrev pub section_text : FieldTable → List Table → ℕ → List ℕ
 section_text fs tables sw = codes "table " ++ decimal sw ++ codes "\n" ++ rules_text fs tables sw
 
+-- whether some match of these rows is a prefix
+abbrev pub have_prefix : FieldTable → List Row → Bool
+have_prefix fs rows = list_any (λ r. list_any (λ m. not (is_exact fs m)) r.matches) rows
+
+-- the number behind the word `tables`: 2 where some match of a switch's rows is a prefix
+abbrev pub version_of : Tables → ℕ
+version_of t = if list_any (λ s. have_prefix t.fields (rows_of t.tables s.switch)) t.topo.switches then 2 else 1
+
+-- the line of this version
+abbrev pub version_text : ℕ → List ℕ
+version_text n = codes "tables " ++ decimal n ++ codes "\n"
+
 -- the bytes of the tables' text
 abbrev pub table_bytes : Tables → List ℕ
 table_bytes t =
-    codes "tables 1\n"
+    version_text (version_of t)
     ++ fields_text t.fields
     ++ tag_text t.fields
     ++ topology_text t.topo

@@ -1,6 +1,7 @@
 -- The tables that a text writes, or the line of its first fault. Fields, switches and links are declared first; then come
--- the tables of switches, with groups by number, matches and assignments by field, rows and buckets as they are written.
-use Rattle.std.specs.Prelude.{ℕ, ◌==◌, ◌||◌, not, nat_lt, nat_le, Bool, false, ⊤, Option, Some, None, Ok, Err, is_some, is_none, if◌then◌else◌, unwrap_or, map, List, [], ◌∷◌, ◌++◌, length, slice_index, IsUtf8}
+-- the tables of switches, with groups by number, matches and assignments by field, rows and buckets as they are written. A
+-- match may be a prefix: how many of the value's binary digits count, from the highest on.
+use Rattle.std.specs.Prelude.{ℕ, ◌-◌, ◌%◌, ◌^◌, ◌==◌, ◌||◌, not, nat_lt, nat_le, Bool, false, ⊤, Option, Some, None, Ok, Err, is_some, is_none, if◌then◌else◌, unwrap_or, map, List, [], ◌∷◌, ◌++◌, length, slice_index, IsUtf8}
 use Rattle.std.specs.declared.result.Result.{Result}
 use Rattle.std.specs.Option.{option_or}
 use Rattle.std.specs.List.{list_any}
@@ -13,7 +14,8 @@ use Rattle.nk_lex.specs.declared.token.LexError.TheVariants as lexical
 use Rattle.nk_lex.specs.Lex.{tokens_of}
 use Rattle.nk_field.specs.Packet.{FieldTable, built_in, field_named, with_field}
 use Rattle.nk_field.specs.Act.{act_then}
-use Rattle.nk_topo.specs.Topology.{Topology, Link, no_topology, numbers_of, is_switch, is_port, is_target, link_from, with_switch, with_link}
+use Rattle.nk_prefix.specs.Prefix.{digits_of}
+use Rattle.nk_topo.specs.Topology.{Topology, Link, no_topology, placed, numbers_of, is_switch, is_port, is_target, link_from, with_switch, with_link}
 use Rattle.nk_table.specs.declared.Tables.{Tables}
 use Rattle.nk_table.specs.declared.Table.{Table}
 use Rattle.nk_table.specs.declared.Row.{Row}
@@ -26,6 +28,7 @@ use Rattle.nk_table.specs.declared.Exit.TheVariants as exit
 use Rattle.nk_tabtext.specs.declared.written.Word.{Word}
 use Rattle.nk_tabtext.specs.declared.written.Number.{Number}
 use Rattle.nk_tabtext.specs.declared.written.Pair.{Pair}
+use Rattle.nk_tabtext.specs.declared.written.WrittenMatch.{WrittenMatch}
 use Rattle.nk_tabtext.specs.declared.written.Declaration.{Declaration}
 use Rattle.nk_tabtext.specs.declared.written.Declaration.TheVariants as declared
 use Rattle.nk_tabtext.specs.declared.written.Way.{Way}
@@ -158,14 +161,19 @@ place_in fields w = unwrap_or (field_named fields w.text) 0
 abbrev pub most_in : FieldTable → Word → ℕ
 most_in fields w = slice_index fields.maxima (place_in fields w)
 
--- a match or an assignment behind others: its name is a field's from `low` on, and new, and its value is in range
-abbrev pub pair_fault : FieldTable → (low : ℕ) → List (ℕ × ℕ) → Pair → MaybeFault
-pair_fault fields low before p =
+-- a field with a value: its name is that of a field from `low` on which is not taken, and the value is in its range
+abbrev pub value_fault : FieldTable → (low : ℕ) → (taken : Bool) → Word → Number → MaybeFault
+value_fault fields low taken w n =
     first_of
     (first_of
-    (fault_if (not (is_from low (field_named fields p.name.text))) p.name.line)
-    (fault_if (list_any (λ s. s.0 == place_in fields p.name) before) p.name.line))
-    (above (most_in fields p.name) p.number)
+    (fault_if (not (is_from low (field_named fields w.text))) w.line)
+    (fault_if taken w.line))
+    (above (most_in fields w) n)
+
+-- an assignment behind others: its field, from `low` on, has none of them
+abbrev pub pair_fault : FieldTable → (low : ℕ) → List (ℕ × ℕ) → Pair → MaybeFault
+pair_fault fields low before p =
+    value_fault fields low (list_any (λ s. s.0 == place_in fields p.name) before) p.name p.number
 
 -- the field and the value
 abbrev pub pair_read : FieldTable → (low : ℕ) → List (ℕ × ℕ) → Pair → Result (ℕ × ℕ) ReadError
@@ -176,6 +184,49 @@ abbrev pub pairs_read : FieldTable → (low : ℕ) → List (ℕ × ℕ) → Lis
 pairs_read fields low before [] = Ok before
 pairs_read fields low before (p ∷ ps) =
     and_then (pair_read fields low before p) (λ s. pairs_read fields low (act_then before (s ∷ [])) ps)
+
+-- how many binary digits a field's largest value has
+abbrev pub digits_in : FieldTable → Word → ℕ
+digits_in fields w = digits_of (most_in fields w)
+
+-- how many of so many digits count: as many as are written, else all
+abbrev pub length_in : (digits : ℕ) → Option Number → ℕ
+length_in digits None = digits
+length_in digits (Some l) = l.value
+
+-- a length is written in a text of version 2 alone, and at least one digit counts, at most all
+abbrev pub length_fault : (version digits : ℕ) → Option Number → MaybeFault
+length_fault version digits None = None
+length_fault version digits (Some l) =
+    fault_if (not (version == 2) || ((l.value == 0) || nat_lt digits l.value)) l.line
+
+-- behind the digits that count a value has zeros
+abbrev pub ones_fault : (digits length : ℕ) → Number → MaybeFault
+ones_fault digits length n = fault_if (not (n.value % 2 ^ (digits - length) == 0)) n.line
+
+-- a match behind others: its field, but the switch, has none of them; last it is looked at its digits
+abbrev pub match_fault : (version : ℕ) → FieldTable → List (ℕ × ℕ × ℕ) → WrittenMatch → MaybeFault
+match_fault version fields before m =
+    let digits = digits_in fields m.name in
+    first_of
+    (value_fault fields 1 (list_any (λ s. s.0 == place_in fields m.name) before) m.name m.number)
+    (first_of (length_fault version digits m.length) (ones_fault digits (length_in digits m.length) m.number))
+
+-- the field, the value and how many of its digits count
+abbrev pub match_read : (version : ℕ) → FieldTable → List (ℕ × ℕ × ℕ) → WrittenMatch → Result (ℕ × ℕ × ℕ) ReadError
+match_read version fields before m =
+    unless (match_fault version fields before m)
+    (place_in fields m.name, m.number.value, length_in (digits_in fields m.name) m.length)
+
+-- a match put behind those of lower fields
+abbrev pub put_match : ℕ × ℕ × ℕ → List (ℕ × ℕ × ℕ) → List (ℕ × ℕ × ℕ)
+put_match m before = placed (λ x. nat_lt x.0 m.0) m before
+
+-- all of them, by field
+abbrev pub matches_read : (version : ℕ) → FieldTable → List (ℕ × ℕ × ℕ) → List WrittenMatch → Result (List (ℕ × ℕ × ℕ)) ReadError
+matches_read version fields before [] = Ok before
+matches_read version fields before (m ∷ ms) =
+    and_then (match_read version fields before m) (λ s. matches_read version fields (put_match s before) ms)
 
 -- an exit: its number is a port's
 abbrev pub way_read : Way → Result Exit ReadError
@@ -228,20 +279,20 @@ target_read fields groups (target.Group n) = unless (fault_if (not (has_key grou
 target_read fields groups target.Discard = Ok does.Discard
 
 -- a row by its parts
-abbrev pub row_with : Number → List (ℕ × ℕ) → Target → Row
+abbrev pub row_with : Number → List (ℕ × ℕ × ℕ) → Target → Row
 row_with p ms t = record { priority = p.value; matches = ms; target = t }
 
 -- a row: it matches fields but the switch
-abbrev pub row_read : FieldTable → List (ℕ × Group) → WrittenRow → Result Row ReadError
-row_read fields groups r =
+abbrev pub row_read : (version : ℕ) → FieldTable → List (ℕ × Group) → WrittenRow → Result Row ReadError
+row_read version fields groups r =
     checked (above 65535 r.priority)
-    (and_then (pairs_read fields 1 [] r.matches) (λ ms. and_then (target_read fields groups r.target) (λ t. Ok (row_with r.priority ms t))))
+    (and_then (matches_read version fields [] r.matches) (λ ms. and_then (target_read fields groups r.target) (λ t. Ok (row_with r.priority ms t))))
 
 -- rows behind others
-abbrev pub rows_read : FieldTable → List (ℕ × Group) → List Row → List WrittenRow → Result (List Row) ReadError
-rows_read fields groups before [] = Ok before
-rows_read fields groups before (r ∷ rs) =
-    and_then (row_read fields groups r) (λ x. rows_read fields groups (before ++ x ∷ []) rs)
+abbrev pub rows_read : (version : ℕ) → FieldTable → List (ℕ × Group) → List Row → List WrittenRow → Result (List Row) ReadError
+rows_read version fields groups before [] = Ok before
+rows_read version fields groups before (r ∷ rs) =
+    and_then (row_read version fields groups r) (λ x. rows_read version fields groups (before ++ x ∷ []) rs)
 
 -- a table's switch is declared, and has no table before
 abbrev pub table_fault : Topology → List (ℕ × Table) → Number → MaybeFault
@@ -253,16 +304,16 @@ abbrev pub table_of : Number → List (ℕ × Group) → List Row → Table
 table_of n groups rows = record { switch = n.value; groups = map (λ e. e.1) groups; rows = rows }
 
 -- a table behind others
-abbrev pub table_read : Said → List (ℕ × Table) → WrittenTable → Result Table ReadError
-table_read s before t =
+abbrev pub table_read : (version : ℕ) → Said → List (ℕ × Table) → WrittenTable → Result Table ReadError
+table_read version s before t =
     checked (table_fault s.topo before t.switch)
-    (and_then (groups_read s.fields [] t.groups) (λ gs. and_then (rows_read s.fields gs [] t.rows) (λ rs. Ok (table_of t.switch gs rs))))
+    (and_then (groups_read s.fields [] t.groups) (λ gs. and_then (rows_read version s.fields gs [] t.rows) (λ rs. Ok (table_of t.switch gs rs))))
 
 -- tables behind others, by switch
-abbrev pub tables_read : Said → List (ℕ × Table) → List WrittenTable → Result (List (ℕ × Table)) ReadError
-tables_read s before [] = Ok before
-tables_read s before (t ∷ ts) =
-    and_then (table_read s before t) (λ x. tables_read s (insert_entry nat_cmp before x.switch x) ts)
+abbrev pub tables_read : (version : ℕ) → Said → List (ℕ × Table) → List WrittenTable → Result (List (ℕ × Table)) ReadError
+tables_read version s before [] = Ok before
+tables_read version s before (t ∷ ts) =
+    and_then (table_read version s before t) (λ x. tables_read version s (insert_entry nat_cmp before x.switch x) ts)
 
 -- a table without groups and rows
 abbrev pub empty_table : ℕ → Table
@@ -274,9 +325,9 @@ table_for tables sw = unwrap_or (lookup (is_at (nat_cmp sw)) tables) (empty_tabl
 
 -- ---- the whole
 
--- the number behind the word `tables` is 1
+-- the number behind the word `tables` is 1 or 2
 abbrev pub version_fault : Number → MaybeFault
-version_fault n = fault_if (not (n.value == 1)) n.line
+version_fault n = fault_if (not ((n.value == 1) || (n.value == 2))) n.line
 
 -- the tables of all declared switches
 abbrev pub whole : Said → List (ℕ × Table) → Tables
@@ -287,7 +338,7 @@ abbrev pub tables_from : ℕ → WrittenTables → Result Tables ReadError
 tables_from line x =
     checked (version_fault x.version)
     (and_then (said_after x.declarations nothing_said)
-    (λ s. and_then (tables_read s [] x.tables) (λ ts. unless (fault_if (is_none s.fields.tag) line) (whole s ts))))
+    (λ s. and_then (tables_read x.version.value s [] x.tables) (λ ts. unless (fault_if (is_none s.fields.tag) line) (whole s ts))))
 
 -- the last token's line, or the one given where there is no token
 abbrev pub last_line : ℕ → List Token → ℕ

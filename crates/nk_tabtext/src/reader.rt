@@ -1,10 +1,11 @@
 //! A text of tables read token by token.
-ghost use Rattle.std.specs.Prelude.{◌≡◌, ◌++◌, ◌∷◌, [], Some, None, Ok, OnOk, IfErr};
+ghost use Rattle.std.specs.Prelude.{◌≡◌, ◌++◌, ◌∷◌, [], Some, None, Ok, OnOk, IfOk, IfErr};
 ghost use Rattle.nk_tabtext.specs.declared.written.Declaration.TheVariants as declared;
 ghost use Rattle.nk_tabtext.specs.Machine.{
   Returns,
   begin,
   begin_group,
+  begin_match,
   begin_row,
   begin_target,
   bucket_done,
@@ -22,6 +23,7 @@ ghost use Rattle.nk_tabtext.specs.Machine.{
   row_of,
   with_declaration,
   with_group,
+  with_match,
   with_row,
   with_table,
   written_at_end,
@@ -34,7 +36,7 @@ ghost use Rattle.nk_tabtext.specs.Terminal.{terminal_of};
 use crate::parts::{name_of, number_of, place_after, quad_after};
 use crate::stage::{Owner, Place, PlaceNext, Quad, QuadNext, Stage};
 use crate::written::{
-    Declaration, Number, Pair, ReadError, Word, WrittenBucket, WrittenGroup, WrittenRow,
+    Declaration, Number, ReadError, Word, WrittenBucket, WrittenGroup, WrittenMatch, WrittenRow,
     WrittenTable, WrittenTables, WrittenTarget,
 };
 use nk_field::List;
@@ -125,22 +127,45 @@ impl Reader {
         }
     }
 
-    /// The value of a match is wanted.
-    fn take_value(
+    /// A match has no length that is written, and another, or the arrow, or a `/` is wanted.
+    fn take_after_value(
         &mut self,
+        alloc: Global,
         priority: Number,
-        matches: List<Pair>,
+        matches: List<WrittenMatch>,
         name: Word,
+        number: Number,
         token: &Token,
     ) -> Result<(), ReadError>
         ensures { Returns (λ _. reading_of self.new) result
-            (judged token.now.line (next_reading (stage.MatchTested priority matches name) self.old.text
+            (judged token.now.line (next_reading (stage.MatchValued priority matches name number) self.old.text
+            self.old.table (terminal_of token.now))) }
+    {
+        match token.kind {
+            Kind::Slash => self.go(Stage::MatchSlashed(priority, matches, name, number)),
+            _ => {
+                let matches = with_match(matches, name, number, None)?;
+                self.take_match(alloc, priority, matches, token)
+            }
+        }
+    }
+
+    /// The length of a match is wanted.
+    fn take_length(
+        &mut self,
+        priority: Number,
+        matches: List<WrittenMatch>,
+        name: Word,
+        number: Number,
+        token: &Token,
+    ) -> Result<(), ReadError>
+        ensures { Returns (λ _. reading_of self.new) result
+            (judged token.now.line (next_reading (stage.MatchSlashed priority matches name number) self.old.text
             self.old.table (terminal_of token.now))) }
     {
         match number_of(token) {
-            Some(number) => {
-                let mut matches = matches;
-                matches.push(Pair { name, number })?;
+            Some(length) => {
+                let matches = with_match(matches, name, number, Some(length))?;
                 self.go(Stage::Matches(priority, matches))
             }
             None => Err(unexpected(token)),
@@ -178,7 +203,7 @@ impl Reader {
     fn finish_row(
         &mut self,
         priority: Number,
-        matches: List<Pair>,
+        matches: List<WrittenMatch>,
         target: WrittenTarget,
     ) -> Result<(), ReadError>
         ensures { Returns (λ _. reading_of self.new) result
@@ -390,7 +415,7 @@ impl Reader {
         &mut self,
         alloc: Global,
         priority: Number,
-        matches: List<Pair>,
+        matches: List<WrittenMatch>,
         token: &Token,
     ) -> Result<(), ReadError>
         ensures { Returns (λ _. reading_of self.new) result
@@ -413,11 +438,11 @@ impl Reader {
         &mut self,
         alloc: Global,
         priority: Number,
-        matches: List<Pair>,
+        matches: List<WrittenMatch>,
         token: &Token,
     ) -> Result<(), ReadError>
         ensures { Returns (λ _. reading_of self.new) result
-            (judged token.now.line (next_reading (stage.Matches priority matches) self.old.text self.old.table
+            (judged token.now.line (begin_match self.old.text self.old.table priority matches
             (terminal_of token.now))) }
     {
         match name_of(alloc, token)? {
@@ -503,8 +528,15 @@ impl Reader {
                 Kind::Equal => self.go(Stage::MatchTested(priority, matches, name)),
                 _ => Err(unexpected(token)),
             },
-            Stage::MatchTested(priority, matches, name) => {
-                self.take_value(priority, matches, name, token)
+            Stage::MatchTested(priority, matches, name) => match number_of(token) {
+                Some(number) => self.go(Stage::MatchValued(priority, matches, name, number)),
+                None => Err(unexpected(token)),
+            },
+            Stage::MatchValued(priority, matches, name, number) => {
+                self.take_after_value(alloc, priority, matches, name, number, token)
+            }
+            Stage::MatchSlashed(priority, matches, name, number) => {
+                self.take_length(priority, matches, name, number, token)
             }
             Stage::Target(priority, matches) => self.take_target(alloc, priority, matches, token),
             Stage::TargetGroup(priority, matches) => match number_of(token) {
@@ -537,6 +569,24 @@ impl Reader {
             _ => Err(ReadError::Unexpected { line }),
         }
     }
+}
+
+/// Matches and one more.
+fn with_match(
+    matches: List<WrittenMatch>,
+    name: Word,
+    number: Number,
+    length: Option<Number>,
+) -> Result<List<WrittenMatch>, AllocError>
+    ensures { IfOk result (λ l. l ≡ with_match matches name number length) }
+{
+    let mut matches = matches;
+    matches.push(WrittenMatch {
+        name,
+        number,
+        length,
+    })?;
+    Ok(matches)
 }
 
 /// The text with one more table.

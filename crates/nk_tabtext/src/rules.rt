@@ -1,11 +1,13 @@
 //! Matches, buckets, groups, rows and sections, each put behind a text.
-ghost use Rattle.std.specs.Prelude.{◌≡◌, ◌++◌, codes, OnOk};
-ghost use Rattle.std.specs.List.{flat_map};
-ghost use Rattle.nk_tabtext.specs.Text.{is_tag, name_of, match_text, set_text, where_same, matches_text, sets_text, exit_text, bucket_text, target_text, row_text, group_text, rules_text, section_text};
+ghost use Rattle.std.specs.Prelude.{◌≡◌, ◌++◌, not, codes, OnOk};
+ghost use Rattle.std.specs.List.{flat_map, list_any};
+ghost use Rattle.nk_table.specs.Rules.{rows_of};
+ghost use Rattle.nk_tabtext.specs.Text as text;
+ghost use Rattle.nk_tabtext.specs.Text.{is_tag, name_of, length_text, match_text, set_text, where_same, matches_text, sets_text, exit_text, bucket_text, target_text, row_text, group_text, rules_text, section_text, version_of};
 
 use crate::number;
 use nk_field::{Fid, Fields};
-use nk_table::{Bucket, Exit, Group, Row, Table, Target};
+use nk_table::{Bucket, Exit, Group, Row, Table, Tables, Target, digits_at, rows_at};
 use std::alloc::AllocError;
 
 /// Whether a field is the tag.
@@ -18,13 +20,82 @@ fn is_the_tag(fs: &Fields, f: Fid) -> bool
     }
 }
 
-/// A match, with a space behind it.
-fn one_match(out: &mut Vec<u8>, fs: &Fields, f: Fid, n: u64) -> Result<(), AllocError>
-    ensures { OnOk result (out.new.items ≡ out.old.items ++ match_text fs.now (f, n)) }
+/// Whether all digits of the field count in a match.
+fn is_exact(fs: &Fields, m: &(Fid, u64, u8)) -> bool
+    ensures { result ≡ text.is_exact fs.now m.now }
 {
+    let (f, _, length) = *m;
+    length == digits_at(fs, f)
+}
+
+/// Whether some of these matches is a prefix.
+fn some_prefix(fs: &Fields, ms: &[(Fid, u64, u8)]) -> bool
+    ensures { result ≡ list_any (λ m. not (text.is_exact fs.now m)) ms.now }
+{
+    for m in ms {
+        if !is_exact(fs, m) {
+            return true;
+        }
+    }
+    false
+}
+
+/// Whether some match of these rows is a prefix.
+fn have_prefix(fs: &Fields, rows: &[Row]) -> bool
+    ensures { result ≡ text.have_prefix fs.now rows.now }
+{
+    for row in rows {
+        if some_prefix(fs, row.matches.as_slice()) {
+            return true;
+        }
+    }
+    false
+}
+
+/// Whether some match in the tables of these switches is a prefix.
+fn some_table(t: &Tables, numbers: &[u16]) -> bool
+    ensures { result ≡ list_any (λ n. text.have_prefix t.now.fields (rows_of t.now.tables n)) numbers.now }
+{
+    for n in numbers {
+        if have_prefix(&t.fields, rows_at(t.tables.as_slice(), *n)) {
+            return true;
+        }
+    }
+    false
+}
+
+/// The number of the text's version: 2 where some match is a prefix, else 1.
+pub(crate) fn version(t: &Tables) -> u64
+    ensures { result ≡ version_of t.now }
+{
+    if some_table(t, t.topo.switches()) {
+        2
+    } else {
+        1
+    }
+}
+
+/// How many digits of a match's value count, unless all do.
+fn length(out: &mut Vec<u8>, fs: &Fields, m: &(Fid, u64, u8)) -> Result<(), AllocError>
+    ensures { OnOk result (out.new.items ≡ out.old.items ++ length_text fs.now m.now) }
+{
+    if is_exact(fs, m) {
+        return Ok(());
+    }
+    let (_, _, length) = *m;
+    out.extend_from_slice(b"/")?;
+    number(out, length as u64)
+}
+
+/// A match, with a space behind it.
+fn one_match(out: &mut Vec<u8>, fs: &Fields, m: &(Fid, u64, u8)) -> Result<(), AllocError>
+    ensures { OnOk result (out.new.items ≡ out.old.items ++ match_text fs.now m.now) }
+{
+    let (f, value, _) = *m;
     out.extend_from_slice(fs.name(f).as_bytes())?;
     out.extend_from_slice(b"=")?;
-    number(out, n)?;
+    number(out, value)?;
+    length(out, fs, m)?;
     out.extend_from_slice(b" ")?;
     Ok(())
 }
@@ -44,23 +115,24 @@ fn one_set(out: &mut Vec<u8>, fs: &Fields, f: Fid, n: u64) -> Result<(), AllocEr
 fn some_matches(
     out: &mut Vec<u8>,
     fs: &Fields,
-    ms: &[(Fid, u64)],
+    ms: &[(Fid, u64, u8)],
     tag: bool,
 ) -> Result<(), AllocError>
     ensures { OnOk result (out.new.items ≡ out.old.items ++ matches_text fs.now tag ms.now) }
 {
-    for (f, n) in ms {
-        match_if(out, fs, *f, *n, tag)?;
+    for m in ms {
+        match_if(out, fs, m, tag)?;
     }
     Ok(())
 }
 
 /// A match, where it is of the tag or not as is asked.
-fn match_if(out: &mut Vec<u8>, fs: &Fields, f: Fid, n: u64, tag: bool) -> Result<(), AllocError>
-    ensures { OnOk result (out.new.items ≡ out.old.items ++ where_same (is_tag fs.now f) tag (match_text fs.now (f, n))) }
+fn match_if(out: &mut Vec<u8>, fs: &Fields, m: &(Fid, u64, u8), tag: bool) -> Result<(), AllocError>
+    ensures { OnOk result (out.new.items ≡ out.old.items ++ where_same (is_tag fs.now m.now.0) tag (match_text fs.now m.now)) }
 {
+    let (f, _, _) = *m;
     if is_the_tag(fs, f) == tag {
-        one_match(out, fs, f, n)
+        one_match(out, fs, m)
     } else {
         Ok(())
     }

@@ -1,5 +1,5 @@
 //! What may come next in a text of tables.
-use crate::written::{Number, Pair, Way, Word, WrittenBucket, WrittenGroup};
+use crate::written::{Number, Pair, Way, Word, WrittenBucket, WrittenGroup, WrittenMatch};
 use nk_field::List;
 
 /// How much of `NUMBER : NUMBER -> NUMBER : NUMBER` stands there.
@@ -66,7 +66,7 @@ pub enum Owner {
     /// It is another bucket of this group.
     Next(WrittenGroup),
     /// It is the target of the row with this priority and these matches.
-    Row(Number, List<Pair>),
+    Row(Number, List<WrittenMatch>),
 }
 
 /// What stands before the next token of a text.
@@ -106,11 +106,15 @@ pub enum Stage {
     Row,
     RowNumbered(Number),
     /// The matches so far.
-    Matches(Number, List<Pair>),
-    MatchNamed(Number, List<Pair>, Word),
-    MatchTested(Number, List<Pair>, Word),
+    Matches(Number, List<WrittenMatch>),
+    MatchNamed(Number, List<WrittenMatch>, Word),
+    MatchTested(Number, List<WrittenMatch>, Word),
+    /// A name and a value behind the matches; a `/`, another match or the arrow may follow.
+    MatchValued(Number, List<WrittenMatch>, Word, Number),
+    /// A name, a value and a `/` behind the matches.
+    MatchSlashed(Number, List<WrittenMatch>, Word, Number),
     /// The target is wanted.
-    Target(Number, List<Pair>),
+    Target(Number, List<WrittenMatch>),
     /// The word `group` as a target.
-    TargetGroup(Number, List<Pair>),
+    TargetGroup(Number, List<WrittenMatch>),
 }

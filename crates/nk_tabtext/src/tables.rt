@@ -18,17 +18,18 @@ pub(crate) type Tabled = BTreeMap<u16, Table>;
 /// A table behind others.
 fn table(
     alloc: Global,
+    version: u64,
     names: &Names,
     before: &Tabled,
     t: &WrittenTable,
 ) -> Result<Table, ReadError>
-    ensures { Returns (λ x. x) result (table_read (said_in names.now) before.now.entries t.now) }
+    ensures { Returns (λ x. x) result (table_read version (said_in names.now) before.now.entries t.now) }
 {
     let switch = small(t.switch)?;
     let unknown = !names.topo.is_switch(switch);
     refuse_if(unknown || before.contains_key(&switch), t.switch.line)?;
     let groups = groups(alloc, &names.fields, t.groups.as_slice())?;
-    let rows = rows(alloc, &names.fields, &groups, t.rows.as_slice())?;
+    let rows = rows(alloc, version, &names.fields, &groups, t.rows.as_slice())?;
     let groups: Vec<Group> = groups.into_values().collect(alloc)?;
     Ok(Table {
         switch,
@@ -37,17 +38,18 @@ fn table(
     })
 }
 
-/// The tables that are written, by switch.
+/// The tables that are written in a text of a version, by switch.
 pub(crate) fn tables(
     alloc: Global,
+    version: u64,
     names: &Names,
     all: &[WrittenTable],
 ) -> Result<Tabled, ReadError>
-    ensures { Returns (λ m. m.entries) result (tables_read (said_in names.now) [] all.now) }
+    ensures { Returns (λ m. m.entries) result (tables_read version (said_in names.now) [] all.now) }
 {
     let mut before = BTreeMap::new(alloc);
     for t in all {
-        let table = table(alloc, names, &before, t)?;
+        let table = table(alloc, version, names, &before, t)?;
         if before.insert(table.switch, table).is_err() {
             return Err(ReadError::NoMemory);
         }

@@ -1,7 +1,7 @@
 //! Matches, buckets, groups and rows as they are written, and what they mean.
-ghost use Rattle.std.specs.Prelude.{◌≡◌, ◌<◌, [], ◌∷◌, Ok, map, length, IfSome, MatchResult};
+ghost use Rattle.std.specs.Prelude.{◌≡◌, ◌≤◌, ◌<◌, ◌-◌, ◌%◌, ◌^◌, [], ◌∷◌, Ok, not, map, length, nat_lt, IfOk, IfSome, OnOk, MatchResult};
 ghost use Rattle.std.specs.Prelude.{◌==◌};
-ghost use Rattle.std.specs.List.{list_any};
+ghost use Rattle.std.specs.List.{list_any, prefix_len};
 ghost use Rattle.nk_field.specs.Packet.{field_named};
 ghost use Rattle.nk_tabtext.specs.Machine.{Returns};
 ghost use Rattle.nk_tabtext.specs.Values.{
@@ -12,8 +12,14 @@ ghost use Rattle.nk_tabtext.specs.Values.{
   group_read,
   groups_read,
   has_key,
+  length_fault,
+  length_in,
+  match_read,
+  matches_read,
+  ones_fault,
   pair_read,
   pairs_read,
+  put_match,
   row_read,
   rows_read,
   target_read,
@@ -23,11 +29,13 @@ ghost use Rattle.nk_tabtext.specs.Values.{
 };
 
 use crate::written::{
-    Number, Pair, ReadError, Way, WrittenBucket, WrittenGroup, WrittenRow, WrittenTarget,
+    Number, Pair, ReadError, Way, WrittenBucket, WrittenGroup, WrittenMatch, WrittenRow,
+    WrittenTarget,
 };
 use nk_field::{Act, Fid, Fields, List};
+use nk_prefix::digits_of;
 use nk_table::{Bucket, Exit, Group, Row, Target};
-use std::alloc::Global;
+use std::alloc::{AllocError, Global};
 use std::collections::BTreeMap;
 
 /// The largest number of a switch and of a port, and the largest priority.
@@ -85,7 +93,7 @@ fn has_field(pairs: &[(Fid, u64)], field: Fid) -> bool
     false
 }
 
-/// A match or an assignment behind others, of a field from `low` on.
+/// An assignment behind others, of a field from `low` on.
 fn pair(
     fields: &Fields,
     low: usize,
@@ -111,7 +119,7 @@ fn pair(
     }
 }
 
-/// Matches or assignments of fields from `low` on, each field once.
+/// Assignments to fields from `low` on, each field once.
 fn pairs(alloc: Global, fields: &Fields, low: usize, pairs: &[Pair]) -> Result<Act, ReadError>
     ensures { Returns (λ a. a) result (pairs_read fields.now low [] pairs.now) }
 {
@@ -121,6 +129,115 @@ fn pairs(alloc: Global, fields: &Fields, low: usize, pairs: &[Pair]) -> Result<A
         before = before.then(&Act::one(alloc, field, value)?)?;
     }
     Ok(before)
+}
+
+/// Whether a field stands among these.
+fn is_matched(matches: &[(Fid, u64, u8)], field: Fid) -> bool
+    ensures { result ≡ list_any (λ s. s.0 == field) matches.now }
+{
+    for (f, _, _) in matches {
+        if *f == field {
+            return true;
+        }
+    }
+    false
+}
+
+/// How many of so many digits count, in a text of a version.
+fn length_of(version: u64, digits: u8, length: Option<Number>) -> Result<u8, ReadError>
+    ensures is { result ≡ unless (length_fault version digits length) (length_in digits length) }
+    ensures most { IfOk result (λ n. n ≤ digits) }
+{
+    match length {
+        Some(l) => {
+            if version != 2 || l.value == 0 || (digits as u64) < l.value {
+                return Err(ReadError::TableFault { line: l.line });
+            }
+            Ok(l.value as u8)
+        }
+        None => Ok(digits),
+    }
+}
+
+/// Behind the digits that count a value has zeros.
+fn check_zeros(digits: u8, length: u8, n: Number) -> Result<(), ReadError>
+    requires some { length ≤ digits }
+    requires most { digits ≤ 64 }
+    ensures { result ≡ unless (ones_fault digits length n) tt }
+{
+    let rest = (digits - length) as u32;
+    refuse_if((n.value as u128) % (1u128 << rest) != 0, n.line)
+}
+
+/// A match behind others, of a field but the switch.
+fn matched(
+    version: u64,
+    fields: &Fields,
+    before: &[(Fid, u64, u8)],
+    m: &WrittenMatch,
+) -> Result<(Fid, u64, u8), ReadError>
+    ensures { result ≡ match_read version fields.now before.now m.now }
+{
+    let line = m.name.line;
+    match field_with(fields, m.name.text.as_slice()) {
+        Some(field) => {
+            if field.place() < 1 || is_matched(before, field) {
+                return Err(ReadError::TableFault { line });
+            }
+            let max = fields.max(field);
+            if max < m.number.value {
+                return Err(ReadError::TableFault {
+                    line: m.number.line,
+                });
+            }
+            let digits = digits_of(max);
+            let length = length_of(version, digits, m.length)?;
+            check_zeros(digits, length, m.number)?;
+            Ok((field, m.number.value, length))
+        }
+        None => Err(ReadError::TableFault { line }),
+    }
+}
+
+/// How many matches stand in front of those of fields from this one on.
+fn place_of(matches: &[(Fid, u64, u8)], field: Fid) -> usize
+    ensures is { result ≡ prefix_len (λ x. nat_lt x.0 field) matches.now }
+    ensures within { result ≤ length matches.now }
+{
+    let mut place = 0;
+    for (f, _, _) in matches {
+        if *f >= field {
+            return place;
+        }
+        place += 1;
+    }
+    place
+}
+
+/// Puts a match behind those of lower fields.
+fn put(before: &mut Vec<(Fid, u64, u8)>, m: (Fid, u64, u8)) -> Result<(), AllocError>
+    ensures { OnOk result (before.new.items ≡ put_match m before.old.items) }
+{
+    let place = place_of(before.as_slice(), m.0);
+    before.insert(place, m)?;
+    Ok(())
+}
+
+/// Matches of fields but the switch, each field once.
+fn matches(
+    alloc: Global,
+    version: u64,
+    fields: &Fields,
+    all: &[WrittenMatch],
+) -> Result<List<(Fid, u64, u8)>, ReadError>
+    ensures { Returns (λ l. l) result (matches_read version fields.now [] all.now) }
+{
+    let mut before = Vec::new(alloc);
+    for m in all {
+        let m = matched(version, fields, before.as_slice(), m)?;
+        put(&mut before, m)?;
+    }
+    Ok(List::from_vec(before))
 }
 
 /// An exit.
@@ -218,12 +335,17 @@ fn target(
 }
 
 /// A row.
-fn row(alloc: Global, fields: &Fields, groups: &Groups, r: &WrittenRow) -> Result<Row, ReadError>
-    ensures { Returns (λ x. x) result (row_read fields.now groups.now.entries r.now) }
+fn row(
+    alloc: Global,
+    version: u64,
+    fields: &Fields,
+    groups: &Groups,
+    r: &WrittenRow,
+) -> Result<Row, ReadError>
+    ensures { Returns (λ x. x) result (row_read version fields.now groups.now.entries r.now) }
 {
     let priority = small(r.priority)?;
-    let act = pairs(alloc, fields, 1, r.matches.as_slice())?;
-    let matches = List::from_vec(Vec::from_slice(alloc, act.as_slice())?);
+    let matches = matches(alloc, version, fields, r.matches.as_slice())?;
     let target = target(alloc, fields, groups, &r.target)?;
     Ok(Row {
         priority,
@@ -232,18 +354,19 @@ fn row(alloc: Global, fields: &Fields, groups: &Groups, r: &WrittenRow) -> Resul
     })
 }
 
-/// The rows of a table.
+/// The rows of a table, in a text of a version.
 pub(crate) fn rows(
     alloc: Global,
+    version: u64,
     fields: &Fields,
     groups: &Groups,
     all: &[WrittenRow],
 ) -> Result<List<Row>, ReadError>
-    ensures { Returns (λ l. l) result (rows_read fields.now groups.now.entries [] all.now) }
+    ensures { Returns (λ l. l) result (rows_read version fields.now groups.now.entries [] all.now) }
 {
     let mut before = List::new(alloc);
     for r in all {
-        before.push(row(alloc, fields, groups, r)?)?;
+        before.push(row(alloc, version, fields, groups, r)?)?;
     }
     Ok(before)
 }

@@ -38,13 +38,24 @@ pub enum Declaration {
     Link(Number, Number, Number, Number),
 }
 
-/// `NAME = NUMBER` in a row, `NAME := NUMBER` in a bucket.
+/// `NAME := NUMBER` in a bucket.
 #[derive(Drop)]
 pub struct Pair {
     /// The field's name.
     pub name: Word,
     /// The value.
     pub number: Number,
+}
+
+/// `NAME = NUMBER` or `NAME = NUMBER / NUMBER` in a row.
+#[derive(Drop)]
+pub struct WrittenMatch {
+    /// The field's name.
+    pub name: Word,
+    /// The value.
+    pub number: Number,
+    /// How many of its first digits count; all of the field's where none is written.
+    pub length: Option<Number>,
 }
 
 /// Where a bucket sends a packet.
@@ -82,7 +93,7 @@ pub struct WrittenRow {
     /// The priority.
     pub priority: Number,
     /// The matches, in the order of the text.
-    pub matches: List<Pair>,
+    pub matches: List<WrittenMatch>,
     /// What the row does.
     pub target: WrittenTarget,
 }

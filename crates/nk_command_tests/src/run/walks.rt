@@ -1,7 +1,8 @@
 //! Random policies over a small network: where the packets go by their printed tables, against all histories of the
 //! policies by the plain program.
 use super::done;
-use super::random::{Draws, declared_by, is_flat};
+use super::drawn::Draws;
+use super::random::{declared_by, is_flat};
 use nk::Status;
 use nk_field::{Fid, History, Packet};
 use nk_lex::tokens;

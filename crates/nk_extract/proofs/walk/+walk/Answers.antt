@@ -1,22 +1,24 @@
-use Rattle.std.proofs.Common.{arith, ◌≡◌, ◌<◌, ◌∙◌, subst, sym, ap, ◌+◌, ◌-◌, ℕ, [], ◌∷◌, ◌++◌, length, drop, get_or, not, ◌||◌, List, false}
+use Rattle.std.proofs.Common.{add-one, arith, ◌≡◌, ◌<◌, ◌≤◌, ◌∙◌, subst, sym, ap, ◌+◌, ℕ, [], ◌∷◌, ◌++◌, length, drop, get_or, not, ◌||◌, List, false}
 use Rattle.std.specs.List.{flat_map}
 use Rattle.nk_store.specs.Nodes.{Each, Rises}
 use Rattle.nk_store.specs.Held.{IsId, node_of, IsNodeOf, IsCase, IsChild}
 use Rattle.nk_store.proofs.Looks.{joined_some}
 use Rattle.nk_store.specs.declared.node.Node.TheVariants.{Case}
-use Rattle.nk_store.specs.Intervals.{counted}
+use Rattle.std.proofs.Math.Seq.{drop-cons}
+use Rattle.nk_prefix.specs.Blocks.{blocks_of}
+use Rattle.std.specs.Prelude.{◌==◌}
 use Rattle.nk_table.specs.declared.Plain.{Plain}
 use Rattle.std.proofs.lemmas.List.{drop_all}
 use Rattle.nk_extract.specs.Ways.{ways, rows_behind, bucket_list, node_ways, is_empty_leaf}
 use Rattle.nk_store.proofs.Children.{rest_is, else_has, each_of, each_drop}
-use Rattle.nk_extract.proofs.Walks.{ways_leaf, ways_case, on_ok, case_returns, values_step}
+use Rattle.nk_extract.proofs.Walks.{ways_leaf, ways_case, on_ok, case_returns, blocks_step, blocks_end}
 use Rattle.nk_extract.proofs.walk.+walk.Goals as goal
 
 pub walk-returns-in-Leaf : goal.walk-returns-in-Leaf
 walk-returns-in-Leaf t c =
     on_ok c.leaf_row.result _ _
-    (λ h. h ∙ ap (λ l. c.args.rows.now.items ++ rows_behind c.args.frame.now.width c.args.frame.now.tag c.args.frame.now.to c.args.way.now.matches c.args.way.now.shown l)
-    (ap (λ outs. record { matches = []; buckets = bucket_list c.args.frame.now.tag outs; shown = false } ∷ []) c.as_slice.ensures ∙ sym (ways_leaf c.args.frame.now.tag c.args.st.now c.args.d c.in-Leaf.outs c.requires.id (sym c.view.ensures.node ∙ c.in-Leaf.is))))
+    (λ h. h ∙ ap (λ l. c.args.rows.now.items ++ rows_behind c.args.frame.now.width c.args.frame.now.tag c.args.way.now.matches c.args.way.now.shown l)
+    (ap (λ outs. record { matches = []; buckets = bucket_list c.args.frame.now.tag.0 outs; shown = false } ∷ []) c.as_slice.ensures ∙ sym (ways_leaf c.args.frame.now.tag.0 c.args.st.now c.args.d c.in-Leaf.outs c.requires.id (sym c.view.ensures.node ∙ c.in-Leaf.is))))
     c.leaf_row.ensures
 
 case_is : (t : ℕ) (c : goal.walk-After-walk_case t) → IsCase c.args.st.now c.args.d c.in-Case.f c.in-Case.parts
@@ -25,9 +27,9 @@ case_is t c = subst (IsNodeOf c.args.st.now c.args.d) c.in-Case.is c.view.ensure
 pub walk-returns-in-Case : goal.walk-returns-in-Case
 walk-returns-in-Case t c =
     on_ok c.walk_case.result _ _
-    (λ h. h ∙ ap (λ l. c.args.rows.now.items ++ rows_behind c.args.frame.now.width c.args.frame.now.tag c.args.frame.now.to c.args.way.now.matches c.args.way.now.shown l)
-    (ap (λ ps. node_ways c.args.frame.now.tag (Case c.in-Case.f ps) (λ k. is_empty_leaf (node_of c.args.st.now k)) (ways c.args.frame.now.tag c.args.st.now)) c.as_slice-in-Case.ensures
-    ∙ sym (ways_case c.args.frame.now.tag c.args.st.now c.args.d c.in-Case.f c.in-Case.parts c.requires.id (sym c.view.ensures.node ∙ c.in-Case.is) (joined_some c.in-Case.parts (case_is t c).joined) (case_is t c).below)))
+    (λ h. h ∙ ap (λ l. c.args.rows.now.items ++ rows_behind c.args.frame.now.width c.args.frame.now.tag c.args.way.now.matches c.args.way.now.shown l)
+    (ap (λ ps. node_ways c.args.st.now.maxes c.args.frame.now.tag.0 (Case c.in-Case.f ps) (λ k. is_empty_leaf (node_of c.args.st.now k)) (ways c.args.frame.now.tag.0 c.args.st.now)) c.as_slice-in-Case.ensures
+    ∙ sym (ways_case c.args.frame.now.tag.0 c.args.st.now c.args.d c.in-Case.f c.in-Case.parts c.requires.id (sym c.view.ensures.node ∙ c.in-Case.is) (joined_some c.in-Case.parts (case_is t c).joined) (case_is t c).below)))
     c.walk_case.ensures
 
 pub walk_case-drops-requires : goal.walk_case-drops-requires
@@ -44,8 +46,9 @@ walk_case-walk_span-requires t c =
     let p = c.loop-end-item.result in
     let below : p.1 < c.args.d = item_has (λ k. k < c.args.d) ps i p c.loop-end-test.true c.loop-end-item.is c.requires.case.below in
     let child : IsChild c.args.st.now c.args.f p.1 = item_has (IsChild c.args.st.now c.args.f) ps i p c.loop-end-test.true c.loop-end-item.is c.requires.case.parts_ok.children in
-    let rise : Rises c.max-high.result c.loop-end.from (p ∷ drop (i + 1) ps) = subst (Rises c.max-high.result c.loop-end.from) (rest_is ps i p c.loop-end-test.true c.loop-end-item.is) c.loop-end.invariant.rise in
-    (omega (arith, below, c.decreases), (child.id, (c.requires.width, rise.0)))
+    let rise : Rises c.max-max.result c.loop-end.from (p ∷ drop (i + 1) ps) = subst (Rises c.max-max.result c.loop-end.from) (rest_is ps i p c.loop-end-test.true c.loop-end-item.is) c.loop-end.invariant.rise in
+    let high : p.0 ≤ c.max-max.result = rise.1 in
+    (omega (arith, below, c.decreases), (child.id, (c.requires.width, high)))
 
 pub walk_case-walk-requires : goal.walk_case-walk-requires
 walk_case-walk-requires t c =
@@ -57,22 +60,39 @@ walk_case-walk-requires t c =
 pub walk_case-returns : goal.walk_case-returns
 walk_case-returns t c =
     on_ok c.walk.result _ _
-    (case_returns c.args.frame.now.width c.args.frame.now.tag c.args.frame.now.to c.args.way.now.matches c.args.way.now.shown c.args.f c.args.parts.now (λ k. is_empty_leaf (node_of c.args.st.now k)) (ways c.args.frame.now.tag c.args.st.now) c.args.rows.now.items c.loop-end.rows.items c.walk.new.rows.items c.in_ok-other.other c.printed-shown.result (drop c.loop-end.end-index c.args.parts.now) c.loop-end.from
+    (case_returns c.args.frame.now.width c.args.frame.now.tag c.args.way.now.matches c.args.way.now.shown c.args.st.now.maxes c.max-max.result c.args.f c.args.parts.now (λ k. is_empty_leaf (node_of c.args.st.now k)) (ways c.args.frame.now.tag.0 c.args.st.now) c.args.rows.now.items c.loop-end.rows.items c.walk.new.rows.items c.in_ok-other.other c.printed-shown.result (drop c.loop-end.end-index c.args.parts.now) c.loop-end.from
+    c.max-max.ensures
     c.in_ok-other.ensures
     (c.printed-shown.ensures ∙ ap (λ b. not b || c.args.way.now.shown) c.drops.ensures.is)
     (drop_all c.loop-end.end-index c.args.parts.now c.loop-end-test.false)
     c.loop-end.invariant.made)
     c.walk.ensures
 
-pub walk_span-values-preserved : goal.walk_span-values-preserved
-walk_span-values-preserved t c =
-    let g : ℕ → List Plain = λ v. rows_behind c.args.frame.now.width c.args.frame.now.tag c.args.frame.now.to (c.args.way.now.matches ++ (c.args.choice.field, v) ∷ []) c.args.choice.shown (ways c.args.frame.now.tag c.args.st.now c.args.span.child) in
-    let e : c.walk.new.rows.items ≡ c.values.rows.items ++ g c.values.value =
+pub walk_span-loop-block-init : goal.walk_span-loop-block-init
+walk_span-loop-block-init t c =
+    let g : ℕ × ℕ → List Plain = λ b. rows_behind c.args.frame.now.width c.args.frame.now.tag (c.args.way.now.matches ++ (c.args.choice.field, b.0, b.1) ∷ []) c.args.choice.shown (ways c.args.frame.now.tag.0 c.args.st.now c.args.span.child) in
+    ap (λ bs. c.args.rows.now.items ++ flat_map g bs) (c.as_slice-cut.ensures.value ∙ c.in_ok-all.ensures)
+
+pub walk_span-loop-block-preserved : goal.walk_span-loop-block-preserved
+walk_span-loop-block-preserved t c =
+    let tag = c.args.frame.now.tag in
+    let bs = c.as_slice-cut.result.now in
+    let i = c.loop-block.block-index in
+    let b = get_or bs i (0, 0) in
+    let g : ℕ × ℕ → List Plain = λ b. rows_behind c.args.frame.now.width tag (c.args.way.now.matches ++ (c.args.choice.field, b.0, b.1) ∷ []) c.args.choice.shown (ways tag.0 c.args.st.now c.args.span.child) in
+    let e : c.walk.new.rows.items ≡ c.loop-block.rows.items ++ g b =
     c.in_ok-walk.ensures
-    ∙ ap (λ ms. c.values.rows.items ++ rows_behind c.args.frame.now.width c.args.frame.now.tag c.args.frame.now.to ms c.in_ok-next.next.shown (ways c.args.frame.now.tag c.args.st.now c.args.span.child)) c.in_ok-next.ensures.matches
-    ∙ ap (λ b. c.values.rows.items ++ rows_behind c.args.frame.now.width c.args.frame.now.tag c.args.frame.now.to (c.args.way.now.matches ++ (c.args.choice.field, c.values.value) ∷ []) b (ways c.args.frame.now.tag c.args.st.now c.args.span.child)) c.in_ok-next.ensures.shown in
-    record {
-      low = omega (arith, c.values.invariant.low);
-      high = omega (arith, c.values.invariant.high, c.if-value-last.false);
-      made = values_step g c.values.rows.items c.walk.new.rows.items (c.args.rows.now.items ++ flat_map g (counted c.args.span.first (c.args.span.last + 1 - c.args.span.first))) c.values.value c.args.span.last c.values.invariant.high c.values.invariant.made e;
-    }
+    ∙ ap (λ ms. c.loop-block.rows.items ++ rows_behind c.args.frame.now.width tag ms c.in_ok-next.next.shown (ways tag.0 c.args.st.now c.args.span.child)) c.in_ok-next.ensures.matches
+    ∙ ap (λ d. c.loop-block.rows.items ++ rows_behind c.args.frame.now.width tag (c.args.way.now.matches ++ (c.args.choice.field, b.0, b.1) ∷ []) d (ways tag.0 c.args.st.now c.args.span.child)) c.in_ok-next.ensures.shown in
+    blocks_step g c.loop-block.rows.items c.walk.new.rows.items (c.args.rows.now.items ++ flat_map g (blocks_of c.args.span.first c.args.span.last c.args.choice.max)) b (drop i bs) (drop (i + 1) bs)
+    (drop-cons bs i (0, 0) c.loop-block-test.true ∙ ap (λ n. b ∷ drop n bs) (sym (add-one i)))
+    c.loop-block.invariant e
+
+pub walk_span-returns : goal.walk_span-returns
+walk_span-returns t c =
+    blocks_end
+    (λ b. rows_behind c.args.frame.now.width c.args.frame.now.tag (c.args.way.now.matches ++ (c.args.choice.field, b.0, b.1) ∷ []) c.args.choice.shown (ways c.args.frame.now.tag.0 c.args.st.now c.args.span.child))
+    c.args.rows.now.items c.loop-block.rows.items (c.args.span.child == c.args.choice.other) (blocks_of c.args.span.first c.args.span.last c.args.choice.max) (drop c.loop-block.block-index c.as_slice-cut.result.now)
+    (sym c.eq.ensures ∙ c.if-eq.false)
+    (drop_all c.loop-block.block-index c.as_slice-cut.result.now c.loop-block-test.false)
+    c.loop-block.invariant

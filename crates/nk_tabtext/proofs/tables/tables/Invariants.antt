@@ -5,4 +5,4 @@ use Rattle.nk_tabtext.proofs.tables.tables.Given as goal
 
 -- what is left comes to the whole
 abbrev pub invariant-loop-t : goal.invariant-loop-t
-invariant-loop-t l = tables_read (said_in l.names) l.before.entries (drop l.t-index l.all) ≡ tables_read (said_in l.names) [] l.all
+invariant-loop-t l = tables_read l.version (said_in l.names) l.before.entries (drop l.t-index l.all) ≡ tables_read l.version (said_in l.names) [] l.all

@@ -4,4 +4,5 @@ use Rattle.nk_tabtext.proofs.values.rows.Given as goal
 
 -- what is left comes to the whole
 abbrev pub invariant-loop-r : goal.invariant-loop-r
-invariant-loop-r l = rows_read l.fields l.groups.entries l.before (drop l.r-index l.all) ≡ rows_read l.fields l.groups.entries [] l.all
+invariant-loop-r l =
+    rows_read l.version l.fields l.groups.entries l.before (drop l.r-index l.all) ≡ rows_read l.version l.fields l.groups.entries [] l.all

@@ -1,0 +1,103 @@
+//! The predicates that are printed of random sets of packets, against the sets: which packets each keeps by the plain
+//! program of all histories.
+use super::done;
+use super::drawn::{Draws, Largest, largest_of, predicates, put_declarations};
+use super::random::{declared_by, is_flat, packet_of, packets};
+use nk::Status;
+use nk_field::Packet;
+use nk_lex::tokens;
+use nk_policy::{Pol, histories};
+use std::alloc::{AllocError, Global};
+use std::test::Fail;
+
+/// What `equal` prints of the packets of a predicate that are recorded: the predicate in the certificate's second row, and
+/// `drop` where there is no second row.
+fn printed<'a>(certificate: &'a [u8]) -> Option<&'a [u8]> {
+    let rows = certificate.strip_prefix(b"certificate\nrow start : id\n")?;
+    if rows.is_empty() {
+        return Some(b"drop");
+    }
+    rows.strip_prefix(b"row 1 2 : ")?.strip_suffix(b"\n")
+}
+
+/// The declarations, and the policies `l`, which records the packets of the predicate, and `r`, which is `l`.
+fn recorded(alloc: Global, predicate: &[u8], largest: Largest) -> Result<Vec<u8>, AllocError> {
+    let mut text = Vec::new(alloc);
+    put_declarations(&mut text, largest)?;
+    text.extend_from_slice(b"let l = (")?;
+    text.extend_from_slice(predicate)?;
+    text.extend_from_slice(b");dup\nlet r = l\n")?;
+    Ok(text)
+}
+
+/// The declarations, and both predicates as `p` and `q`.
+fn side_by_side(
+    alloc: Global,
+    predicate: &[u8],
+    other: &[u8],
+    largest: Largest,
+) -> Result<Vec<u8>, AllocError> {
+    let mut text = Vec::new(alloc);
+    put_declarations(&mut text, largest)?;
+    text.extend_from_slice(b"let p = ")?;
+    text.extend_from_slice(predicate)?;
+    text.extend_from_slice(b"\nlet q = ")?;
+    text.extend_from_slice(other)?;
+    Ok(text)
+}
+
+/// Whether a policy keeps the packet.
+fn keeps(alloc: Global, p: &Pol, pk: &Packet) -> Result<bool, AllocError> {
+    if !is_flat(p) {
+        return Ok(false);
+    }
+    Ok(!histories(alloc, p, pk)?.is_empty())
+}
+
+/// Whether two predicates keep the same packets.
+fn agree(alloc: Global, p: &Pol, q: &Pol, largest: Largest) -> Result<bool, AllocError> {
+    if !is_flat(p) || !is_flat(q) {
+        return Ok(false);
+    }
+    for number in 0..packets(largest) {
+        let pk = packet_of(number, largest);
+        if keeps(alloc, p, &pk)? != keeps(alloc, q, &pk)? {
+            return Ok(false);
+        }
+    }
+    Ok(true)
+}
+
+/// Whether what is printed of a predicate's packets is a predicate of the same ones.
+fn is_kept(alloc: Global, predicate: &[u8], largest: Largest) -> Result<bool, Fail> {
+    let input = recorded(alloc, predicate, largest)?;
+    let (status, out, _) = done(alloc, &["equal", "l", "r"], &input)?;
+    if status != Status::Done {
+        return Ok(false);
+    }
+    let Some(other) = printed(out.taken()) else {
+        return Ok(false);
+    };
+    let text = side_by_side(alloc, predicate, other, largest)?;
+    let declared = match tokens(alloc, &text) {
+        Ok(tokens) => declared_by(alloc, &tokens)?,
+        Err(_) => return Ok(false),
+    };
+    match (declared.find("p"), declared.find("q")) {
+        (Some(p), Some(q)) => Ok(agree(alloc, p, q, largest)?),
+        _ => Ok(false),
+    }
+}
+
+#[test]
+fn predicates_of_random_sets(rt: HostRuntime) -> Result<(), Fail> {
+    let alloc = rt.alloc();
+    for seed in 1..=12 {
+        let mut draws = Draws::new(seed);
+        let largest = largest_of(seed);
+        for predicate in predicates(alloc, 16, &mut draws, largest)?.iter() {
+            assert!(rt; is_kept(alloc, predicate, largest)?, "seed {seed}");
+        }
+    }
+    Ok(())
+}

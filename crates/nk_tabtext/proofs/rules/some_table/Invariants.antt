@@ -1,0 +1,11 @@
+use Rattle.std.proofs.Common.{◌≡◌, drop}
+use Rattle.std.specs.List.{list_any}
+use Rattle.nk_table.specs.Rules.{rows_of}
+use Rattle.nk_tabtext.specs.Text.{have_prefix}
+use Rattle.nk_tabtext.proofs.rules.some_table.Given as goal
+
+-- none of the switches so far has a prefix
+abbrev pub invariant-loop-n : goal.invariant-loop-n
+invariant-loop-n l =
+    list_any (λ n. have_prefix l.t.fields (rows_of l.t.tables n)) (drop l.n-index l.numbers)
+    ≡ list_any (λ n. have_prefix l.t.fields (rows_of l.t.tables n)) l.numbers
