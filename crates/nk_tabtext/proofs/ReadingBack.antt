@@ -15,7 +15,6 @@ use Rattle.nk_table.specs.declared.Tables.{Tables}
 use Rattle.nk_table.specs.Rules.{rows_of}
 use Rattle.nk_tabtext.specs.declared.written.Declaration.{Declaration}
 use Rattle.nk_tabtext.specs.declared.written.Declaration.TheVariants as declared
-use Rattle.nk_tabtext.specs.declared.written.WrittenTable.{WrittenTable}
 use Rattle.nk_tabtext.specs.declared.written.WrittenTables.{WrittenTables}
 use Rattle.nk_tabtext.specs.declared.written.ReadError.{ReadError}
 use Rattle.nk_tabtext.specs.Terminal.{number, mark}

@@ -1,6 +1,6 @@
 -- What printable tables of switches are to the reader, and the text of each switch.
 use Rattle.std.proofs.Common.{◌≡◌, ◌≤◌, ◌<◌, ◌+◌, ℕ, List, [], ◌∷◌, ◌++◌, Bool, true, false, not, refl, sym, ap, subst, ◌∙◌, append_assoc, map, arith, ◌||◌, inl, inr, ⊎_elim}
-use Rattle.std.specs.Prelude.{◌==◌, ◌^◌, All, if◌then◌else◌, slice_index}
+use Rattle.std.specs.Prelude.{◌==◌, All, if◌then◌else◌, slice_index}
 use Rattle.std.specs.List.{list_any, flat_map, AllByRecursion}
 use Rattle.std.proofs.lemmas.Bool.Decides.{nat_tests}
 use Rattle.std.proofs.lemmas.List.Elements.{recursion_from_All}

@@ -1,6 +1,6 @@
 -- What is read as tables of switches keeps the rules of a text.
 use Rattle.std.proofs.Common.{◌≡◌, ◌≤◌, ◌<◌, ◌+◌, ℕ, List, [], ◌∷◌, ◌++◌, Bool, true, false, cond, not, length, refl, sym, ap, subst, ◌∙◌, Option, Some, None, map, arith, ◌||◌, inl, inr, ⊎_elim}
-use Rattle.std.specs.Prelude.{◌==◌, Ok, Err, ltb, eqb, nat_lt, ◌-◌, ◌%◌, ◌^◌, is_some, unwrap_or, slice_index}
+use Rattle.std.specs.Prelude.{◌==◌, Ok, Err, ltb, eqb, nat_lt, is_some, unwrap_or, slice_index}
 use Rattle.std.specs.List.{list_any, AllByRecursion}
 use Rattle.std.specs.Map.{lookup}
 use Rattle.std.specs.Ordering.{nat_cmp, match_ordering}
@@ -111,10 +111,10 @@ pairs_kept fs is low before (p ∷ ps) ms h e =
 -- ---- matches
 
 -- a length that is written, or all digits
-length_kept : (version digits line : ℕ) (l : Option Number) → 1 ≤ digits → length_fault version digits l ≡ None
+length_kept : (version digits : ℕ) (l : Option Number) → 1 ≤ digits → length_fault version digits l ≡ None
     → (1 ≤ length_in digits l) × (length_in digits l ≤ digits)
-length_kept version digits line None some e = (some, omega arith)
-length_kept version digits line (Some l) some e =
+length_kept version digits None some e = (some, omega arith)
+length_kept version digits (Some l) some e =
     let parts = neither _ _ (neither _ _ (not_wrong _ l.line e)).1 in
     (low l.value parts.0, high digits l.value parts.1)
   where
@@ -123,6 +123,9 @@ length_kept version digits line (Some l) some e =
 
     high : (m n : ℕ) → nat_lt m n ≡ false → n ≤ m
     high m n h = grind (arith, nat_tests, h)
+
+some_digits : (n : ℕ) → 1 ≤ digits_of n
+some_digits n = omega arith
 
 -- a match that is read
 match_kept : (version : ℕ) (fs : FieldTable) → IsFieldTable fs → (before : List (ℕ × ℕ × ℕ)) (m : WrittenMatch) (s : ℕ × ℕ × ℕ)
@@ -163,7 +166,7 @@ match_kept version fs is before m s e = by (field_named fs m.name.text) refl e
         let name = both_fine _ _ pair.0 in
         let last = both_fine _ _ parts.1 in
         let d = digits_of (slice_index fs.maxima f) in
-        let length = length_kept version d m.number.line m.length (omega arith) last.0 in
+        let length = length_kept version d m.length (some_digits (slice_index fs.maxima f)) last.0 in
         subst Kept r.1 (
           from_low 1 (Some f) f (holds _ (not_wrong _ m.name.line name.0)) refl,
           record {
