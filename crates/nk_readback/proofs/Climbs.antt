@@ -6,7 +6,7 @@ use Rattle.std.proofs.lemmas.Bool.Decides.{nat_tests}
 use Rattle.nk_field.specs.Act.{AscendsFrom}
 use Rattle.nk_field.proofs.Lists.{In}
 use Rattle.nk_store.specs.Diagram.{Branches, leaf, case, no_branch, branch, IsReduced, AreReduced, AreTwo}
-use Rattle.nk_store.specs.Intervals.{same_tree, values_in, counted}
+use Rattle.nk_store.specs.Intervals.{same_tree, counted}
 use Rattle.nk_table.specs.declared.Bucket.{Bucket}
 use Rattle.nk_table.specs.Buckets.{same_buckets}
 use Rattle.nk_extract.specs.RuleTree.{Path, PathInterval, is_drop, with_match, block_paths, paths_of, path_intervals, put}
