@@ -1,14 +1,14 @@
--- Sums of tests of one field, and nodes that pass some values.
-use Rattle.std.proofs.Common.{◌≡◌, ℕ, ◌+◌, ◌-◌, ◌<◌, ◌≤◌, min, inl, inr, ⊎_elim, Bool, true, false, cond, eqb, List, [], ◌∷◌, ◌++◌, length, take, append-nil, refl, sym, ap, subst, ◌∙◌, arith}
+-- Sums of tests and ranges of one field, and nodes that pass some values.
+use Rattle.std.proofs.Common.{◌≡◌, ℕ, ◌+◌, ◌-◌, ◌<◌, ◌≤◌, min, inl, inr, ⊎_elim, Bool, true, false, cond, leb, get_or, List, [], ◌∷◌, ◌++◌, length, take, append-nil, refl, sym, ap, subst, ◌∙◌, arith}
 use Rattle.std.specs.Prelude.{slice_index, ◌||◌}
 use Rattle.std.specs.List.{list_any}
 use Rattle.std.specs.List.Sorted.{IsPermutation}
-use Rattle.std.proofs.lemmas.Bool.Decides.{nat_tests, eqb_tells, leb_tells}
+use Rattle.std.proofs.lemmas.Bool.Decides.{leb_tells}
 use Rattle.std.proofs.lemmas.List.{take_more}
 use Rattle.std.proofs.lemmas.List.Folds.{list_any-append}
 use Rattle.std.proofs.lemmas.List.Sorted.{list_any-IsPermutation}
-use Rattle.nk_policy.specs.Policy.{Policy, Policies, test, sum_of, part}
-use Rattle.nk_policy.proofs.Tests.{false_true, or_left, or_right, or_cases}
+use Rattle.nk_policy.specs.Policy.{Policy, Policies, test, range, sum_of, part}
+use Rattle.nk_policy.proofs.Tests.{false_true, false_where, or_left, or_right, or_cases, both_true, both_pass, at_most_test, at_most_from}
 use Rattle.nk_store.specs.declared.node.Out.{Out}
 use Rattle.nk_store.specs.Nodes.{child_at, InRange}
 use Rattle.nk_store.specs.Held.{Held, IsWhole, look, Grows, HasLeaves, IsChild}
@@ -19,7 +19,7 @@ use Rattle.nk_algebra.specs.Unions.{HaveParts}
 use Rattle.nk_algebra.proofs.Built.{Built, built_push, built_parts, built_leaf}
 use Rattle.nk_auto.specs.Plain.{Sends}
 use Rattle.nk_auto.specs.Continued.{IsSilent}
-use Rattle.nk_auto.specs.Values.{KeepsWhere, value_leaf, IsConstant, gap}
+use Rattle.nk_auto.specs.Values.{is_between, KeepsWhere, HaveOneMore, value_leaf, IsConstant, gap}
 use Rattle.nk_auto.proofs.Grown.{leaves_grow}
 use Rattle.nk_auto.proofs.OneOut.{one_of, is_one, clipped}
 use Rattle.nk_auto.proofs.Sending.{out_of}
@@ -29,85 +29,133 @@ or_none : (b : Bool) → b || (false || false) ≡ b
 or_none true = refl
 or_none false = refl
 
--- one value more is found
-this_value : (vs : List ℕ) (x v : ℕ) → v ≡ x → list_any (eqb v) (vs ++ x ∷ []) ≡ true
+-- a value between the ends is in
+pub between : (v lo hi : ℕ) → lo ≤ v → v ≤ hi → is_between v (lo, hi) ≡ true
+between v lo hi l h = both_pass (leb lo v) (leb v hi) (at_most_test lo v l) (at_most_test v hi h)
+
+-- and one that is in is between them
+ends_hold : (v : ℕ) (x : ℕ × ℕ) → is_between v x ≡ true → (x.0 ≤ v) × (v ≤ x.1)
+ends_hold v x h =
+    let b = both_true (leb x.0 v) (leb v x.1) h in
+    (at_most_from x.0 v b.0, at_most_from v x.1 b.1)
+
+-- one below the first isn't in
+before : (v : ℕ) (x : ℕ × ℕ) → v < x.0 → is_between v x ≡ false
+before v x l = false_where (is_between v x) (λ h. let b = (ends_hold v x h).0 in omega (arith, b, l))
+
+-- nor is one above the second
+behind : (v : ℕ) (x : ℕ × ℕ) → x.1 < v → is_between v x ≡ false
+behind v x l = false_where (is_between v x) (λ h. let b = (ends_hold v x h).1 in omega (arith, b, l))
+
+-- one interval more is found
+this_value : (vs : List (ℕ × ℕ)) (x : ℕ × ℕ) (v : ℕ) → is_between v x ≡ true → list_any (is_between v) (vs ++ x ∷ []) ≡ true
 this_value vs x v e =
-    list_any-append (eqb v) vs (x ∷ [])
-    ∙ or_right (list_any (eqb v) vs) (eqb v x || false) (or_left (eqb v x) false (grind (arith, nat_tests, e)))
+    list_any-append (is_between v) vs (x ∷ []) ∙ or_right (list_any (is_between v) vs) (is_between v x || false) (or_left (is_between v x) false e)
 
--- another value is found where it was
-other_value : (vs : List ℕ) (x v : ℕ) → (v ≡ x → ⊥) → list_any (eqb v) (vs ++ x ∷ []) ≡ list_any (eqb v) vs
-other_value vs x v other = elim (eqb_tells v x) [
-  | inl same ↦ absurd (other same.1)
-  | inr differ ↦ list_any-append (eqb v) vs (x ∷ []) ∙ ap (λ b. list_any (eqb v) vs || (b || false)) differ.0 ∙ or_none (list_any (eqb v) vs)
-]
+-- what isn't in it is found where it was
+other_value : (vs : List (ℕ × ℕ)) (x : ℕ × ℕ) (v : ℕ) → is_between v x ≡ false →
+    list_any (is_between v) (vs ++ x ∷ []) ≡ list_any (is_between v) vs
+other_value vs x v e =
+    list_any-append (is_between v) vs (x ∷ []) ∙ ap (λ b. list_any (is_between v) vs || (b || false)) e ∙ or_none (list_any (is_between v) vs)
 
--- one test more
-pub keeps_more : (f n : ℕ) (values more : List ℕ) (p : Policy) (ps : Policies) → more ≡ values ++ n ∷ [] → p ≡ test f n →
-    KeepsWhere f values (sum_of ps) → KeepsWhere f more (sum_of (part p ps))
-keeps_more f n values more p ps pushed is keeps =
-    subst (λ vs. KeepsWhere f vs (sum_of (part p ps))) (sym pushed)
-    (subst (λ q. KeepsWhere f (values ++ n ∷ []) (sum_of (part q ps))) (sym is) both)
+-- a test keeps the packets with its value
+pub test_keeps : (f n : ℕ) → KeepsWhere f ((n, n) ∷ []) (test f n)
+test_keeps f n pk y = (
+  λ g.
+      let v = slice_index pk f in
+      let h : is_between v (n, n) ≡ true = between v n n (omega (arith, g.0)) (omega (arith, g.0)) in
+      (or_left (is_between v (n, n)) false h, g.2),
+  λ c.
+      let v = slice_index pk f in
+      let e = elim (or_cases (is_between v (n, n)) false c.0) as (λ _. (n ≤ v) × (v ≤ n)) [
+        | inl h ↦ ends_hold v (n, n) h
+        | inr h ↦ absurd (false_true h)
+      ] in
+      (omega (arith, e.0, e.1), refl, c.1),
+)
+
+-- a range keeps those with its values
+pub range_keeps : (f lo hi : ℕ) → KeepsWhere f ((lo, hi) ∷ []) (range f lo hi)
+range_keeps f lo hi pk y = (
+  λ g. let v = slice_index pk f in (or_left (is_between v (lo, hi)) false (between v lo hi g.0 g.1), g.3),
+  λ c.
+      let v = slice_index pk f in
+      let e = elim (or_cases (is_between v (lo, hi)) false c.0) as (λ _. (lo ≤ v) × (v ≤ hi)) [
+        | inl h ↦ ends_hold v (lo, hi) h
+        | inr h ↦ absurd (false_true h)
+      ] in
+      (e.0, e.1, refl, c.1),
+)
+
+-- an interval put at the end is one more
+pub put_more : (old new : List (ℕ × ℕ)) (x : ℕ × ℕ) → new ≡ old ++ x ∷ [] → HaveOneMore old new x
+put_more old new x e v = ap (list_any (is_between v)) e
+
+-- one without a value may be left out
+pub none_more : (old : List (ℕ × ℕ)) (x : ℕ × ℕ) → x.1 < x.0 → HaveOneMore old old x
+none_more old x l v =
+    sym (other_value old x v (false_where (is_between v x) (λ h. let e = ends_hold v x h in let a = e.0 in let b = e.1 in omega (arith, a, b, l))))
+
+-- one part more
+pub keeps_more : (f : ℕ) (x : ℕ × ℕ) (values more : List (ℕ × ℕ)) (p : Policy) (ps : Policies) → HaveOneMore values more x →
+    KeepsWhere f (x ∷ []) p → KeepsWhere f values (sum_of ps) → KeepsWhere f more (sum_of (part p ps))
+keeps_more f x values more p ps put one keeps pk y = (
+  λ g.
+      ⊎_elim
+      (λ h.
+      let k = (one pk y).0 h in
+      (either ∙ or_right (list_any (is_between v) values) (list_any (is_between v) (x ∷ [])) k.0, k.1))
+      (λ h.
+      let k = (keeps pk y).0 h in
+      (either ∙ or_left (list_any (is_between v) values) (list_any (is_between v) (x ∷ [])) k.0, k.1))
+      g,
+  λ c.
+      ⊎_elim
+      (λ h. inr ((keeps pk y).1 (h, c.1)))
+      (λ h. inl ((one pk y).1 (h, c.1)))
+      (or_cases (list_any (is_between v) values) (list_any (is_between v) (x ∷ [])) (sym either ∙ c.0)),
+)
   where
-    either : (v : ℕ) → list_any (eqb v) (values ++ n ∷ []) ≡ list_any (eqb v) values || (eqb v n || false)
-    either v = list_any-append (eqb v) values (n ∷ [])
+    v : ℕ
+    v = slice_index pk f
 
-    tested : (v : ℕ) → eqb v n || false ≡ true → v ≡ n
-    tested v e = elim (or_cases (eqb v n) false e) [
-      | inl same ↦ grind (arith, nat_tests, same)
-      | inr never ↦ absurd (false_true never)
-    ]
+    either : list_any (is_between v) more ≡ list_any (is_between v) values || list_any (is_between v) (x ∷ [])
+    either = put v ∙ list_any-append (is_between v) values (x ∷ [])
 
-    both : KeepsWhere f (values ++ n ∷ []) (sum_of (part (test f n) ps))
-    both pk y = (
-      λ g.
-          ⊎_elim
-          (λ h. (this_value values n (slice_index pk f) h.0, h.2))
-          (λ h.
-          let k = (keeps pk y).0 h in
-          (either (slice_index pk f) ∙ or_left (list_any (eqb (slice_index pk f)) values) (eqb (slice_index pk f) n || false) k.0, k.1))
-          g,
-      λ c.
-          ⊎_elim
-          (λ h. inr ((keeps pk y).1 (h, c.1)))
-          (λ h. inl (tested (slice_index pk f) h, refl, c.1))
-          (or_cases (list_any (eqb (slice_index pk f)) values) (eqb (slice_index pk f) n || false) (sym (either (slice_index pk f)) ∙ c.0)),
-    )
-
--- the same values in another order
-pub keeps_moved : (f : ℕ) (xs ys : List ℕ) (p : Policy) → IsPermutation xs ys → KeepsWhere f xs p → KeepsWhere f ys p
+-- the same intervals in another order
+pub keeps_moved : (f : ℕ) (xs ys : List (ℕ × ℕ)) (p : Policy) → IsPermutation xs ys → KeepsWhere f xs p → KeepsWhere f ys p
 keeps_moved f xs ys p moved keeps pk y =
-    let same = list_any-IsPermutation (eqb (slice_index pk f)) xs ys moved in (
+    let same = list_any-IsPermutation (is_between (slice_index pk f)) xs ys moved in (
       λ g. let k = (keeps pk y).0 g in (sym same ∙ k.0, k.1),
       λ c. (keeps pk y).1 (same ∙ c.0, c.1),
     )
 
 -- the diagram of a policy that keeps packets by the values of a field
-pub values_silent : (st : Held) (maxes : List ℕ) (d f : ℕ) (values : List ℕ) (p : Policy) → st.maxes ≡ maxes →
+pub values_silent : (st : Held) (maxes : List ℕ) (d f : ℕ) (values : List (ℕ × ℕ)) (p : Policy) → st.maxes ≡ maxes →
     HasLeaves st d (λ pk. value_leaf values (min (slice_index pk f) (slice_index maxes f))) → KeepsWhere f values p →
     IsSilent st d p
 values_silent st maxes d f values p same h keeps = record {
   id = h.id;
-  ends = λ pk w. every_same _ _ _ (h.leaf pk w) (ends_or_none (list_any (eqb (min (slice_index pk f) (slice_index maxes f))) values) no_out refl);
+  ends = λ pk w. every_same _ _ _ (h.leaf pk w) (ends_or_none (list_any (is_between (min (slice_index pk f) (slice_index maxes f))) values) no_out refl);
   sends = λ fit pk y t r.
       let here : InRange maxes pk = subst (λ m. InRange m pk) same r in
-      let found : list_any (eqb (min (slice_index pk f) (slice_index maxes f))) values ≡ list_any (eqb (slice_index pk f)) values =
-      ap (λ v. list_any (eqb v) values) (clipped maxes pk f here) in (
+      let found : list_any (is_between (min (slice_index pk f) (slice_index maxes f))) values ≡ list_any (is_between (slice_index pk f)) values =
+      ap (λ v. list_any (is_between v) values) (clipped maxes pk f here) in (
         λ s.
-            let one = one_of (list_any (eqb (min (slice_index pk f) (slice_index maxes f))) values) no_out (out_of s.0 t) (read_out st d _ pk y t h r.0 s) in
+            let one = one_of (list_any (is_between (min (slice_index pk f) (slice_index maxes f))) values) no_out (out_of s.0 t) (read_out st d _ pk y t h r.0 s) in
             let kept = kept_out s.0 t pk y one.1 s.2 in
             (kept.0, (keeps pk y).1 (sym found ∙ one.0, kept.1)),
         λ s.
             let k = (keeps pk y).0 s.1 in
-            let sent : Sends st d pk pk 0 = out_sends st d _ pk [] 0 h r.0 (is_one (list_any (eqb (min (slice_index pk f) (slice_index maxes f))) values) no_out (found ∙ k.0)) in
+            let sent : Sends st d pk pk 0 = out_sends st d _ pk [] 0 h r.0 (is_one (list_any (is_between (min (slice_index pk f) (slice_index maxes f))) values) no_out (found ∙ k.0)) in
             subst (λ x. Sends st d pk x t) (sym k.1) (subst (λ u. Sends st d pk pk u) (sym s.0) sent),
       );
 }
 
 -- and it is a predicate
-pub values_pass : (st : Held) (d : ℕ) (values : List ℕ) (F : List ℕ → ℕ) → HasLeaves st d (λ pk. value_leaf values (F pk)) →
+pub values_pass : (st : Held) (d : ℕ) (values : List (ℕ × ℕ)) (F : List ℕ → ℕ) → HasLeaves st d (λ pk. value_leaf values (F pk)) →
     IsPredicate st d
-values_pass st d values F h = λ pk w. subst IsPass (sym (h.leaf pk w)) (one_or_none (list_any (eqb (F pk)) values))
+values_pass st d values F h = λ pk w. subst IsPass (sym (h.leaf pk w)) (one_or_none (list_any (is_between (F pk)) values))
   where
     one_or_none : (b : Bool) → IsPass (cond b (no_out ∷ []) [])
     one_or_none true = (refl, refl)
@@ -120,6 +168,11 @@ constant_grow old new d outs g k = record { leaves = leaves_grow old new d _ g k
 -- it is a child of each field's nodes
 constant_child : (st : Held) (f d : ℕ) (outs : List Out) → f < 18 → IsConstant st d outs → IsChild st f d
 constant_child st f d outs h k = record { id = k.leaves.id; later = omega (arith, k.top_is, h) }
+
+-- the first intervals with the one at the next place
+take_next : (values : List (ℕ × ℕ)) (i : ℕ) (x : ℕ × ℕ) → i < length values → x ≡ get_or values i (0, 0) →
+    take (i + 1) values ≡ take i values ++ x ∷ []
+take_next values i x l is = take_more values i (0, 0) l ∙ ap (λ e. take i values ++ e ∷ []) (sym is)
 
 -- parts that give what R does give what S does
 built_same : (R S : ℕ → List ℕ → List Out) (st : Held) (f to : ℕ) (ps : List (ℕ × ℕ)) →
@@ -143,51 +196,50 @@ built_gap R st f from x d ps b le child serves = elim (leb_tells x from) [
       (built_push R st st f from ps d (x - 1) b (grows_same st) (omega (arith, some.1)) child (λ v pk w l m. serves v pk w l (omega (arith, m, some.1)))))
 ]
 
--- each of the values is below from
-abbrev pub AreBelow : ℕ → List ℕ → Type 0
-AreBelow from vs = (v : ℕ) → from ≤ v → list_any (eqb v) vs ≡ false
+-- the intervals end below from
+abbrev pub AreBelow : ℕ → List (ℕ × ℕ) → Type 0
+AreBelow from vs = (v : ℕ) → from ≤ v → list_any (is_between v) vs ≡ false
 
--- so is one more below the next
-pub below_more : (from x : ℕ) (vs : List ℕ) → from ≤ x → AreBelow from vs → AreBelow (x + 1) (vs ++ x ∷ [])
-below_more from x vs le below v l = other_value vs x v (λ e. omega (arith, e, l)) ∙ below v (omega (arith, l, le))
+-- so does one more below the next
+below_more : (from : ℕ) (x : ℕ × ℕ) (vs : List (ℕ × ℕ)) → from ≤ x.1 → AreBelow from vs → AreBelow (x.1 + 1) (vs ++ x ∷ [])
+below_more from x vs le below v l = other_value vs x v (behind v x (omega (arith, l))) ∙ below v (omega (arith, l, le))
 
--- the leaf of each of the values
-abbrev pub by_value : List ℕ → ℕ → List ℕ → List Out
+-- the leaf of each value
+abbrev pub by_value : List (ℕ × ℕ) → ℕ → List ℕ → List Out
 by_value vs v pk = value_leaf vs v
 
--- parts up to one value more
-pub value_built : (st : Held) (f from x inside outside : ℕ) (vs : List ℕ) (ps : List (ℕ × ℕ)) → f < 18 → from ≤ x →
+-- parts up to one interval more
+value_built : (st : Held) (f from inside outside : ℕ) (x : ℕ × ℕ) (vs ps : List (ℕ × ℕ)) → f < 18 → from ≤ x.0 → x.0 ≤ x.1 →
     IsConstant st inside (no_out ∷ []) → IsConstant st outside [] → AreBelow from vs → Built (by_value vs) st f from ps →
-    Built (by_value (vs ++ x ∷ [])) st f (x + 1) ((ps ++ gap from x outside) ++ (x, inside) ∷ [])
-value_built st f from x inside outside vs ps h le i o below b =
+    Built (by_value (vs ++ x ∷ [])) st f (x.1 + 1) ((ps ++ gap from x.0 outside) ++ (x.1, inside) ∷ [])
+value_built st f from inside outside x vs ps h le rise i o below b =
     let R = by_value (vs ++ x ∷ []) in
     let leaf : Bool → List Out = λ c. cond c (no_out ∷ []) [] in
-    let first : Built R st f from ps = built_same (by_value vs) R st f from ps (λ v pk l. ap leaf (sym (other_value vs x v (λ e. omega (arith, e, l, le))))) b in
-    let gapped : Built R st f x (ps ++ gap from x outside) =
-    built_gap R st f from x outside ps first le (constant_child st f outside [] h o)
-    (λ v pk w l m. o.leaves.leaf pk w ∙ ap leaf (sym (other_value vs x v (λ e. omega (arith, e, m)) ∙ below v l))) in
-    built_push R st st f x (ps ++ gap from x outside) inside x gapped (grows_same st) (omega arith) (constant_child st f inside (no_out ∷ []) h i)
-    (λ v pk w l m. i.leaves.leaf pk w ∙ ap leaf (sym (this_value vs x v (omega (arith, l, m)))))
+    let first : Built R st f from ps = built_same (by_value vs) R st f from ps (λ v pk l. ap leaf (sym (other_value vs x v (before v x (omega (arith, l, le)))))) b in
+    let gapped : Built R st f x.0 (ps ++ gap from x.0 outside) =
+    built_gap R st f from x.0 outside ps first le (constant_child st f outside [] h o)
+    (λ v pk w l m. o.leaves.leaf pk w ∙ ap leaf (sym (other_value vs x v (before v x m) ∙ below v l))) in
+    built_push R st st f x.0 (ps ++ gap from x.0 outside) inside x.1 gapped (grows_same st) rise (constant_child st f inside (no_out ∷ []) h i)
+    (λ v pk w l m. i.leaves.leaf pk w ∙ ap leaf (sym (this_value vs x v (between v x.0 x.1 l m))))
 
--- what is put for the value at a place
-pub value_step : (st : Held) (f from i inside outside : ℕ) (values : List ℕ) (ps mid more : List (ℕ × ℕ)) → f < 18 → i < length values →
-    from ≤ slice_index values i → IsConstant st inside (no_out ∷ []) → IsConstant st outside [] → AreBelow from (take i values) →
-    mid ≡ ps ++ gap from (slice_index values i) outside → more ≡ mid ++ (slice_index values i, inside) ∷ [] →
-    Built (by_value (take i values)) st f from ps → Built (by_value (take (i + 1) values)) st f (slice_index values i + 1) more
-value_step st f from i inside outside values ps mid more h l le a o below first second b =
-    let x = slice_index values i in
-    let put : more ≡ (ps ++ gap from x outside) ++ (x, inside) ∷ [] = second ∙ ap (λ qs. qs ++ (x, inside) ∷ []) first in
-    subst (λ vs. Built (by_value vs) st f (x + 1) more) (sym (take_more values i 0 l))
-    (subst (λ qs. Built (by_value (take i values ++ x ∷ [])) st f (x + 1) qs) (sym put) (value_built st f from x inside outside (take i values) ps h le a o below b))
+-- what is put for the interval at a place
+pub value_step : (st : Held) (f from i inside outside : ℕ) (x : ℕ × ℕ) (values ps mid more : List (ℕ × ℕ)) → f < 18 → i < length values →
+    x ≡ get_or values i (0, 0) → from ≤ x.0 → x.0 ≤ x.1 → IsConstant st inside (no_out ∷ []) → IsConstant st outside [] →
+    AreBelow from (take i values) → mid ≡ ps ++ gap from x.0 outside → more ≡ mid ++ (x.1, inside) ∷ [] →
+    Built (by_value (take i values)) st f from ps → Built (by_value (take (i + 1) values)) st f (x.1 + 1) more
+value_step st f from i inside outside x values ps mid more h l is le rise a o below first second b =
+    let put : more ≡ (ps ++ gap from x.0 outside) ++ (x.1, inside) ∷ [] = second ∙ ap (λ qs. qs ++ (x.1, inside) ∷ []) first in
+    subst (λ vs. Built (by_value vs) st f (x.1 + 1) more) (sym (take_next values i x l is))
+    (subst (λ qs. Built (by_value (take i values ++ x ∷ [])) st f (x.1 + 1) qs) (sym put) (value_built st f from inside outside x (take i values) ps h le rise a o below b))
 
--- the values up to the place are below the next one
-pub below_step : (from i : ℕ) (values : List ℕ) → i < length values → from ≤ slice_index values i → AreBelow from (take i values) →
-    AreBelow (slice_index values i + 1) (take (i + 1) values)
-below_step from i values l le below =
-    subst (AreBelow (slice_index values i + 1)) (sym (take_more values i 0 l)) (below_more from (slice_index values i) (take i values) le below)
+-- the intervals up to the place end below the next one
+pub below_step : (from i : ℕ) (x : ℕ × ℕ) (values : List (ℕ × ℕ)) → i < length values → x ≡ get_or values i (0, 0) → from ≤ x.1 →
+    AreBelow from (take i values) → AreBelow (x.1 + 1) (take (i + 1) values)
+below_step from i x values l is le below =
+    subst (AreBelow (x.1 + 1)) (sym (take_next values i x l is)) (below_more from x (take i values) le below)
 
 -- parts up to the field's largest value
-pub rest_built : (st : Held) (f from most outside : ℕ) (vs : List ℕ) (ps : List (ℕ × ℕ)) → f < 18 → from ≤ most →
+pub rest_built : (st : Held) (f from most outside : ℕ) (vs ps : List (ℕ × ℕ)) → f < 18 → from ≤ most →
     IsConstant st outside [] → AreBelow from vs → Built (by_value vs) st f from ps →
     Built (by_value vs) st f (most + 1) (ps ++ (most, outside) ∷ [])
 rest_built st f from most outside vs ps h le o below b =
@@ -195,7 +247,7 @@ rest_built st f from most outside vs ps h le o below b =
     (λ v pk w l m. o.leaves.leaf pk w ∙ ap (λ c. cond c (no_out ∷ []) []) (sym (below v l)))
 
 -- parts for all values of the field
-pub values_parts : (st : Held) (f most : ℕ) (vs : List ℕ) (ps : List (ℕ × ℕ)) → f < 18 → most ≡ slice_index st.maxes f →
+pub values_parts : (st : Held) (f most : ℕ) (vs ps : List (ℕ × ℕ)) → f < 18 → most ≡ slice_index st.maxes f →
     Built (by_value vs) st f (most + 1) ps → HaveParts st f (λ v pk. value_leaf vs (min v (slice_index st.maxes f))) ps
 values_parts st f most vs ps h is b =
     let R = λ (v : ℕ) (pk : List ℕ). value_leaf vs (min v (slice_index st.maxes f)) in
@@ -208,7 +260,7 @@ values_parts st f most vs ps h is b =
     }
 
 -- the node of these parts
-pub values_case : (old st new : Held) (f r : ℕ) (values : List ℕ) (ps : List (ℕ × ℕ)) → Grows old st →
+pub values_case : (old st new : Held) (f r : ℕ) (values ps : List (ℕ × ℕ)) → Grows old st →
     HaveParts st f (λ v pk. value_leaf values (min v (slice_index st.maxes f))) ps →
     HasLeaves new r (λ pk. look st (child_at 0 ps (slice_index pk f)) pk) →
     HasLeaves new r (λ pk. value_leaf values (min (slice_index pk f) (slice_index old.maxes f)))

@@ -1,13 +1,13 @@
-//! A sum of tests of one field, as one node.
+//! A sum of tests and ranges of one field, as one node.
 ghost use Rattle.std.specs.Prelude.{◌≡◌, ◌<◌, ◌≤◌, ◌++◌, [], ◌∷◌, min, slice_index, IfOk, IfSome, OnOk};
-ghost use Rattle.nk_policy.specs.Policy.{test, sum_of};
+ghost use Rattle.nk_policy.specs.Policy.{sum_of};
 ghost use Rattle.nk_policy.specs.Tree.{tree_of, trees_of};
 ghost use Rattle.nk_store.specs.Held.{Grows, HasLeaves};
 ghost use Rattle.nk_algebra.specs.Predicates.{IsPredicate};
 ghost use Rattle.nk_algebra.specs.Seqs.{no_out};
 ghost use Rattle.nk_algebra.specs.Unions.{HaveParts};
 ghost use Rattle.nk_auto.specs.Continued.{IsSilent};
-ghost use Rattle.nk_auto.specs.Values.{KeepsWhere, value_leaf, IsConstant, gap};
+ghost use Rattle.nk_auto.specs.Values.{KeepsWhere, HaveOneMore, value_leaf, IsConstant, gap};
 
 use nk_algebra::{empty, identity};
 use nk_field::{Fid, List};
@@ -15,7 +15,8 @@ use nk_policy::Pol;
 use nk_store::{Id, Store};
 use std::alloc::{AllocError, Global};
 
-/// The diagram of a sum of three or more tests of one field, each of another value: a predicate. None for another policy.
+/// The diagram of a sum of three or more tests and ranges of one field, no two of which hold of one value: a predicate. None for
+/// another policy.
 #[tactic(auto, using(nk_policy::proofs::Trees::tree_of_sum))]
 pub(crate) fn tests_of_sum(st: &mut Store, p: &Pol) -> Result<Option<Id>, AllocError>
     ensures grows { Grows st.old st.new }
@@ -39,61 +40,73 @@ pub(crate) fn tests_together(st: &mut Store, ps: &[Pol]) -> Result<Option<Id>, A
     }
     match &ps[0] {
         Pol::Test(f, _) => tests_of(st, *f, ps),
+        Pol::Range(f, _, _) => tests_of(st, *f, ps),
         _ => Ok(None),
     }
 }
 
-/// The same of tests of this field.
+/// The same of tests and ranges of this field.
 fn tests_of(st: &mut Store, f: Fid, ps: &[Pol]) -> Result<Option<Id>, AllocError>
     ensures grows { Grows st.old st.new }
     ensures ok { IfOk result (λ o. IfSome o (λ d. IsSilent st.new d (sum_of (trees_of ps.now)))) }
     ensures predicate { IfOk result (λ o. IfSome o (λ d. IsPredicate st.new d)) }
 {
     match tested_values(st.alloc(), f, ps)? {
-        Some(values) => values_where(st, f, values.as_slice()),
+        Some(intervals) => values_where(st, f, intervals.as_slice()),
         None => Ok(None),
     }
 }
 
-/// The values of tests of the field, ascending.
-fn tested_values(alloc: Global, f: Fid, ps: &[Pol]) -> Result<Option<List<u64>>, AllocError>
-    ensures { IfOk result (λ o. IfSome o (λ values. KeepsWhere f values (sum_of (trees_of ps.now)))) }
+/// The intervals of the values of tests and ranges of the field, by their ends, ascending; those of no value are left out.
+fn tested_values(alloc: Global, f: Fid, ps: &[Pol]) -> Result<Option<List<(u64, u64)>>, AllocError>
+    ensures { IfOk result (λ o. IfSome o (λ intervals. KeepsWhere f intervals (sum_of (trees_of ps.now)))) }
 {
     let mut found = List::new(alloc);
     let mut i = ps.len();
     while i > 0 {
         i -= 1;
-        let Some(n) = tested_value(&ps[i], f) else {
+        let Some(ends) = tested_value(&ps[i], f) else {
             return Ok(None);
         };
-        found.push(n)?;
+        push_values(&mut found, ends)?;
     }
-    let mut values = found.into_vec();
-    values.sort_unstable();
-    Ok(Some(List::from_vec(values)))
+    let mut intervals = found.into_vec();
+    intervals.sort_unstable();
+    Ok(Some(List::from_vec(intervals)))
 }
 
-/// The value of a test of the field.
-fn tested_value(p: &Pol, f: Fid) -> Option<u64>
-    ensures { IfSome result (λ n. tree_of p.now ≡ test f n) }
+/// The ends of the values of a test or a range of the field.
+fn tested_value(p: &Pol, f: Fid) -> Option<(u64, u64)>
+    ensures { IfSome result (λ ends. KeepsWhere f (ends ∷ []) (tree_of p.now)) }
 {
     match p {
-        Pol::Test(g, n) => { if *g == f { Some(*n) } else { None } }
+        Pol::Test(g, n) => { if *g == f { Some((*n, *n)) } else { None } }
+        Pol::Range(g, lo, hi) => { if *g == f { Some((*lo, *hi)) } else { None } }
         _ => None,
     }
 }
 
-/// The packet itself where the field has one of the values. None where these don't ascend strictly, up to the field's largest
-/// value at most.
-fn values_where(st: &mut Store, f: Fid, values: &[u64]) -> Result<Option<Id>, AllocError>
+/// Puts the interval at the end, if it has a value.
+fn push_values(found: &mut List<(u64, u64)>, ends: (u64, u64)) -> Result<(), AllocError>
+    ensures { OnOk result (HaveOneMore found.old found.new ends) }
+{
+    if ends.0 <= ends.1 {
+        found.push(ends)?;
+    }
+    Ok(())
+}
+
+/// The packet itself where the field's value is in one of the intervals. None where these don't ascend, each behind the one
+/// before, up to the field's largest value at most.
+fn values_where(st: &mut Store, f: Fid, intervals: &[(u64, u64)]) -> Result<Option<Id>, AllocError>
     ensures grows { Grows st.old st.new }
     ensures ok { IfOk result (λ o. IfSome o (λ d. HasLeaves st.new d
-        (λ pk. value_leaf values.now (min (slice_index pk f) (slice_index st.old.maxes f))))) }
+        (λ pk. value_leaf intervals.now (min (slice_index pk f) (slice_index st.old.maxes f))))) }
 {
     let _place = f.place();
     let outside = empty(st)?;
     let inside = identity(st)?;
-    match value_parts(st, f, values, inside, outside)? {
+    match value_parts(st, f, intervals, inside, outside)? {
         Some(parts) => {
             let d = st.case(f, parts)?;
             Ok(Some(d))
@@ -102,11 +115,11 @@ fn values_where(st: &mut Store, f: Fid, values: &[u64]) -> Result<Option<Id>, Al
     }
 }
 
-/// The parts by the field, with one child at these values and another one elsewhere, put in one pass.
+/// The parts by the field, with one child in these intervals and another one elsewhere, put in one pass.
 fn value_parts(
     st: &Store,
     f: Fid,
-    values: &[u64],
+    intervals: &[(u64, u64)],
     inside: Id,
     outside: Id,
 ) -> Result<Option<List<(u64, Id)>>, AllocError>
@@ -114,28 +127,31 @@ fn value_parts(
     requires inside { IsConstant st.now inside (no_out ∷ []) }
     requires outside { IsConstant st.now outside [] }
     ensures { IfOk result (λ o. IfSome o
-        (HaveParts st.now f (λ v pk. value_leaf values.now (min v (slice_index st.now.maxes f))))) }
+        (HaveParts st.now f (λ v pk. value_leaf intervals.now (min v (slice_index st.now.maxes f))))) }
 {
     let max = st.max(f);
     let mut parts = List::new(st.alloc());
     let mut from = 0;
-    for i in 0..values.len() {
-        let v = values[i];
-        if v < from {
+    for i in 0..intervals.len() {
+        let (lo, hi) = intervals[i];
+        if lo < from {
             return Ok(None);
         }
-        if v > max {
+        if hi < lo {
             return Ok(None);
         }
-        push_gap(&mut parts, from, v, outside)?;
-        parts.push((v, inside))?;
-        if v == max {
-            if i + 1 < values.len() {
+        if hi > max {
+            return Ok(None);
+        }
+        push_gap(&mut parts, from, lo, outside)?;
+        parts.push((hi, inside))?;
+        if hi == max {
+            if i + 1 < intervals.len() {
                 return Ok(None);
             }
             return Ok(Some(parts));
         }
-        from = v + 1;
+        from = hi + 1;
     }
     parts.push((max, outside))?;
     Ok(Some(parts))

@@ -1,5 +1,5 @@
 -- The predicate that is printed for a packet set is one whose text is read back.
-use Rattle.std.proofs.Common.{◌≡◌, ℕ, zero, suc, ◌+◌, ◌-◌, ◌*◌, ◌<◌, ◌≤◌, Bool, true, false, cond, inl, inr, List, [], ◌∷◌, ◌++◌, length, refl, arith}
+use Rattle.std.proofs.Common.{◌≡◌, ℕ, ◌+◌, ◌-◌, ◌*◌, ◌<◌, ◌≤◌, Bool, true, false, cond, inl, inr, List, [], ◌∷◌, ◌++◌, length, refl, arith}
 use Rattle.std.specs.Prelude.{◌==◌, nat_lt, slice_index}
 use Rattle.std.specs.List.{flat_map}
 use Rattle.std.proofs.lemmas.List.{get_or_past}
@@ -11,7 +11,7 @@ use Rattle.nk_store.specs.declared.node.Out.{Out}
 use Rattle.nk_store.specs.Diagram.{Branches, leaf, case, no_branch, branch, IsReduced, AreReduced}
 use Rattle.nk_store.specs.Intervals.{same_tree, with_most, values_with}
 use Rattle.nk_names.specs.ReadBack.{IsReadablePredicate, HasNoLonePart, HaveNoLonePart}
-use Rattle.nk_sets.specs.Predicate.{SetTree, SetInterval, same_outs, is_empty_set, is_full_set, parts_of, sum_of_terms, guarded, part_of, parts_outside, terms_of, else_condition, else_terms, predicate_at, predicate_of, intervals_of}
+use Rattle.nk_sets.specs.Predicate.{SetTree, SetInterval, same_outs, is_empty_set, is_full_set, parts_of, sum_of_terms, guarded, part_of, parts_outside, terms_of, conditions_of, else_condition, else_terms, predicate_at, predicate_of, intervals_of}
 
 -- a predicate over the fields, at most so deep, with no sum or sequence of one part
 record IsGood (fields : FieldTable) (most : ℕ) (p : Policy) : Type 0 where
@@ -111,24 +111,29 @@ append_good :
 append_good fields most [] qs g h = h
 append_good fields most (p ∷ ps) qs g h = (g.0, append_good fields most ps qs g.1 h)
 
--- the values of an interval, as a test or a range
+-- a part as a condition: a test of its one value, or a range
 part_good :
-    (fields : FieldTable) (most f : ℕ) (i : SetInterval) → f < length fields.maxima → 1 ≤ most
-    → i.first ≤ i.last → i.last ≤ slice_index fields.maxima f → IsGood fields most (part_of f i)
-part_good fields most f i lt le rises within = by (i.first == i.last) refl
+    (fields : FieldTable) (most f : ℕ) (i : SetInterval) → f < length fields.maxima → 1 ≤ most → i.first ≤ i.last
+    → i.last ≤ slice_index fields.maxima f → IsGood fields most (part_of f i)
+part_good fields most f i lt le rises ends = by (i.first == i.last)
   where
-    by : (b : Bool) → (i.first == i.last) ≡ b → IsGood fields most (cond b (test f i.first) (range f i.first i.last))
-    by true e = test_good fields most f i.first le (lt, omega (arith, rises, within))
-    by false e = record { predicate = refl; over = ((lt, omega (arith, rises, within)), (lt, within)); shallow = le; no_lone_part = tt }
+    by : (b : Bool) → IsGood fields most (cond b (test f i.first) (range f i.first i.last))
+    by true = test_good fields most f i.first le (lt, omega (arith, rises, ends))
+    by false = record {
+      predicate = refl;
+      over = ((lt, omega (arith, rises, ends)), (lt, ends));
+      shallow = le;
+      no_lone_part = tt;
+    }
 
--- the values that are not of the else-child
-outside_good :
+-- the conditions of all parts
+conditions_good :
     (fields : FieldTable) (f most : ℕ) (other : SetTree) (is : List SetInterval) → f < length fields.maxima
     → AreGoodIntervals fields f most is → AreGood fields 1 (parts_outside f other is)
-outside_good fields f most other [] lt g = tt
-outside_good fields f most other (i ∷ is) lt g =
-    append_good fields 1 (cond (same_tree other same_outs i.child) [] (part_of f i ∷ [])) (parts_outside f other is)
-    (by (same_tree other same_outs i.child)) (outside_good fields f most other is lt g.1)
+conditions_good fields f most other [] lt g = tt
+conditions_good fields f most other (i ∷ is) lt g =
+    append_good fields 1 (conditions_of f other i) (parts_outside f other is)
+    (by (same_tree other same_outs i.child)) (conditions_good fields f most other is lt g.1)
   where
     by : (b : Bool) → AreGood fields 1 (cond b [] (part_of f i ∷ []))
     by true = tt
@@ -143,7 +148,11 @@ terms_good fields f most other i lt le g = by (same_tree other same_outs i.child
     by : (b n : Bool) → AreGood fields (1 + most) (cond b [] (cond n [] (guarded (part_of f i) i.child i.made ∷ [])))
     by true n = tt
     by false true = tt
-    by false false = (guarded_good fields most (part_of f i) i.made i.child (part_good fields most f i lt le g.0 g.1) g.2, tt)
+    by false false = (
+      guarded_good fields most (part_of f i) i.made i.child
+          (part_good fields most f i lt le g.0 g.1) g.2,
+      tt,
+    )
 
 -- those of all intervals
 all_terms_good :
@@ -179,9 +188,9 @@ else_good fields f most other is lt le o g = by (is_empty_set other.child)
   where
     condition : IsGood fields 3 (else_condition f other is)
     condition =
-        let sum = sum_of_terms (parts_outside f other.child is) in
-        deeper fields (1 + (1 + 1)) 3 (not_of sum) (omega arith)
-        (not_good fields (1 + 1) sum (sum_good fields 1 (parts_outside f other.child is) (outside_good fields f most other.child is lt g)))
+        let parts = parts_outside f other.child is in
+        deeper fields (1 + (1 + 1)) 3 (not_of (sum_of_terms parts)) (omega arith)
+        (not_good fields (1 + 1) (sum_of_terms parts) (sum_good fields 1 parts (conditions_good fields f most other.child is lt g)))
 
     by : (b : Bool) → AreGood fields (1 + most) (cond b [] (guarded (else_condition f other is) other.child other.made ∷ []))
     by true = tt

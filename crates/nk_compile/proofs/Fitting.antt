@@ -3,7 +3,7 @@
 use Rattle.std.proofs.Common.{◌≡◌, ℕ, ◌-◌, ◌≤◌, ◌<◌, List, [], ◌∷◌, sym, ap, subst, ◌∙◌, length, get_or, take, replicate, arith, Some}
 use Rattle.std.proofs.Math.Seq.{take-append_seam}
 use Rattle.nk_field.specs.Packet.{FieldTable, IsFieldTable}
-use Rattle.nk_policy.specs.Policy.{Policy, Policies, test, assign, sum_of, seq_of, not_of, star_of, dup, link, no_part, part}
+use Rattle.nk_policy.specs.Policy.{Policy, Policies, test, range, assign, sum_of, seq_of, not_of, star_of, dup, link, no_part, part}
 use Rattle.nk_policy.specs.Ranges.{IsInRange, AssignsOnly, AllAssignOnly}
 use Rattle.nk_names.specs.Complements.{NegatesPredicates, AllNegatePredicates}
 use Rattle.nk_store.specs.Held.{Held, IsOver, HasFields}
@@ -17,6 +17,7 @@ mutual
   -- complements over predicates, by either name
   over_predicates : (p : Policy) → NegatesPredicates p → IsOverPredicates p
   over_predicates (test f n) h = tt
+  over_predicates (range f lo hi) h = tt
   over_predicates (assign f n) h = tt
   over_predicates (sum_of ps) h = all_over_predicates ps h
   over_predicates (seq_of ps) h = all_over_predicates ps h
@@ -33,6 +34,7 @@ mutual
   -- what is assigned under one condition is assigned under a weaker one
   assigns_weaker : (P Q : ℕ → ℕ → Type 0) → ((f n : ℕ) → P f n → Q f n) → (p : Policy) → AssignsOnly P p → AssignsOnly Q p
   assigns_weaker P Q h (test f n) a = tt
+  assigns_weaker P Q h (range f lo hi) a = tt
   assigns_weaker P Q h (assign f n) a = h f n a
   assigns_weaker P Q h (sum_of ps) a = all_assign_weaker P Q h ps a
   assigns_weaker P Q h (seq_of ps) a = all_assign_weaker P Q h ps a
@@ -77,9 +79,9 @@ module _ (fields : FieldTable) (st : Held) (tag : ℕ) (table : IsFieldTable fie
 
   -- a policy of the fields suits the store
   pub fit : (p : Policy) → NegatesPredicates p → IsInRange p fields → IsFit st.maxes p
-  fit p complements range = (
+  fit p complements values = (
     over_predicates p complements,
-    assigns_weaker _ _ (λ f n le. subst (λ m. n ≤ m) (sym (set_up.same f)) le) p range,
+    assigns_weaker _ _ (λ f n le. subst (λ m. n ≤ m) (sym (set_up.same f)) le) p values,
   )
 
   -- switches and ports have 65535 values and more

@@ -174,10 +174,14 @@ module _ (fields : FieldTable) (topo : Topology) (tag : ℕ) (p : Policy) (st : 
         below : (l : ℕ) → 1 ≤ l → 0 < l
         below l one = omega (arith, one)
 
+  -- the store's largest values of declared fields are theirs
+  declared_are : take st.width st.maxes ≡ fields.maxima
+  declared_are = ap (λ n. take n st.maxes) ready.over.width ∙ (set_up fields st tag clear.table ready.over clear.tag_is).front
+
   -- the tree of a tag is that of its states
   tree_is : (sw : ℕ) (e : TagTree) → e.tag ≤ length tags → IsTagTree st ss rows tags tag sw e → IsTreeOf fields tag p (sets_of ss tags) e.tag sw e.tree
   tree_is sw e le k = record {
-    reduced = subst (λ m. IsReduced e.tree m 1) (ap (λ n. take n st.maxes) ready.over.width ∙ (set_up fields st tag clear.table ready.over clear.tag_is).front) k.reduced;
+    reduced = subst (λ m. IsReduced e.tree m 1) declared_are k.reduced;
     tag_free = k.tag_free;
     leaves = λ pk packet here.
         let r : IsPacketOf st pk = packet_in_range fields st pk ready.over packet in
@@ -203,6 +207,6 @@ module _ (fields : FieldTable) (topo : Topology) (tag : ℕ) (p : Policy) (st : 
     each = all_from_members (λ (e : TagTree). IsTreeOf fields tag p (sets_of ss tags) e.tag t.switch e.tree) k.trees (λ e i.
         let le = members_from_all (λ n. n ≤ length tags) s.tags within e.tag (subst (λ l. In l e.tag) k.tags_are (in_mapped (λ (x : TagTree). x.tag) k.trees e i)) in
         subst (λ sw. IsTreeOf fields tag p (sets_of ss tags) e.tag sw e.tree) (sym k.switch) (tree_is s.switch e le (members_from_all (IsTagTree st ss rows tags tag s.switch) k.trees k.each e i)));
-    groups = k.groups ∙ ap (λ n. groups_of (rows_of_trees n tag k.trees)) ready.over.width;
-    rows = k.rows ∙ ap (λ n. rows_after [] (rows_of_trees n tag k.trees)) ready.over.width;
+    groups = k.groups ∙ ap (λ m. groups_of (rows_of_trees m tag k.trees)) declared_are;
+    rows = k.rows ∙ ap (λ m. rows_after [] (rows_of_trees m tag k.trees)) declared_are;
   }

@@ -1,10 +1,10 @@
--- A field past the port that a policy neither tests nor sets makes no difference to what the policy does, and keeps its value.
+-- A field past the port that a policy neither tests, by a value or a range, nor sets makes no difference to what the policy does, and keeps its value.
 use Rattle.std.proofs.Common.{◌≡◌, ◌≢◌, ℕ, zero, suc, ◌+◌, ◌≤◌, ⊎_elim, inl, inr, false, List, [], ◌∷◌, refl, sym, ap, subst, ◌∙◌, arith, get_or-set_other}
 use Rattle.std.specs.Prelude.{◌==◌, map, slice_index, slice_set}
 use Rattle.std.proofs.lemmas.List.{set_comm, set-set, set-get_or}
 use Rattle.nk_field.specs.declared.packet.Packet.{Packet}
 use Rattle.nk_field.proofs.Lists.{map_joined}
-use Rattle.nk_policy.specs.Policy.{Policy, Policies, test, assign, sum_of, seq_of, not_of, star_of, dup, link, no_part, part}
+use Rattle.nk_policy.specs.Policy.{Policy, Policies, test, range, assign, sum_of, seq_of, not_of, star_of, dup, link, no_part, part}
 use Rattle.nk_policy.specs.Meaning.{Way, Gives, rounds, way_of, some_way_of, way_of_all}
 use Rattle.nk_policy.specs.Progress.{Marked, Front, numbered, within_either, RecordsAt, SomeRecordsAt, AllRecordAt}
 use Rattle.nk_policy.specs.Leaves.{has_leaf, some_has_leaf, is_on_field}
@@ -44,6 +44,7 @@ module _ (tag : ℕ) (past : 2 ≤ tag) where
     -- a policy no leaf of which is on the field uses others alone
     pub uses_others : (p : Policy) → has_leaf (is_on_field tag) p ≡ false → UsesOnly (IsOther tag) p
     uses_others (test f n) h = other f h
+    uses_others (range f lo hi) h = (other f h, other f h)
     uses_others (assign f n) h = other f h
     uses_others (sum_of ps) h = all_use_others ps h
     uses_others (seq_of ps) h = all_use_others ps h
@@ -83,6 +84,16 @@ module _ {A : Type 0} (tag : ℕ) (mark : ℕ → Packet → A) (change : ℕ �
   test_stays : (f n : ℕ) → f ≢ tag → Stays (way_of (test f n) mark)
   test_stays f n ne v pk w y r = (get_or-set_other pk tag f v 0 ne ∙ r.0, ap (map (change v)) r.1, ap (λ z. slice_set z tag v) r.2)
 
+  -- a range
+  range_stays : (f lo hi : ℕ) → f ≢ tag → Stays (way_of (range f lo hi) mark)
+  range_stays f lo hi ne v pk w y r =
+      let same : slice_index pk f ≡ slice_index (slice_set pk tag v) f = sym (get_or-set_other pk tag f v 0 ne) in (
+        subst (λ n. lo ≤ n) same r.0,
+        subst (λ n. n ≤ hi) same r.1,
+        ap (map (change v)) r.2,
+        ap (λ z. slice_set z tag v) r.3,
+      )
+
   -- an assignment
   assign_stays : (f n : ℕ) → f ≢ tag → Stays (way_of (assign f n) mark)
   assign_stays f n ne v pk w y r = (ap (map (change v)) r.0, ap (λ z. slice_set z tag v) r.1 ∙ set_comm pk f tag n v ne)
@@ -120,6 +131,7 @@ module _ {A : Type 0} (tag : ℕ) (mark : ℕ → Packet → A) (change : ℕ �
     -- a policy that uses other fields alone does the same, whatever the value of this one
     pub way_stays : (p : Policy) → UsesOnly (IsOther tag) p → Stays (way_of p mark)
     way_stays (test f n) u v pk w y r = test_stays f n u v pk w y r
+    way_stays (range f lo hi) u v pk w y r = range_stays f lo hi u.0 v pk w y r
     way_stays (assign f n) u v pk w y r = assign_stays f n u v pk w y r
     way_stays (sum_of ps) u v pk w y r = some_way_stays ps u v pk w y r
     way_stays (seq_of ps) u v pk w y r = all_way_stays ps u v pk w y r
@@ -189,6 +201,7 @@ module _ (tag v : ℕ) where
     -- a policy that uses other fields alone records the same
     pub records_stay : (p : Policy) → UsesOnly (IsOther tag) p → RecordsStay (RecordsAt p)
     records_stay (test f n) u pk w x l r = absurd r
+    records_stay (range f lo hi) u pk w x l r = absurd r
     records_stay (assign f n) u pk w x l r = absurd r
     records_stay (sum_of ps) u pk w x l r = some_records_stay ps u pk w x l r
     records_stay (seq_of ps) u pk w x l r = all_records_stay ps u pk w x l r

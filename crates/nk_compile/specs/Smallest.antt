@@ -33,7 +33,7 @@ abbrev pub one_table : Table
 one_table = record {
   switch = 1;
   groups = [];
-  rows = record { priority = 0; matches = (2, 0) ∷ []; target = target.Bucket straight_back } ∷ [];
+  rows = record { priority = 0; matches = (2, 0, 3) ∷ []; target = target.Bucket straight_back } ∷ [];
 }
 
 abbrev pub one_row : Tables

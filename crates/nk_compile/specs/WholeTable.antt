@@ -3,7 +3,7 @@ use Rattle.std.specs.Prelude.{◌≡◌, ℕ, zero, suc, ◌↔◌, ◌==◌, if
 use Rattle.std.specs.List.Sorted.{IsStrictlyIncreasing}
 use Rattle.nk_field.specs.Packet.{FieldTable}
 use Rattle.nk_topo.specs.Topology.{Topology}
-use Rattle.nk_policy.specs.Policy.{Policy, Policies, test, assign, sum_of, seq_of, not_of, star_of, dup, link, no_part, part}
+use Rattle.nk_policy.specs.Policy.{Policy, Policies, test, range, assign, sum_of, seq_of, not_of, star_of, dup, link, no_part, part}
 use Rattle.nk_table.specs.declared.Table.{Table}
 use Rattle.nk_table.specs.declared.Tables.{Tables}
 use Rattle.nk_group.specs.Groups.{groups_of, rows_after}
@@ -19,6 +19,7 @@ or_else (Some n) o = Some n
 abbrev mutual
   pub link_end : Policy → ℕ → Option ℕ
   link_end (test f n) l = None
+  link_end (range f lo hi) l = None
   link_end (assign f n) l = None
   link_end (sum_of ps) l = link_end_among ps l
   link_end (seq_of ps) l = link_end_among ps l
@@ -43,8 +44,8 @@ pub record IsSwitchTable (fields : FieldTable) (tag : ℕ) (p : Policy) (tags : 
   pub ascending : IsStrictlyIncreasing (map (λ e. e.tag) trees)
   pub exactly : (t : ℕ) → Contains (map (λ e. e.tag) trees) t ↔ HasRowsAt p tags table.switch t
   pub each : All (λ e. IsTreeOf fields tag p tags e.tag table.switch e.tree) trees
-  pub groups : table.groups ≡ groups_of (rows_of_trees (length fields.maxima) tag trees)
-  pub rows : table.rows ≡ rows_after [] (rows_of_trees (length fields.maxima) tag trees)
+  pub groups : table.groups ≡ groups_of (rows_of_trees fields.maxima tag trees)
+  pub rows : table.rows ≡ rows_after [] (rows_of_trees fields.maxima tag trees)
 
 -- the tables that are printed for a policy whose packets start where Start holds
 pub record IsTableOf (fields : FieldTable) (topo : Topology) (Start : List ℕ → Type 0) (p : Policy) (t : Tables) : Type 0 where

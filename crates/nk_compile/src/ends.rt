@@ -38,7 +38,7 @@ fn put_ends(ends: &mut List<Option<u16>>, p: &Pol)
     ensures { HasEnds ends.old ends.new (tree_of p.now) }
 {
     match p {
-        Pol::Test(_, _) | Pol::Set(_, _) | Pol::Dup(_) => (),
+        Pol::Test(_, _) | Pol::Range(_, _, _) | Pol::Set(_, _) | Pol::Dup(_) => (),
         Pol::Sum(ps) => put_all_ends(ends, ps.as_slice()),
         Pol::Seq(ps) => put_all_ends(ends, ps.as_slice()),
         Pol::Not(q) => put_ends(ends, q),

@@ -15,7 +15,7 @@ pub enum Refusal {
     /// No tag is declared.
     #[error("no tag")]
     NoTag,
-    /// The policy tests or sets the tag.
+    /// The policy tests the tag, by a value or a range, or sets it.
     #[error("tag used")]
     TagUsed,
     /// A dup stands outside of a link literal.

@@ -2,7 +2,7 @@
 ghost use Rattle.std.specs.Prelude.{◌≡◌, ◌==◌, ◌&&◌, ◌||◌, Bool, Some};
 ghost use Rattle.nk_policy.specs.Tree.{tree_of, trees_of};
 ghost use Rattle.std.specs.List.{list_any};
-ghost use Rattle.nk_policy.specs.Policy.{test, assign, dup, link};
+ghost use Rattle.nk_policy.specs.Policy.{test, range, assign, dup, link};
 ghost use Rattle.nk_policy.specs.Leaves.{has_leaf, some_has_leaf};
 ghost use Rattle.nk_names.specs.Accepted.{is_link_outside};
 ghost use Rattle.nk_compile.specs.Refusals.{seen_with};
@@ -17,7 +17,7 @@ use nk_topo::Topo;
 /// What is looked for at the leaves of a policy.
 #[derive(Clone, Copy)]
 pub enum Sought {
-    /// A test or an assignment of the field.
+    /// A test, a range or an assignment of the field.
     OnField(Fid),
     /// A dup outside of a link literal.
     LooseDup,
@@ -52,6 +52,7 @@ fn holds_leaf(p: &Pol, topo: &Topo, sought: &Sought) -> bool
 {
     match p {
         Pol::Test(f, n) => is_sought_test(topo, sought, *f, *n),
+        Pol::Range(f, lo, hi) => is_sought_range(topo, sought, *f, *lo, *hi),
         Pol::Set(f, n) => is_sought_assignment(topo, sought, *f, *n),
         Pol::Sum(ps) => some_holds_leaf(ps.as_slice(), topo, sought),
         Pol::Seq(ps) => some_holds_leaf(ps.as_slice(), topo, sought),
@@ -78,6 +79,16 @@ fn some_holds_leaf(ps: &[Pol], topo: &Topo, sought: &Sought) -> bool
 /// Whether a test is looked for.
 fn is_sought_test(_topo: &Topo, sought: &Sought, f: Fid, _n: u64) -> bool
     ensures { result ≡ test_for sought.now _topo.now (test f _n) }
+{
+    match sought {
+        Sought::OnField(g) => *g == f,
+        _ => false,
+    }
+}
+
+/// Whether a range is looked for.
+fn is_sought_range(_topo: &Topo, sought: &Sought, f: Fid, _lo: u64, _hi: u64) -> bool
+    ensures { result ≡ test_for sought.now _topo.now (range f _lo _hi) }
 {
     match sought {
         Sought::OnField(g) => *g == f,

@@ -1,7 +1,8 @@
 -- The laws on rows, from those on the ways through the tree.
-use Rattle.std.proofs.Common.{◌≡◌, ℕ, Bool, true, false, cond, inl, inr, ⊎_elim, List, [], ◌∷◌, length, refl, sym, ap, subst, ◌∙◌, arith}
+use Rattle.std.proofs.Common.{◌≡◌, ◌≢◌, ℕ, Bool, true, false, cond, inl, inr, ⊎_elim, List, [], ◌∷◌, length, refl, sym, ap, subst, ◌∙◌, arith}
 use Rattle.std.specs.Prelude.{◌==◌, ◌&&◌, ◌||◌, not, map, filter, slice_index, nat_lt}
 use Rattle.std.specs.List.{list_all}
+use Rattle.std.proofs.lemmas.Bool.Decides.{nat_tests}
 use Rattle.nk_field.proofs.Lists.{from_mapped, in_from_contains}
 use Rattle.nk_prefix.specs.Prefix.{digits_of}
 use Rattle.nk_prefix.proofs.Covers.{exact}
@@ -41,6 +42,12 @@ pub exactly_agrees :
     (maxima pk : List ℕ) (f v : ℕ) → slice_index pk f ≡ v → agrees_at maxima pk (exactly maxima f v) ≡ true
 exactly_agrees maxima pk f v h =
     exact v (digits_of (slice_index maxima f)) (slice_index pk f) ∙ ap (λ n. n == v) h ∙ eq_self v
+
+-- and not with another one
+pub exactly_differs :
+    (maxima pk : List ℕ) (f v : ℕ) → slice_index pk f ≢ v → agrees_at maxima pk (exactly maxima f v) ≡ false
+exactly_differs maxima pk f v h =
+    exact v (digits_of (slice_index maxima f)) (slice_index pk f) ∙ (let n : (slice_index pk f == v) ≡ false = grind (arith, nat_tests, h) in n)
 
 -- false changes nothing
 or_false : (a : Bool) → a ≡ a || false

@@ -63,7 +63,7 @@ struct Place {
 }
 
 /// One of them.
-fn place(draws: &mut Draws, largest: Largest) -> Place {
+fn one_place(draws: &mut Draws, largest: Largest) -> Place {
     match draws.below(5) {
         0 => Place {
             name: b"pt",
@@ -87,7 +87,7 @@ fn value(draws: &mut Draws, place: Place) -> u64 {
 
 /// A test.
 fn put_test(text: &mut Vec<u8>, draws: &mut Draws, largest: Largest) -> Result<(), AllocError> {
-    let place = place(draws, largest);
+    let place = one_place(draws, largest);
     text.extend_from_slice(place.name)?;
     text.extend_from_slice(b"=")?;
     put_number(text, value(draws, place))
@@ -95,7 +95,7 @@ fn put_test(text: &mut Vec<u8>, draws: &mut Draws, largest: Largest) -> Result<(
 
 /// A range, mostly with the lesser value first.
 fn put_range(text: &mut Vec<u8>, draws: &mut Draws, largest: Largest) -> Result<(), AllocError> {
-    let place = place(draws, largest);
+    let place = one_place(draws, largest);
     let x = value(draws, place);
     let y = value(draws, place);
     let ascends = draws.below(8) > 0;

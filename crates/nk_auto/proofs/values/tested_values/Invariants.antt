@@ -4,7 +4,7 @@ use Rattle.nk_policy.specs.Tree.{trees_of}
 use Rattle.nk_auto.specs.Values.{KeepsWhere}
 use Rattle.nk_auto.proofs.values.tested_values.Given as goal
 
--- the parts from the place on are tests of the values that were found
+-- the parts from the place on keep packets by the intervals that were found
 abbrev pub invariant-loop-i : goal.invariant-loop-i
 invariant-loop-i l = record {
   within : l.i ≤ length l.ps;

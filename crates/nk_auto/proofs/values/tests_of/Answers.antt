@@ -11,10 +11,10 @@ use Rattle.nk_auto.proofs.values.tests_of.Goals as goal
 pub returns-in-Some-clause-ok : goal.returns-in-Some-clause-ok
 returns-in-Some-clause-ok c =
     let p = sum_of (trees_of c.args.ps.now) in
-    let keeps = subst (λ (o : Option (List ℕ)). IfSome o (λ values. KeepsWhere c.args.f values p)) c.in-Some.is c.in_ok-values.ensures in
+    let keeps = subst (λ (o : Option (List (ℕ × ℕ))). IfSome o (λ intervals. KeepsWhere c.args.f intervals p)) c.in-Some.is c.in_ok-intervals.ensures in
     IfOk-weaker c.values_where.result _ _
     (λ o h. IfSome_then o h (λ d k. values_silent c.values_where.new.st c.args.st.now.maxes d c.args.f c.as_slice.result.now p c.values_where.ensures.grows.maxes k
-    (subst (λ (values : List ℕ). KeepsWhere c.args.f values p) (sym c.as_slice.ensures) keeps)))
+    (subst (λ (intervals : List (ℕ × ℕ)). KeepsWhere c.args.f intervals p) (sym c.as_slice.ensures) keeps)))
     c.values_where.ensures.ok
 
 pub returns-in-Some-clause-predicate : goal.returns-in-Some-clause-predicate

@@ -7,6 +7,6 @@ use Rattle.nk_auto.proofs.values.value_parts.Given as goal
 abbrev pub invariant-loop-i : goal.invariant-loop-i
 invariant-loop-i l = record {
   within : l.from ≤ l.max;
-  below : AreBelow l.from (take l.i l.values);
-  built : Built (by_value (take l.i l.values)) l.st l.fn.f l.from l.parts;
+  below : AreBelow l.from (take l.i l.intervals);
+  built : Built (by_value (take l.i l.intervals)) l.st l.fn.f l.from l.parts;
 }

@@ -17,11 +17,11 @@ value_parts-requires-clause-outside c =
 pub case-requires : goal.case-requires
 case-requires c =
     let st = c.identity.new.st in
-    let parts = subst (λ (o : Option (List (ℕ × ℕ))). IfSome o (HaveParts st c.args.f (λ v pk. value_leaf c.args.values.now (min v (slice_index st.maxes c.args.f))))) c.in-Some.is c.in_ok-parts.ensures in
+    let parts = subst (λ (o : Option (List (ℕ × ℕ))). IfSome o (HaveParts st c.args.f (λ v pk. value_leaf c.args.intervals.now (min v (slice_index st.maxes c.args.f))))) c.in-Some.is c.in_ok-parts.ensures in
     parts.parts
 
 pub returns-in_ok-d-in-Some-clause-ok : goal.returns-in_ok-d-in-Some-clause-ok
 returns-in_ok-d-in-Some-clause-ok c =
     let st = c.identity.new.st in
-    let parts = subst (λ (o : Option (List (ℕ × ℕ))). IfSome o (HaveParts st c.args.f (λ v pk. value_leaf c.args.values.now (min v (slice_index st.maxes c.args.f))))) c.in-Some.is c.in_ok-parts.ensures in
-    values_case c.args.st.now st c.case.new.self c.args.f c.in_ok-d-in-Some.d c.args.values.now c.in-Some.parts (grows_on _ _ _ c.empty.ensures.grows c.identity.ensures.grows) parts c.in_ok-d-in-Some.ensures.ok
+    let parts = subst (λ (o : Option (List (ℕ × ℕ))). IfSome o (HaveParts st c.args.f (λ v pk. value_leaf c.args.intervals.now (min v (slice_index st.maxes c.args.f))))) c.in-Some.is c.in_ok-parts.ensures in
+    values_case c.args.st.now st c.case.new.self c.args.f c.in_ok-d-in-Some.d c.args.intervals.now c.in-Some.parts (grows_on _ _ _ c.empty.ensures.grows c.identity.ensures.grows) parts c.in_ok-d-in-Some.ensures.ok
