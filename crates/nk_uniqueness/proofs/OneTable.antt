@@ -99,8 +99,8 @@ module _ (fields : FieldTable) (few : length fields.maxima ≤ 18) (tag : ℕ) (
       one_tree_list a.switch within h.trees k.trees tags_are
       (λ z i. members_from_all (λ (w : TagTree). IsTreeOf fields tag p tags w.tag a.switch w.tree) h.trees h.each z i)
       (λ z i. subst (λ sw. IsTreeOf fields tag p tags z.tag sw z.tree) (sym e) (members_from_all (λ (w : TagTree). IsTreeOf fields tag p tags w.tag b.switch w.tree) k.trees k.each z i)) in
-      let groups = h.groups ∙ ap (λ ts. groups_of (rows_of_trees (length fields.maxima) tag ts)) trees ∙ sym k.groups in
-      let rows = h.rows ∙ ap (λ ts. rows_after [] (rows_of_trees (length fields.maxima) tag ts)) trees ∙ sym k.rows in
+      let groups = h.groups ∙ ap (λ ts. groups_of (rows_of_trees fields.maxima tag ts)) trees ∙ sym k.groups in
+      let rows = h.rows ∙ ap (λ ts. rows_after [] (rows_of_trees fields.maxima tag ts)) trees ∙ sym k.rows in
       λ n. record { switch = e n; groups = groups n; rows = rows n }
 
 -- the printed tables of a policy are one
