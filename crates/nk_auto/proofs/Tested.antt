@@ -19,7 +19,7 @@ use Rattle.nk_algebra.specs.Unions.{HaveParts}
 use Rattle.nk_algebra.proofs.Built.{Built, built_push, built_parts, built_leaf}
 use Rattle.nk_auto.specs.Plain.{Sends}
 use Rattle.nk_auto.specs.Continued.{IsSilent}
-use Rattle.nk_auto.specs.Values.{is_in, KeepsWhere, HaveOneMore, value_leaf, IsConstant, gap}
+use Rattle.nk_auto.specs.Values.{is_between, KeepsWhere, HaveOneMore, value_leaf, IsConstant, gap}
 use Rattle.nk_auto.proofs.Grown.{leaves_grow}
 use Rattle.nk_auto.proofs.OneOut.{one_of, is_one, clipped}
 use Rattle.nk_auto.proofs.Sending.{out_of}
@@ -30,44 +30,44 @@ or_none true = refl
 or_none false = refl
 
 -- a value between the ends is in
-pub between : (v lo hi : ℕ) → lo ≤ v → v ≤ hi → is_in v (lo, hi) ≡ true
+pub between : (v lo hi : ℕ) → lo ≤ v → v ≤ hi → is_between v (lo, hi) ≡ true
 between v lo hi l h = both_pass (leb lo v) (leb v hi) (at_most_test lo v l) (at_most_test v hi h)
 
 -- and one that is in is between them
-ends_hold : (v : ℕ) (x : ℕ × ℕ) → is_in v x ≡ true → (x.0 ≤ v) × (v ≤ x.1)
+ends_hold : (v : ℕ) (x : ℕ × ℕ) → is_between v x ≡ true → (x.0 ≤ v) × (v ≤ x.1)
 ends_hold v x h =
     let b = both_true (leb x.0 v) (leb v x.1) h in
     (at_most_from x.0 v b.0, at_most_from v x.1 b.1)
 
 -- one below the first isn't in
-before : (v : ℕ) (x : ℕ × ℕ) → v < x.0 → is_in v x ≡ false
-before v x l = false_where (is_in v x) (λ h. let b = (ends_hold v x h).0 in omega (arith, b, l))
+before : (v : ℕ) (x : ℕ × ℕ) → v < x.0 → is_between v x ≡ false
+before v x l = false_where (is_between v x) (λ h. let b = (ends_hold v x h).0 in omega (arith, b, l))
 
 -- nor is one above the second
-behind : (v : ℕ) (x : ℕ × ℕ) → x.1 < v → is_in v x ≡ false
-behind v x l = false_where (is_in v x) (λ h. let b = (ends_hold v x h).1 in omega (arith, b, l))
+behind : (v : ℕ) (x : ℕ × ℕ) → x.1 < v → is_between v x ≡ false
+behind v x l = false_where (is_between v x) (λ h. let b = (ends_hold v x h).1 in omega (arith, b, l))
 
 -- one interval more is found
-this_value : (vs : List (ℕ × ℕ)) (x : ℕ × ℕ) (v : ℕ) → is_in v x ≡ true → list_any (is_in v) (vs ++ x ∷ []) ≡ true
+this_value : (vs : List (ℕ × ℕ)) (x : ℕ × ℕ) (v : ℕ) → is_between v x ≡ true → list_any (is_between v) (vs ++ x ∷ []) ≡ true
 this_value vs x v e =
-    list_any-append (is_in v) vs (x ∷ []) ∙ or_right (list_any (is_in v) vs) (is_in v x || false) (or_left (is_in v x) false e)
+    list_any-append (is_between v) vs (x ∷ []) ∙ or_right (list_any (is_between v) vs) (is_between v x || false) (or_left (is_between v x) false e)
 
 -- what isn't in it is found where it was
-other_value : (vs : List (ℕ × ℕ)) (x : ℕ × ℕ) (v : ℕ) → is_in v x ≡ false →
-    list_any (is_in v) (vs ++ x ∷ []) ≡ list_any (is_in v) vs
+other_value : (vs : List (ℕ × ℕ)) (x : ℕ × ℕ) (v : ℕ) → is_between v x ≡ false →
+    list_any (is_between v) (vs ++ x ∷ []) ≡ list_any (is_between v) vs
 other_value vs x v e =
-    list_any-append (is_in v) vs (x ∷ []) ∙ ap (λ b. list_any (is_in v) vs || (b || false)) e ∙ or_none (list_any (is_in v) vs)
+    list_any-append (is_between v) vs (x ∷ []) ∙ ap (λ b. list_any (is_between v) vs || (b || false)) e ∙ or_none (list_any (is_between v) vs)
 
 -- a test keeps the packets with its value
 pub test_keeps : (f n : ℕ) → KeepsWhere f ((n, n) ∷ []) (test f n)
 test_keeps f n pk y = (
   λ g.
       let v = slice_index pk f in
-      let h : is_in v (n, n) ≡ true = between v n n (omega (arith, g.0)) (omega (arith, g.0)) in
-      (or_left (is_in v (n, n)) false h, g.2),
+      let h : is_between v (n, n) ≡ true = between v n n (omega (arith, g.0)) (omega (arith, g.0)) in
+      (or_left (is_between v (n, n)) false h, g.2),
   λ c.
       let v = slice_index pk f in
-      let e = elim (or_cases (is_in v (n, n)) false c.0) as (λ _. (n ≤ v) × (v ≤ n)) [
+      let e = elim (or_cases (is_between v (n, n)) false c.0) as (λ _. (n ≤ v) × (v ≤ n)) [
         | inl h ↦ ends_hold v (n, n) h
         | inr h ↦ absurd (false_true h)
       ] in
@@ -77,10 +77,10 @@ test_keeps f n pk y = (
 -- a range keeps those with its values
 pub range_keeps : (f lo hi : ℕ) → KeepsWhere f ((lo, hi) ∷ []) (range f lo hi)
 range_keeps f lo hi pk y = (
-  λ g. let v = slice_index pk f in (or_left (is_in v (lo, hi)) false (between v lo hi g.0 g.1), g.3),
+  λ g. let v = slice_index pk f in (or_left (is_between v (lo, hi)) false (between v lo hi g.0 g.1), g.3),
   λ c.
       let v = slice_index pk f in
-      let e = elim (or_cases (is_in v (lo, hi)) false c.0) as (λ _. (lo ≤ v) × (v ≤ hi)) [
+      let e = elim (or_cases (is_between v (lo, hi)) false c.0) as (λ _. (lo ≤ v) × (v ≤ hi)) [
         | inl h ↦ ends_hold v (lo, hi) h
         | inr h ↦ absurd (false_true h)
       ] in
@@ -89,12 +89,12 @@ range_keeps f lo hi pk y = (
 
 -- an interval put at the end is one more
 pub put_more : (old new : List (ℕ × ℕ)) (x : ℕ × ℕ) → new ≡ old ++ x ∷ [] → HaveOneMore old new x
-put_more old new x e v = ap (list_any (is_in v)) e
+put_more old new x e v = ap (list_any (is_between v)) e
 
 -- one without a value may be left out
 pub none_more : (old : List (ℕ × ℕ)) (x : ℕ × ℕ) → x.1 < x.0 → HaveOneMore old old x
 none_more old x l v =
-    sym (other_value old x v (false_where (is_in v x) (λ h. let e = ends_hold v x h in let a = e.0 in let b = e.1 in omega (arith, a, b, l))))
+    sym (other_value old x v (false_where (is_between v x) (λ h. let e = ends_hold v x h in let a = e.0 in let b = e.1 in omega (arith, a, b, l))))
 
 -- one part more
 pub keeps_more : (f : ℕ) (x : ℕ × ℕ) (values more : List (ℕ × ℕ)) (p : Policy) (ps : Policies) → HaveOneMore values more x →
@@ -104,28 +104,28 @@ keeps_more f x values more p ps put one keeps pk y = (
       ⊎_elim
       (λ h.
       let k = (one pk y).0 h in
-      (either ∙ or_right (list_any (is_in v) values) (list_any (is_in v) (x ∷ [])) k.0, k.1))
+      (either ∙ or_right (list_any (is_between v) values) (list_any (is_between v) (x ∷ [])) k.0, k.1))
       (λ h.
       let k = (keeps pk y).0 h in
-      (either ∙ or_left (list_any (is_in v) values) (list_any (is_in v) (x ∷ [])) k.0, k.1))
+      (either ∙ or_left (list_any (is_between v) values) (list_any (is_between v) (x ∷ [])) k.0, k.1))
       g,
   λ c.
       ⊎_elim
       (λ h. inr ((keeps pk y).1 (h, c.1)))
       (λ h. inl ((one pk y).1 (h, c.1)))
-      (or_cases (list_any (is_in v) values) (list_any (is_in v) (x ∷ [])) (sym either ∙ c.0)),
+      (or_cases (list_any (is_between v) values) (list_any (is_between v) (x ∷ [])) (sym either ∙ c.0)),
 )
   where
     v : ℕ
     v = slice_index pk f
 
-    either : list_any (is_in v) more ≡ list_any (is_in v) values || list_any (is_in v) (x ∷ [])
-    either = put v ∙ list_any-append (is_in v) values (x ∷ [])
+    either : list_any (is_between v) more ≡ list_any (is_between v) values || list_any (is_between v) (x ∷ [])
+    either = put v ∙ list_any-append (is_between v) values (x ∷ [])
 
 -- the same intervals in another order
 pub keeps_moved : (f : ℕ) (xs ys : List (ℕ × ℕ)) (p : Policy) → IsPermutation xs ys → KeepsWhere f xs p → KeepsWhere f ys p
 keeps_moved f xs ys p moved keeps pk y =
-    let same = list_any-IsPermutation (is_in (slice_index pk f)) xs ys moved in (
+    let same = list_any-IsPermutation (is_between (slice_index pk f)) xs ys moved in (
       λ g. let k = (keeps pk y).0 g in (sym same ∙ k.0, k.1),
       λ c. (keeps pk y).1 (same ∙ c.0, c.1),
     )
@@ -136,18 +136,18 @@ pub values_silent : (st : Held) (maxes : List ℕ) (d f : ℕ) (values : List (�
     IsSilent st d p
 values_silent st maxes d f values p same h keeps = record {
   id = h.id;
-  ends = λ pk w. every_same _ _ _ (h.leaf pk w) (ends_or_none (list_any (is_in (min (slice_index pk f) (slice_index maxes f))) values) no_out refl);
+  ends = λ pk w. every_same _ _ _ (h.leaf pk w) (ends_or_none (list_any (is_between (min (slice_index pk f) (slice_index maxes f))) values) no_out refl);
   sends = λ fit pk y t r.
       let here : InRange maxes pk = subst (λ m. InRange m pk) same r in
-      let found : list_any (is_in (min (slice_index pk f) (slice_index maxes f))) values ≡ list_any (is_in (slice_index pk f)) values =
-      ap (λ v. list_any (is_in v) values) (clipped maxes pk f here) in (
+      let found : list_any (is_between (min (slice_index pk f) (slice_index maxes f))) values ≡ list_any (is_between (slice_index pk f)) values =
+      ap (λ v. list_any (is_between v) values) (clipped maxes pk f here) in (
         λ s.
-            let one = one_of (list_any (is_in (min (slice_index pk f) (slice_index maxes f))) values) no_out (out_of s.0 t) (read_out st d _ pk y t h r.0 s) in
+            let one = one_of (list_any (is_between (min (slice_index pk f) (slice_index maxes f))) values) no_out (out_of s.0 t) (read_out st d _ pk y t h r.0 s) in
             let kept = kept_out s.0 t pk y one.1 s.2 in
             (kept.0, (keeps pk y).1 (sym found ∙ one.0, kept.1)),
         λ s.
             let k = (keeps pk y).0 s.1 in
-            let sent : Sends st d pk pk 0 = out_sends st d _ pk [] 0 h r.0 (is_one (list_any (is_in (min (slice_index pk f) (slice_index maxes f))) values) no_out (found ∙ k.0)) in
+            let sent : Sends st d pk pk 0 = out_sends st d _ pk [] 0 h r.0 (is_one (list_any (is_between (min (slice_index pk f) (slice_index maxes f))) values) no_out (found ∙ k.0)) in
             subst (λ x. Sends st d pk x t) (sym k.1) (subst (λ u. Sends st d pk pk u) (sym s.0) sent),
       );
 }
@@ -155,7 +155,7 @@ values_silent st maxes d f values p same h keeps = record {
 -- and it is a predicate
 pub values_pass : (st : Held) (d : ℕ) (values : List (ℕ × ℕ)) (F : List ℕ → ℕ) → HasLeaves st d (λ pk. value_leaf values (F pk)) →
     IsPredicate st d
-values_pass st d values F h = λ pk w. subst IsPass (sym (h.leaf pk w)) (one_or_none (list_any (is_in (F pk)) values))
+values_pass st d values F h = λ pk w. subst IsPass (sym (h.leaf pk w)) (one_or_none (list_any (is_between (F pk)) values))
   where
     one_or_none : (b : Bool) → IsPass (cond b (no_out ∷ []) [])
     one_or_none true = (refl, refl)
@@ -198,7 +198,7 @@ built_gap R st f from x d ps b le child serves = elim (leb_tells x from) [
 
 -- the intervals end below from
 abbrev pub AreBelow : ℕ → List (ℕ × ℕ) → Type 0
-AreBelow from vs = (v : ℕ) → from ≤ v → list_any (is_in v) vs ≡ false
+AreBelow from vs = (v : ℕ) → from ≤ v → list_any (is_between v) vs ≡ false
 
 -- so does one more below the next
 below_more : (from : ℕ) (x : ℕ × ℕ) (vs : List (ℕ × ℕ)) → from ≤ x.1 → AreBelow from vs → AreBelow (x.1 + 1) (vs ++ x ∷ [])

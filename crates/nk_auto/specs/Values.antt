@@ -8,21 +8,21 @@ use Rattle.nk_store.specs.Held.{Held, top, HasLeaves}
 use Rattle.nk_algebra.specs.Seqs.{no_out}
 
 -- the value is in the interval, by its ends
-abbrev pub is_in : ℕ → ℕ × ℕ → Bool
-is_in v ends = leb ends.0 v && leb v ends.1
+abbrev pub is_between : ℕ → ℕ × ℕ → Bool
+is_between v ends = leb ends.0 v && leb v ends.1
 
 -- without a record the policy ends exactly where the field's value is in one of the intervals, at the packet itself
 abbrev pub KeepsWhere : ℕ → List (ℕ × ℕ) → Policy → Type 0
 KeepsWhere f intervals p =
-    (pk y : List ℕ) → Gives p pk [] y ↔ ((list_any (is_in (slice_index pk f)) intervals ≡ true) × (y ≡ pk))
+    (pk y : List ℕ) → Gives p pk [] y ↔ ((list_any (is_between (slice_index pk f)) intervals ≡ true) × (y ≡ pk))
 
 -- the new intervals have the values of the old ones and of one more
 abbrev pub HaveOneMore : (old new : List (ℕ × ℕ)) (ends : ℕ × ℕ) → Type 0
-HaveOneMore old new ends = (v : ℕ) → list_any (is_in v) new ≡ list_any (is_in v) (old ++ ends ∷ [])
+HaveOneMore old new ends = (v : ℕ) → list_any (is_between v) new ≡ list_any (is_between v) (old ++ ends ∷ [])
 
 -- the packet itself for a value in one of the intervals, nothing for another one
 abbrev pub value_leaf : List (ℕ × ℕ) → ℕ → List Out
-value_leaf intervals v = cond (list_any (is_in v) intervals) (no_out ∷ []) []
+value_leaf intervals v = cond (list_any (is_between v) intervals) (no_out ∷ []) []
 
 -- the diagram has one leaf for all packets
 pub record IsConstant (st : Held) (d : ℕ) (outs : List Out) : Type 0 where

@@ -21,6 +21,11 @@ enum Case {
     PolicyAtTwoPackets,
     /// `dup*` ends at the packet itself without a record, or it records the packet at its dup.
     StarOfADup,
+    /// `dst in 1..2` is the diagram of `dst=1 + dst=2`, its complement that of the other two values, and `dst in 2..1` that of
+    /// no packet.
+    RangesAreTests,
+    /// A sum of ranges and tests is the diagram of all their values, whether or not two of them have a value in common.
+    RangesTogether,
     /// At `dst` 1 both acts of `id + dst:=1` are one that assigns nothing, at `dst` 0 they are two.
     UnchangedGoes,
     /// What two rows record is one out, to the set of both labels.
@@ -36,11 +41,13 @@ enum Case {
 }
 
 /// All cases.
-const CASES: [Case; 10] = [
+const CASES: [Case; 12] = [
     Case::OrderMatters,
     Case::LeavesAreUnited,
     Case::PolicyAtTwoPackets,
     Case::StarOfADup,
+    Case::RangesAreTests,
+    Case::RangesTogether,
     Case::UnchangedGoes,
     Case::BothLabelsFollow,
     Case::OddIsPrinted,
@@ -57,6 +64,8 @@ impl Case {
             Case::LeavesAreUnited => algebra::leaves_are_united(st),
             Case::PolicyAtTwoPackets => auto::is_moved_or_kept(st),
             Case::StarOfADup => auto::ends_or_records(st),
+            Case::RangesAreTests => auto::ranges_are_tests(st),
+            Case::RangesTogether => auto::ranges_together(st),
             Case::UnchangedGoes => determ::unchanged_goes(st),
             Case::BothLabelsFollow => determ::both_labels_follow(st, ss),
             Case::OddIsPrinted => sets::odd_is_printed(fields, st),

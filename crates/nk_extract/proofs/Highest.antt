@@ -3,7 +3,7 @@ use Rattle.std.proofs.Common.{◌≡◌, ◌≢◌, ℕ, ◌+◌, ◌<◌, ◌�
 use Rattle.std.specs.Prelude.{◌&&◌, ◌||◌, not, map, slice_index}
 use Rattle.std.specs.List.{flat_map, AllByRecursion}
 use Rattle.nk_store.specs.Diagram.{Branches, leaf, case, no_branch, branch, leaf_at, IsReduced, AreReduced, AreTwo}
-use Rattle.nk_prefix.specs.Blocks.{blocks_of, is_in}
+use Rattle.nk_prefix.specs.Blocks.{blocks_of, is_in_block}
 use Rattle.nk_prefix.proofs.Covers.{has_block}
 use Rattle.nk_store.specs.Intervals.{same_tree, with_most}
 use Rattle.nk_field.proofs.Lists.{In, in_from_contains}
@@ -92,7 +92,7 @@ module _ (width tag : ℕ) (maxima : List ℕ) where
     pub low : interval.first ≤ v
     pub high : v ≤ interval.last
     pub among : In (blocks_of interval.first interval.last max) block
-    pub has : is_in max v block ≡ true
+    pub has : is_in_block max v block ≡ true
 
   -- each value has one
   pub with_block :

@@ -5,7 +5,7 @@ use Rattle.std.specs.List.{flat_map}
 use Rattle.std.proofs.lemmas.Bool.Decides.{nat_tests}
 use Rattle.std.proofs.lemmas.List.Sums.{sum_by-cons}
 use Rattle.nk_field.proofs.Lists.{In, contains_from_in}
-use Rattle.nk_prefix.specs.Blocks.{blocks_of, is_in}
+use Rattle.nk_prefix.specs.Blocks.{blocks_of, is_in_block}
 use Rattle.nk_prefix.proofs.Covers.{counted_once, in_interval}
 use Rattle.nk_store.specs.Diagram.{Branches, no_branch, branch}
 use Rattle.nk_store.specs.Intervals.{same_tree}
@@ -54,7 +54,7 @@ counted_block test (c ∷ cs) b i t =
 module _ (maxima pk : List ℕ) (e : Bool) (f : ℕ) (drops : Bool) where
   -- whether a block has the packet's value
   abbrev has : ℕ × ℕ → Bool
-  has b = is_in (slice_index maxima f) (slice_index pk f) b
+  has b = is_in_block (slice_index maxima f) (slice_index pk f) b
 
   -- ways with one more block matched, which has the packet's value
   block_same :
@@ -153,7 +153,7 @@ module _ (maxima pk : List ℕ) (e : Bool) (f : ℕ) (other : PathInterval) (wit
   -- in the interval with it the ways of its child are met, behind the block with it
   interval_in :
       (i : PathInterval) (b : ℕ × ℕ) → i.last ≤ max → In (blocks_of i.first i.last max) b
-      → is_in max (slice_index pk f) b ≡ true → i.made ≡ paths_of maxima i.child
+      → is_in_block max (slice_index pk f) b ≡ true → i.made ≡ paths_of maxima i.child
       → met maxima pk e (block_paths max f other i) ≡ block_met maxima pk e f other.child b i.child
   interval_in i b o among h m = by (same_tree other.child same_buckets i.child)
     where
@@ -190,7 +190,7 @@ module _ (maxima pk : List ℕ) (e : Bool) (f : ℕ) (other : PathInterval) (wit
   pub block_at :
       (bs : Branches (List Bucket)) (from : ℕ) → Rising max from bs → (i : PathInterval)
       → In (path_intervals maxima bs from) i → (b : ℕ × ℕ) → In (blocks_of i.first i.last max) b
-      → is_in max (slice_index pk f) b ≡ true
+      → is_in_block max (slice_index pk f) b ≡ true
       → met maxima pk e (flat_map (block_paths max f other) (path_intervals maxima bs from)) ≡ block_met maxima pk e f other.child b i.child
   block_at no_branch from r i m b among h = absurd m
   block_at (branch end d bs) from r i m b among h =

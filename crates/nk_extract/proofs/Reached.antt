@@ -5,7 +5,7 @@ use Rattle.std.specs.List.{flat_map, AllByRecursion}
 use Rattle.nk_store.specs.Diagram.{Branches, leaf, case, no_branch, branch, IsReduced, AreReduced, AreTwo}
 use Rattle.nk_store.specs.Nodes.{InRange}
 use Rattle.nk_prefix.specs.Prefix.{digits_of}
-use Rattle.nk_prefix.specs.Blocks.{blocks_of, is_in}
+use Rattle.nk_prefix.specs.Blocks.{blocks_of, is_in_block}
 use Rattle.nk_prefix.proofs.Covers.{blocks_are}
 use Rattle.nk_store.specs.Intervals.{same_tree}
 use Rattle.nk_store.proofs.Same.{set_in_range}
@@ -145,7 +145,7 @@ module _ (width tag : ℕ) (maxima : List ℕ) (most_fields : width ≤ 18) wher
         let printed' : is_printed q || (not drops || e) ≡ true = sym (flags (not (is_drop_list q.buckets)) drops q.shown e) ∙ subst (λ z. is_printed z || e ≡ true) is printed in
         let x = part.holds (not drops || e) q (subst (λ l. In l q) part.made a) printed' start (set_in_range maxima base g b.0 ok high) in
         let here : slice_index x.packet g ≡ b.0 = x.before g (omega arith) ∙ value_set base b.0 ok in
-        let has : is_in most (slice_index x.packet g) b ≡ true = ap (λ n. is_in most n b) here ∙ eq_self (b.0 / 2 ^ (digits_of most - b.1)) in
+        let has : is_in_block most (slice_index x.packet g) b ≡ true = ap (λ n. is_in_block most n b) here ∙ eq_self (b.0 / 2 ^ (digits_of most - b.1)) in
         let at : Has (slice_index x.packet g) = record {
           interval = i;
           block = b;

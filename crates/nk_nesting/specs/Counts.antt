@@ -1,6 +1,7 @@
 -- How many parentheses and `~` are open behind each token of a text, by its spelling alone. A parenthesis is open from its
 -- token until its closing one; a `~` from its token until the atom that it negates ends, which it does with its last token.
--- Which atom a name begins is the spelling's to say: in `~a` nothing is open behind `a`, in `~a = 1` the `~` is, until the 1, and in `~a in 1..2` until the 2.
+-- Which atom a name begins is the spelling's to say: in `~a` nothing is open behind `a`, in `~a = 1` the `~` is, until the 1,
+-- and in `~a in 1..2` until the 2.
 use Rattle.std.specs.Prelude.{◌≡◌, ◌≤◌, ◌<◌, ℕ, suc, List, [], ◌∷◌, ◌++◌, ⊤}
 use Rattle.nk_grammar.specs.declared.ast.Number.{Number}
 use Rattle.nk_grammar.specs.Terminal.{Terminal, tilde, opening, closing, plus_sign, semicolon, star_sign}

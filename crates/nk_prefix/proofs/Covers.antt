@@ -6,7 +6,7 @@ use Rattle.std.proofs.lemmas.List.Sums.{sum_by-cons}
 use Rattle.std.proofs.lemmas.List.Elements.{All-nil, All-cons, All-contains, Contains-append_cases, Contains-append_right}
 use Rattle.std.proofs.lemmas.Bool.Decides.{nat_tests, leb_tells, eqb_tells}
 use Rattle.nk_prefix.specs.Prefix.{digits_of, agrees_to}
-use Rattle.nk_prefix.specs.Blocks.{fits, largest, end_of, cut, blocks_of, is_in, Ascend, IsBlockOf}
+use Rattle.nk_prefix.specs.Blocks.{fits, largest, end_of, cut, blocks_of, is_in_block, Ascend, IsBlockOf}
 use Rattle.nk_prefix.proofs.Powers.{near, near_back, max_below}
 use Rattle.nk_prefix.proofs.Fitting.{not_true, fits_says, fits_one, largest_fits, largest_is}
 use Rattle.nk_prefix.proofs.Cuts.{step, first, first_free, cut_on, cut_stop, cut_past, cut_next, goes_on, IsPiece, pieces, ends}
@@ -206,7 +206,7 @@ block_from_piece lo hi max b h p = record {
 
 -- a value in range that is in a block of an interval is in the interval
 pub in_interval :
-    (lo hi max x : ℕ) (b : ℕ × ℕ) → hi ≤ max → x ≤ max → Contains (blocks_of lo hi max) b → is_in max x b ≡ true
+    (lo hi max x : ℕ) (b : ℕ × ℕ) → hi ≤ max → x ≤ max → Contains (blocks_of lo hi max) b → is_in_block max x b ≡ true
     → (lo ≤ x) × (x ≤ hi)
 in_interval lo hi max x b h m there agrees =
     let p = piece_of (digits_of max) (end_of lo hi max) max (end_of lo hi max + 1) lo b there in
@@ -216,7 +216,7 @@ in_interval lo hi max x b h m there agrees =
 -- a value of an interval is in a block of it
 pub has_block :
     (lo hi max x : ℕ) → hi ≤ max → lo ≤ x → x ≤ hi
-    → (b : ℕ × ℕ) × Contains (blocks_of lo hi max) b × (is_in max x b ≡ true)
+    → (b : ℕ × ℕ) × Contains (blocks_of lo hi max) b × (is_in_block max x b ≡ true)
 has_block lo hi max x h low high =
     found (digits_of max) (end_of lo hi max) max (end_of lo hi max + 1) lo x low (omega (arith, high, end_past lo hi max h)) (omega (arith, h, high)) (omega arith)
 
@@ -300,7 +300,7 @@ same_end lo hi max x h m =
 -- a value in range is in one block of an interval that holds it, and else in none
 pub counted_once :
     (lo hi max x : ℕ) → hi ≤ max → x ≤ max
-    → count_by (is_in max x) (blocks_of lo hi max) ≡ (if nat_le lo x && nat_le x hi then 1 else 0)
+    → count_by (is_in_block max x) (blocks_of lo hi max) ≡ (if nat_le lo x && nat_le x hi then 1 else 0)
 counted_once lo hi max x h m =
     counted_in (digits_of max) (end_of lo hi max) max (end_of lo hi max + 1) lo x m (omega arith)
     ∙ ap (λ t. one_if (nat_le lo x && t)) (same_end lo hi max x h m)
@@ -309,7 +309,7 @@ counted_once lo hi max x h m =
 pub apart :
     (lo hi lo' hi' max x : ℕ) (b c : ℕ × ℕ) → hi < lo' → hi' ≤ max → x ≤ max → hi ≤ max
     → Contains (blocks_of lo hi max) b → Contains (blocks_of lo' hi' max) c
-    → is_in max x b ≡ true → is_in max x c ≡ true → ⊥
+    → is_in_block max x b ≡ true → is_in_block max x c ≡ true → ⊥
 apart lo hi lo' hi' max x b c behind h' m h inb inc p q =
     let one = in_interval lo hi max x b h m inb p in
     let two = in_interval lo' hi' max x c h' m inc q in

@@ -29,8 +29,8 @@ abbrev pub blocks_of : (lo hi max : ℕ) → List (ℕ × ℕ)
 blocks_of lo hi max = cut (digits_of max) (end_of lo hi max) max (end_of lo hi max + 1) lo
 
 -- whether a value agrees with a block of a field with a largest value
-abbrev pub is_in : (max n : ℕ) → ℕ × ℕ → Bool
-is_in max n b = agrees_to b.0 b.1 (digits_of max) n
+abbrev pub is_in_block : (max n : ℕ) → ℕ × ℕ → Bool
+is_in_block max n b = agrees_to b.0 b.1 (digits_of max) n
 
 -- how many values a block of a field with a largest value has
 abbrev pub size_of : ℕ → ℕ × ℕ → ℕ

@@ -1,7 +1,7 @@
 //! Laws of prefixes and of the blocks of an interval, and some worked by hand.
 ghost use Rattle.std.specs.Prelude.{◌≡◌, ℕ, ◌+◌, ◌-◌, ◌*◌, ◌≤◌, ◌<◌, ◌%◌, ◌^◌, ◌==◌, ◌&&◌, true, nat_lt, nat_le, if◌then◌else◌, [], ◌∷◌, length, count_by, Contains};
 ghost use Rattle.nk_prefix.specs.Prefix.{digits_of, agrees_to};
-ghost use Rattle.nk_prefix.specs.Blocks.{fits, largest, blocks_of, is_in, Ascend, IsBlockOf};
+ghost use Rattle.nk_prefix.specs.Blocks.{fits, largest, blocks_of, is_in_block, Ascend, IsBlockOf};
 ghost use Rattle.nk_prefix.specs.Worked.{DigitsByHand, UpToSeven, UpToNine};
 
 /// A number is below the power of two of its digits, and no smaller power of two but 1 will do. A prefix of all digits
@@ -32,16 +32,16 @@ pub fn blocks_are_aligned()
 /// A value in range is in one block of an interval where the interval has it, and else in none.
 pub fn blocks_cover()
     ensures count { (lo hi max n : ℕ) → hi ≤ max → n ≤ max
-        → count_by (is_in max n) (blocks_of lo hi max) ≡ (if nat_le lo n && nat_le n hi then 1 else 0) }
+        → count_by (is_in_block max n) (blocks_of lo hi max) ≡ (if nat_le lo n && nat_le n hi then 1 else 0) }
     ensures within { (lo hi max n : ℕ) (b : ℕ × ℕ) → hi ≤ max → n ≤ max → Contains (blocks_of lo hi max) b
-        → is_in max n b ≡ true → (lo ≤ n) × (n ≤ hi) }
+        → is_in_block max n b ≡ true → (lo ≤ n) × (n ≤ hi) }
     ensures found { (lo hi max n : ℕ) → hi ≤ max → lo ≤ n → n ≤ hi
-        → (b : ℕ × ℕ) × Contains (blocks_of lo hi max) b × (is_in max n b ≡ true) }
+        → (b : ℕ × ℕ) × Contains (blocks_of lo hi max) b × (is_in_block max n b ≡ true) }
     ensures alone { (lo hi max n : ℕ) (b c : ℕ × ℕ) → Contains (blocks_of lo hi max) b → Contains (blocks_of lo hi max) c
-        → is_in max n b ≡ true → is_in max n c ≡ true → b ≡ c }
+        → is_in_block max n b ≡ true → is_in_block max n c ≡ true → b ≡ c }
     ensures apart { (lo hi lo' hi' max n : ℕ) (b c : ℕ × ℕ) → hi < lo' → hi' ≤ max → n ≤ max → hi ≤ max
         → Contains (blocks_of lo hi max) b → Contains (blocks_of lo' hi' max) c
-        → is_in max n b ≡ true → is_in max n c ≡ true → ⊥ }
+        → is_in_block max n b ≡ true → is_in_block max n c ≡ true → ⊥ }
 {}
 
 /// Blocks that are worked by hand.

@@ -1,4 +1,4 @@
--- What a printed row matches and what a bucket assigns ascends by field.
+-- What a bucket assigns ascends by field.
 use Rattle.std.proofs.Common.{◌≡◌, ◌≢◌, ℕ, zero, suc, ◌+◌, ◌<◌, ◌≤◌, Bool, true, false, cond, ◌⊎◌, inl, inr, ⊎_elim, List, [], ◌∷◌, refl, sym, subst, arith}
 use Rattle.std.specs.Prelude.{◌==◌, ◌&&◌, not, nat_lt, map, filter, slice_index}
 use Rattle.std.specs.List.{flat_map, AllByRecursion}
@@ -6,10 +6,10 @@ use Rattle.std.proofs.lemmas.Bool.Decides.{nat_tests}
 use Rattle.nk_field.specs.Act.{AscendsFrom}
 use Rattle.nk_field.proofs.Lists.{In}
 use Rattle.nk_store.specs.Diagram.{Branches, leaf, case, no_branch, branch, IsReduced, AreReduced, AreTwo}
-use Rattle.nk_store.specs.Intervals.{same_tree, values_in, counted}
+use Rattle.nk_store.specs.Intervals.{same_tree, counted}
 use Rattle.nk_table.specs.declared.Bucket.{Bucket}
 use Rattle.nk_table.specs.Buckets.{same_buckets}
-use Rattle.nk_extract.specs.RuleTree.{Path, PathInterval, is_drop, with_match, exact_paths, paths_of, path_intervals, put}
+use Rattle.nk_extract.specs.RuleTree.{Path, PathInterval, is_drop, with_match, block_paths, paths_of, path_intervals, put}
 use Rattle.nk_extract.proofs.Lists.{every_weaker, every_append, every_map, every_flat_map, every_true}
 use Rattle.nk_extract.proofs.Trees.{Tree, TestsOnly, TestOnly, IsMatchable, with_most_has}
 use Rattle.nk_extract.proofs.Highest.{other_of}
@@ -18,13 +18,6 @@ use Rattle.nk_extract.proofs.Highest.{other_of}
 abbrev pub Climbs : (width tag low : ℕ) → List (ℕ × ℕ) → Type 0
 Climbs width tag low [] = Unit {0}
 Climbs width tag low (m ∷ ms) = (low ≤ m.0) × (m.0 < width) × (m.0 ≢ tag) × Climbs width tag (m.0 + 1) ms
-
--- from a later field on is from an earlier one on
-climbs_lower :
-    (width tag low high : ℕ) (ms : List (ℕ × ℕ)) → low ≤ high → Climbs width tag high ms
-    → Climbs width tag low ms
-climbs_lower width tag low high [] le c = tt
-climbs_lower width tag low high (m ∷ ms) le c = (omega (arith, le, c.0), c.1, c.2, c.3)
 
 -- each is a declared field
 pub climbs_within :
@@ -71,45 +64,6 @@ in_put a (m ∷ ms) s i = by (nat_lt a.0 m.0) i (λ r. in_put a ms s r)
         → (s ≡ a) ⊎ In (m ∷ ms) s
     by true i rest = i
     by false i rest = ⊎_elim (λ e. inr (inl e)) (λ r. ⊎_elim (λ e. inl e) (λ j. inr (inr j)) (rest r)) i
-
--- ---- the ways through a reduced tree
-
--- at a node
-node_climbs :
-    (width tag low g : ℕ) (bs : Branches (List Bucket)) → low ≤ g → IsMatchable width tag g → AreTwo bs
-    → AllByRecursion (λ i. AllByRecursion (λ p. Climbs width tag (g + 1) p.matches) i.made) (path_intervals bs 0)
-    → AllByRecursion (λ p. Climbs width tag low p.matches) (paths_of (case g bs))
-node_climbs width tag low g no_branch le m two e = absurd two
-node_climbs width tag low g (branch end d bs) le m two e =
-    let other = other_of bs end d in
-    let Later : Path → Type 0 = λ p. Climbs width tag (g + 1) p.matches in
-    let Here : Path → Type 0 = λ p. Climbs width tag low p.matches in
-    let raise : (v : ℕ) (ps : List Path) → AllByRecursion Later ps → AllByRecursion Here (map (with_match g (is_drop other.child) v) ps) =
-    λ v ps later. every_map Here (with_match g (is_drop other.child) v) ps (every_weaker Later (λ p. Here (with_match g (is_drop other.child) v p)) ps (λ p c. (le, m.0, m.1, c)) later) in
-    let by : (i : PathInterval) (b : Bool) → AllByRecursion Later i.made → AllByRecursion Here (cond b [] (flat_map (λ v. map (with_match g (is_drop other.child) v) i.made) (values_in i))) =
-    λ i b later. elim b as (λ t. AllByRecursion Here (cond t [] (flat_map (λ v. map (with_match g (is_drop other.child) v) i.made) (values_in i)))) [
-      | true ↦ tt
-      | false ↦ every_flat_map (λ v. Unit {0}) Here (λ v. map (with_match g (is_drop other.child) v) i.made) (values_in i) (λ v u. raise v i.made later) (every_true (λ v. Unit {0}) (values_in i) (λ v. tt))
-    ] in
-    every_append Here (flat_map (exact_paths g other) (path_intervals (branch end d bs) 0)) other.made
-    (every_flat_map (λ i. AllByRecursion Later i.made) Here (exact_paths g other) (path_intervals (branch end d bs) 0) (λ i later. by i (same_tree other.child same_buckets i.child) later) e)
-    (every_weaker Later Here other.made (λ p c. climbs_lower width tag low (g + 1) p.matches (omega (arith, le)) c) (with_most_has (λ i. AllByRecursion Later i.made) (path_intervals (branch end d bs) 0) record { first = 0; last = end; child = d; made = paths_of d } (path_intervals bs (end + 1)) e.0 e.1))
-
-mutual
-  -- the values that a way matches
-  pub climb :
-      (width tag : ℕ) (maxima : List ℕ) (d : Tree) (low : ℕ) → IsReduced d maxima low
-      → TestsOnly (IsMatchable width tag) d → AllByRecursion (λ p. Climbs width tag low p.matches) (paths_of d)
-  climb width tag maxima (leaf bs) low r m = (tt, tt)
-  climb width tag maxima (case g bs) low r m = node_climbs width tag low g bs r.0 m.0 r.1 (all_climb width tag maxima bs g 0 r.2 m.1)
-
-  -- likewise of each branch's ways
-  all_climb :
-      (width tag : ℕ) (maxima : List ℕ) (bs : Branches (List Bucket)) (g from : ℕ) → AreReduced bs maxima g
-      → TestOnly (IsMatchable width tag) bs
-      → AllByRecursion (λ i. AllByRecursion (λ p. Climbs width tag (g + 1) p.matches) i.made) (path_intervals bs from)
-  all_climb width tag maxima no_branch g from r m = tt
-  all_climb width tag maxima (branch end d bs) g from r m = (climb width tag maxima d (g + 1) r.1 m.0, all_climb width tag maxima bs g (end + 1) r.3 m.1)
 
 -- ---- the fields that a bucket assigns
 

@@ -1,4 +1,5 @@
 pub mod Climbs
+pub mod Matched
 pub mod Readable
 pub mod ResultBuckets
 pub mod SoundRows

@@ -24,7 +24,7 @@ use Rattle.nk_table.specs.declared.Plain.{Plain}
 use Rattle.nk_table.specs.declared.Row.{Row}
 use Rattle.nk_table.specs.declared.Table.{Table}
 use Rattle.nk_table.specs.declared.Tables.{Tables}
-use Rattle.nk_tabtext.specs.InOrder.{IsTargetInOrder, IsTableInOrder, AreInOrder}
+use Rattle.nk_tabtext.specs.InOrder.{MatchesAscend, IsTargetInOrder, IsTableInOrder, AreInOrder}
 use Rattle.nk_tabtext.specs.ReadBack.{IsGroupOf, IsRowOf, IsPrintable, IsTableOf as IsTextTable}
 use Rattle.nk_extract.specs.RuleTree.{rows_for}
 use Rattle.nk_group.specs.Groups.{rows_after, groups_of}
@@ -45,14 +45,14 @@ tag_low p tags sw (suc t) h = let lt = slice_get_within tags t h.0 h.2 in omega 
 
 module _ (fields : FieldTable) (tag : ℕ) (p : Policy) (tags : List (List ℕ)) (table : IsFieldTable fields) (is : fields.tag ≡ Some tag) (range : IsInRange p fields) (many : length tags ≤ slice_index fields.maxima tag) where
   abbrev rows_at : List TagTree → List Plain
-  rows_at trees = rows_of_trees (length fields.maxima) tag trees
+  rows_at trees = rows_of_trees fields.maxima tag trees
 
   -- the rows of a switch
   rows_sound :
       (u : Table) (st : IsSwitchTable fields tag p tags u) → u.switch ≤ 65535
       → (r : Plain) → In (rows_at st.trees) r → IsSoundRow fields r
   rows_sound u st le r i =
-      let e = from_joined (λ (q : TagTree). rows_for (length fields.maxima) tag q.tag q.tree) st.trees r i in
+      let e = from_joined (λ (q : TagTree). rows_for fields.maxima tag q.tag q.tree) st.trees r i in
       let tree : IsTreeOf fields tag p tags e.0.tag u.switch e.0.tree = members_from_all (λ (q : TagTree). IsTreeOf fields tag p tags q.tag u.switch q.tree) st.trees st.each e.0 e.1 in
       let at : HasRowsAt p tags u.switch e.0.tag = (st.exactly e.0.tag).0 (contains_from_in (map (λ (q : TagTree). q.tag) st.trees) e.0.tag (in_mapped (λ (q : TagTree). q.tag) st.trees e.0 e.1)) in
       let most = (fronts fields.maxima 65535 65535 table.built_in_maxima).0 in
@@ -82,7 +82,7 @@ module _ (fields : FieldTable) (tag : ℕ) (p : Policy) (tags : List (List ℕ))
         groups = subst (λ gs. AllPairs Below gs) (sym st.groups) (groups_ascend ps);
         buckets = subst (λ gs. All (λ (g : Group). All (λ b. AscendsFrom 2 b.sets) g.buckets) gs) (sym st.groups)
             (all_from_members (λ (g : Group). All (λ b. AscendsFrom 2 b.sets) g.buckets) (groups_of ps) (λ g i. buckets_in_order fields g.buckets (group_buckets_ok fields ps sound g i)));
-        matches = subst (λ rs. All (λ (r : Row). AscendsFrom 1 r.matches) rs) (sym st.rows) (matches_in_order fields (groups_of ps) (rows_after [] ps) rows);
+        matches = subst (λ rs. All (λ (r : Row). MatchesAscend 1 r.matches) rs) (sym st.rows) (matches_in_order fields (groups_of ps) (rows_after [] ps) rows);
         targets = subst (λ rs. All (λ (r : Row). IsTargetInOrder r.target) rs) (sym st.rows) (targets_in_order fields (groups_of ps) (rows_after [] ps) rows);
       }
 

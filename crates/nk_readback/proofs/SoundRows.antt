@@ -1,11 +1,9 @@
 -- Each row of a printed tree has a priority, matches and buckets that a text can write.
 use Rattle.std.proofs.Common.{◌≡◌, ◌≢◌, ℕ, ◌<◌, ◌≤◌, ◌⊎◌, inl, inr, ⊎_elim, Bool, true, Some, List, [], ◌∷◌, length, replicate, refl, sym, subst, ◌∙◌, arith, get_or-set_other, get_or-set_same}
-use Rattle.std.specs.Prelude.{◌==◌, ◌||◌, not, filter, All, slice_index, slice_set}
-use Rattle.std.specs.List.{list_all}
+use Rattle.std.specs.Prelude.{◌||◌, not, filter, All, slice_index, slice_set}
 use Rattle.std.proofs.lemmas.Bool.Decides.{leb_tells}
 use Rattle.std.proofs.lemmas.List.{get_or-replicate, get_or_past}
-use Rattle.nk_field.specs.Packet.{FieldTable, IsFieldTable, IsPacket, IsValue}
-use Rattle.nk_field.specs.Act.{AscendsFrom}
+use Rattle.nk_field.specs.Packet.{FieldTable, IsFieldTable, IsPacket}
 use Rattle.nk_field.proofs.Lists.{In, in_right, in_either, contains_from_in, from_mapped}
 use Rattle.nk_field.proofs.Ascending.{all_from_members}
 use Rattle.nk_policy.specs.Policy.{Policy}
@@ -15,24 +13,25 @@ use Rattle.nk_store.specs.Nodes.{InRange}
 use Rattle.nk_store.proofs.Same.{set_in_range}
 use Rattle.nk_table.specs.declared.Bucket.{Bucket}
 use Rattle.nk_table.specs.declared.Plain.{Plain}
-use Rattle.nk_table.proofs.SameBuckets.{and_left, and_right, eq_of}
-use Rattle.nk_tabtext.specs.ReadBack.{IsBucketOf}
-use Rattle.nk_extract.specs.RuleTree.{Path, is_drop_list, paths_of, bit_of, priority_of, plain_row, rows_for}
-use Rattle.nk_extract.specs.Chosen.{IsTop, agrees_with, rank, matching, IsRowTree}
+use Rattle.nk_prefix.specs.Prefix.{digits_of}
+use Rattle.nk_tabtext.specs.InOrder.{MatchesAscend}
+use Rattle.nk_tabtext.specs.ReadBack.{IsMatchOf, IsBucketOf}
+use Rattle.nk_extract.specs.RuleTree.{Path, is_drop_list, paths_of, bit_of, priority_of, exactly, plain_row, rows_for}
+use Rattle.nk_extract.specs.Chosen.{IsTop, rank, matching, IsRowTree}
 use Rattle.nk_extract.proofs.Bits.{bits_fit}
 use Rattle.nk_extract.proofs.Lists.{every_in, in_filter}
 use Rattle.nk_extract.proofs.Trees.{Tree, tests_only}
 use Rattle.nk_extract.proofs.Highest.{light}
 use Rattle.nk_extract.proofs.PlainRows.{rows_give_leaves, rows_are_chosen}
 use Rattle.nk_compile.specs.PrintedTable.{IsTreeOf, IsBucketList}
-use Rattle.nk_readback.proofs.Climbs.{Climbs, climb, climbs_within, put_ascends, in_put}
+use Rattle.nk_readback.proofs.Matched.{MatchesClimb, climb, climb_matches, put_climbs, in_put_match, exact_match}
 use Rattle.nk_readback.proofs.ResultBuckets.{buckets_ok}
 
 -- a row with its whole bucket list that a text can write
 pub record IsSoundRow (fields : FieldTable) (r : Plain) : Type 0 where
   pub priority : r.priority ≤ 65535
-  pub ascend : AscendsFrom 1 r.matches
-  pub values : All (λ m. IsValue fields m.0 m.1) r.matches
+  pub ascend : MatchesAscend 1 r.matches
+  pub matches : All (IsMatchOf fields) r.matches
   pub buckets : (b : Bucket) → In r.buckets b → IsBucketOf fields b
 
 -- ---- the highest of several
@@ -58,17 +57,6 @@ one_top value xs x y a b =
     (λ e. sym e)
     (λ lt. ⊎_elim (λ e. e) (λ gt. absurd (omega (arith, lt, gt))) (others_lower value xs y x b (in_top value xs x a)))
     (others_lower value xs x y a (in_top value xs y b))
-
--- a packet that agrees with matches has their values
-agreed :
-    (pk : List ℕ) (ms : List (ℕ × ℕ)) (m : ℕ × ℕ) → list_all (λ q. slice_index pk q.0 == q.1) ms ≡ true
-    → In ms m → slice_index pk m.0 ≡ m.1
-agreed pk [] m e i = absurd i
-agreed pk (q ∷ qs) m e i =
-    ⊎_elim
-    (λ s. subst (λ (z : ℕ × ℕ). slice_index pk z.0 ≡ z.1) (sym s) (eq_of (slice_index pk q.0) q.1 (and_left (slice_index pk q.0 == q.1) (list_all (λ (z : ℕ × ℕ). slice_index pk z.0 == z.1) qs) e)))
-    (λ r. agreed pk qs m (and_right (slice_index pk q.0 == q.1) (list_all (λ (z : ℕ × ℕ). slice_index pk z.0 == z.1) qs) e) r)
-    i
 
 -- ---- a packet at a switch with a tag
 
@@ -122,37 +110,36 @@ module _ (fields : FieldTable) (tag : ℕ) (p : Policy) (tags : List (List ℕ))
   -- what is known of a row: the way that it stands for
   record IsOfWay (r : Plain) : Type 0 where
     way : Path
-    same : r ≡ plain_row width tag t way
+    same : r ≡ plain_row fields.maxima tag t way
     small : priority_of width tag way.matches < bit_of width tag 0
-    climbs : Climbs width tag 1 way.matches
+    climbs : MatchesClimb fields tag 1 way.matches
 
-  of_way : (r : Plain) → In (rows_for width tag t d) r → IsOfWay r
+  of_way : (r : Plain) → In (rows_for fields.maxima tag t d) r → IsOfWay r
   of_way r i =
       let printed : Path → Bool = λ q. not (is_drop_list q.buckets) || q.shown in
-      let q = from_mapped (plain_row width tag t) (filter printed (paths_of d)) r i in
-      let j = (in_filter printed (paths_of d) q.0 q.1).0 in
+      let q = from_mapped (plain_row fields.maxima tag t) (filter printed (paths_of fields.maxima d)) r i in
+      let j = (in_filter printed (paths_of fields.maxima d) q.0 q.1).0 in
       let tests = tests_only fields.maxima tag 1 d tree.reduced tree.tag_free in
       record {
         way = q.0;
         same = q.2;
-        small = every_in (λ (w : Path). priority_of width tag w.matches < bit_of width tag 0) (paths_of d) q.0 (light width tag fields.maxima d 0 tree.reduced tests) j;
-        climbs = every_in (λ (w : Path). Climbs width tag 1 w.matches) (paths_of d) q.0 (climb width tag fields.maxima d 1 tree.reduced tests) j;
+        small = every_in (λ (w : Path). priority_of width tag w.matches < bit_of width tag 0) (paths_of fields.maxima d) q.0 (light width tag fields.maxima d 0 tree.reduced tests) j;
+        climbs = every_in (λ (w : Path). MatchesClimb fields tag 1 w.matches) (paths_of fields.maxima d) q.0 (climb fields tag d 1 tree.reduced tests) j;
       }
 
   -- a packet in range at the switch that the row matches, and its bucket list
   record IsMet (r : Plain) : Type 0 where
     packet : List ℕ
     ok : IsPacket fields packet
-    agrees : agrees_with packet r.matches ≡ true
     list : IsBucketList width tag p tags t packet r.buckets
 
-  met : (r : Plain) → In (rows_for width tag t d) r → IsMet r
+  met : (r : Plain) → In (rows_for fields.maxima tag t d) r → IsMet r
   met r i =
       let few = table.few in
       let tag_in = place.1 in
       let base = at_switch fields.maxima sw tag t place.0 (omega (arith, tag_in, few)) switch (omega (arith, low, many)) in
-      let c = rows_are_chosen fields.maxima tag t d row_tree few (packet_at sw tag t) base.range base.tagged r (contains_from_in (rows_for width tag t d) r i) in
-      let rows = matching (rows_for width tag t d) c.0 in
+      let c = rows_are_chosen fields.maxima tag t d row_tree few (packet_at sw tag t) base.range base.tagged r (contains_from_in (rows_for fields.maxima tag t d) r i) in
+      let rows = matching fields.maxima (rows_for fields.maxima tag t d) c.0 in
       let here : In rows r = in_top rank rows r c.4 in
       let ok : IsPacket fields c.0 = record { places = c.1.0; within = c.1.1 } in
       let same : r.buckets ≡ leaf_at d [] c.0 = ⊎_elim
@@ -162,19 +149,18 @@ module _ (fields : FieldTable) (tag : ℕ) (p : Policy) (tags : List (List ℕ))
       record {
         packet = c.0;
         ok = ok;
-        agrees = (in_filter (λ (z : Plain). agrees_with c.0 z.matches) (rows_for width tag t d) r here).1;
         list = subst (IsBucketList width tag p tags t c.0) (sym same) (tree.leaves c.0 ok (c.2 ∙ base.switch));
       }
 
-  -- what is matched has declared fields
-  within : (r : Plain) → IsOfWay r → (m : ℕ × ℕ) → In r.matches m → m.0 < width
-  within r w m i =
+  -- each match is one that a text can write
+  matched : (r : Plain) → IsOfWay r → (m : ℕ × ℕ × ℕ) → In r.matches m → IsMatchOf fields m
+  matched r w m i =
       ⊎_elim
-      (λ e. subst (λ (z : ℕ × ℕ). z.0 < width) (sym e) place.1)
-      (λ j. climbs_within width tag 1 w.way.matches m w.climbs j)
-      (in_put (tag, t) w.way.matches m (subst (λ (z : Plain). In z.matches m) w.same i))
+      (λ e. subst (IsMatchOf fields) (sym e) (exact_match fields tag t place.1 (omega (arith, low, many))))
+      (λ j. climb_matches fields tag 1 w.way.matches m w.climbs j)
+      (in_put_match (exactly fields.maxima tag t) w.way.matches m (subst (λ (z : Plain). In z.matches m) w.same i))
 
-  pub sound_row : (r : Plain) → In (rows_for width tag t d) r → IsSoundRow fields r
+  pub sound_row : (r : Plain) → In (rows_for fields.maxima tag t d) r → IsSoundRow fields r
   sound_row r i =
       let w = of_way r i in
       let k = met r i in
@@ -183,8 +169,7 @@ module _ (fields : FieldTable) (tag : ℕ) (p : Policy) (tags : List (List ℕ))
       let one : 1 ≤ tag = let past = place.0 in omega (arith, past) in
       record {
         priority = subst (λ (z : Plain). z.priority ≤ 65535) (sym w.same) (omega (arith, less, fits));
-        ascend = subst (λ (z : Plain). AscendsFrom 1 z.matches) (sym w.same) (put_ascends width tag t 1 w.way.matches one w.climbs);
-        values = all_from_members (λ (m : ℕ × ℕ). IsValue fields m.0 m.1) r.matches
-            (λ m j. (within r w m j, subst (λ n. n ≤ slice_index fields.maxima m.0) (agreed k.packet r.matches m k.agrees j) (k.ok.within m.0)));
+        ascend = subst (λ (z : Plain). MatchesAscend 1 z.matches) (sym w.same) (put_climbs fields tag t (digits_of (slice_index fields.maxima tag)) 1 w.way.matches one w.climbs);
+        matches = all_from_members (IsMatchOf fields) r.matches (λ m j. matched r w m j);
         buckets = buckets_ok fields tag p tags t k.packet r.buckets table is range many k.ok k.list;
       }

@@ -157,7 +157,7 @@ rows_from fields gs ls (p ∷ ps) k h r i =
     subst (IsRowOf fields gs) (sym e) record {
       priority = s.priority;
       ascend = s.ascend;
-      values = s.values;
+      matches = s.matches;
       target = target_ok fields gs (taken ls p.buckets) p.buckets k.2 s.buckets;
     })
     (λ j. rows_from fields gs (taken ls p.buckets) ps k.3 (λ q m. h q (inr m)) r j)

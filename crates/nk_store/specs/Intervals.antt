@@ -1,6 +1,5 @@
 -- The intervals of a node, and its else-child: the child with the most values, and on a tie the one of the least value.
 use Rattle.std.specs.Prelude.{ℕ, zero, suc, ◌+◌, ◌-◌, ◌==◌, ◌&&◌, Bool, true, false, nat_lt, if◌then◌else◌, List, [], ◌∷◌}
-use Rattle.std.specs.List.{flat_map}
 use Rattle.nk_store.specs.Diagram.{Diagram, Branches, leaf, case, no_branch, branch}
 
 -- an interval of values with its child, and what was made of the child
@@ -60,12 +59,3 @@ with_most same all best (i ∷ is) =
 abbrev pub counted : ℕ → ℕ → List ℕ
 counted from zero = []
 counted from (suc n) = from ∷ counted (from + 1) n
-
--- the values of an interval
-abbrev pub values_in : {L R : Type 0} → Interval L R → List ℕ
-values_in i = counted i.first (i.last + 1 - i.first)
-
--- the values whose child is not the else-child
-abbrev pub values_outside : {L R : Type 0} → (L → L → Bool) → Interval L R → List (Interval L R) → List ℕ
-values_outside same other is =
-    flat_map (λ i. if same_tree other.child same i.child then [] else values_in i) is

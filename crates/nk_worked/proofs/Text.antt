@@ -8,7 +8,7 @@ use Rattle.nk_table.specs.declared.Group.{Group}
 use Rattle.nk_table.specs.declared.Target.TheVariants as target
 use Rattle.nk_table.specs.declared.Exit.TheVariants.{Back, Port}
 use Rattle.nk_table.specs.Worked.{row}
-use Rattle.nk_tabtext.specs.InOrder.{IsTargetInOrder, IsTableInOrder}
+use Rattle.nk_tabtext.specs.InOrder.{MatchesAscend, IsTargetInOrder, IsTableInOrder}
 use Rattle.nk_tabtext.specs.Text.{table_bytes}
 use Rattle.nk_worked.specs.TwoSwitches.{tagged, first_table, second_table, two_tables}
 use Rattle.nk_worked.specs.TheirTable.{its_text, ArePrintedSo}
@@ -27,18 +27,18 @@ first_ascends : IsTableInOrder first_table
 first_ascends = record {
   groups = λ i j d lt less. absurd (omega (arith, lt, less));
   buckets = of_none (λ (g : Group). All (λ b. AscendsFrom 2 b.sets) g.buckets);
-  matches = all_of_one (λ (r : Row). AscendsFrom 1 r.matches) (row 2 ((1, 1) ∷ (3, 0) ∷ []) (target.Bucket (tagged 1 (Port 2)))) (omega arith, (omega arith, tt));
-  targets = all_of_one (λ (r : Row). IsTargetInOrder r.target) (row 2 ((1, 1) ∷ (3, 0) ∷ []) (target.Bucket (tagged 1 (Port 2)))) (omega arith, tt);
+  matches = all_of_one (λ (r : Row). MatchesAscend 1 r.matches) (row 2 ((1, 1, 16) ∷ (3, 0, 3) ∷ []) (target.Bucket (tagged 1 (Port 2)))) (omega arith, (omega arith, tt));
+  targets = all_of_one (λ (r : Row). IsTargetInOrder r.target) (row 2 ((1, 1, 16) ∷ (3, 0, 3) ∷ []) (target.Bucket (tagged 1 (Port 2)))) (omega arith, tt);
 }
 
 second_ascends : IsTableInOrder second_table
 second_ascends =
-    let first = row 2 ((1, 2) ∷ (3, 1) ∷ []) (target.Bucket (tagged 0 Back)) in
-    let second = row 0 ((3, 1) ∷ []) (target.Bucket (tagged 0 (Port 2))) in
+    let first = row 2 ((1, 2, 16) ∷ (3, 1, 3) ∷ []) (target.Bucket (tagged 0 Back)) in
+    let second = row 0 ((3, 1, 3) ∷ []) (target.Bucket (tagged 0 (Port 2))) in
     record {
       groups = λ i j d lt less. absurd (omega (arith, lt, less));
       buckets = of_none (λ (g : Group). All (λ b. AscendsFrom 2 b.sets) g.buckets);
-      matches = all_of_two (λ (r : Row). AscendsFrom 1 r.matches) first second (omega arith, (omega arith, tt)) (omega arith, tt);
+      matches = all_of_two (λ (r : Row). MatchesAscend 1 r.matches) first second (omega arith, (omega arith, tt)) (omega arith, tt);
       targets = all_of_two (λ (r : Row). IsTargetInOrder r.target) first second (omega arith, tt) (omega arith, tt);
     }
 

@@ -38,7 +38,7 @@ abbrev pub first_table : Table
 first_table = record {
   switch = 1;
   groups = [];
-  rows = row 2 ((1, 1) ∷ (3, 0) ∷ []) (target.Bucket (tagged 1 (Port 2))) ∷ [];
+  rows = row 2 ((1, 1, 16) ∷ (3, 0, 3) ∷ []) (target.Bucket (tagged 1 (Port 2))) ∷ [];
 }
 
 -- switch 2: what has tag 1 leaves untagged by port 2, whether it came in there or not
@@ -47,8 +47,8 @@ second_table = record {
   switch = 2;
   groups = [];
   rows =
-      row 2 ((1, 2) ∷ (3, 1) ∷ []) (target.Bucket (tagged 0 Back))
-      ∷ row 0 ((3, 1) ∷ []) (target.Bucket (tagged 0 (Port 2)))
+      row 2 ((1, 2, 16) ∷ (3, 1, 3) ∷ []) (target.Bucket (tagged 0 Back))
+      ∷ row 0 ((3, 1, 3) ∷ []) (target.Bucket (tagged 0 (Port 2)))
       ∷ [];
 }
 

@@ -37,23 +37,23 @@ by_port =
 -- the rows with their whole bucket lists: those of ports 1, 2 and 3, and the one of every other port
 abbrev pub port_rows : List Plain
 port_rows =
-    plain 2 ((1, 1) ∷ (3, 0) ∷ []) both
-    ∷ plain 2 ((1, 2) ∷ (3, 0) ∷ []) []
-    ∷ plain 2 ((1, 3) ∷ (3, 0) ∷ []) both
-    ∷ plain 0 ((3, 0) ∷ []) back
+    plain 2 ((1, 1, 16) ∷ (3, 0, 3) ∷ []) both
+    ∷ plain 2 ((1, 2, 16) ∷ (3, 0, 3) ∷ []) []
+    ∷ plain 2 ((1, 3, 16) ∷ (3, 0, 3) ∷ []) both
+    ∷ plain 0 ((3, 0, 3) ∷ []) back
     ∷ []
 
 -- the row that drops
 abbrev pub drop_row : Row
-drop_row = row 2 ((1, 2) ∷ (3, 0) ∷ []) target.Discard
+drop_row = row 2 ((1, 2, 16) ∷ (3, 0, 3) ∷ []) target.Discard
 
 -- the rows with their groups
 abbrev pub grouped_rows : List Row
 grouped_rows =
-    row 2 ((1, 1) ∷ (3, 0) ∷ []) (target.Group 1)
+    row 2 ((1, 1, 16) ∷ (3, 0, 3) ∷ []) (target.Group 1)
     ∷ drop_row
-    ∷ row 2 ((1, 3) ∷ (3, 0) ∷ []) (target.Group 1)
-    ∷ row 0 ((3, 0) ∷ []) (target.Bucket (tagged 0 Back))
+    ∷ row 2 ((1, 3, 16) ∷ (3, 0, 3) ∷ []) (target.Group 1)
+    ∷ row 0 ((3, 0, 3) ∷ []) (target.Bucket (tagged 0 Back))
     ∷ []
 
 abbrev pub one_group : List Group
@@ -61,7 +61,7 @@ one_group = record { number = 1; buckets = both } ∷ []
 
 -- the row that acts on a packet, and the buckets of its target
 abbrev pub acting : List ℕ → List Bucket
-acting pk = buckets_of_row one_group (highest [] (filter (agrees pk) grouped_rows))
+acting pk = buckets_of_row one_group (highest [] (filter (agrees dst_and_tag.maxima pk) grouped_rows))
 
 -- The tree is one that the laws on rows are about. Its rows are these, with these groups. The row that drops is the one that
 -- acts at port 2, though the last row matches there too; the group's two buckets act at ports 1 and 3.
@@ -70,10 +70,10 @@ pub record HasDropRowAndGroup : Type 0 where
   pub few : length dst_and_tag.maxima ≤ 18
   pub in_range : InRange dst_and_tag.maxima (packet 1 2 3 0)
   pub at_two : IsTagged dst_and_tag.maxima 3 0 (packet 1 2 3 0)
-  pub rows : rows_for (length dst_and_tag.maxima) 3 0 by_port ≡ port_rows
+  pub rows : rows_for dst_and_tag.maxima 3 0 by_port ≡ port_rows
   pub groups : groups_of port_rows ≡ one_group
   pub grouped : rows_after [] port_rows ≡ grouped_rows
-  pub match_two : matching port_rows (packet 1 2 3 0) ≡ plain 2 ((1, 2) ∷ (3, 0) ∷ []) [] ∷ plain 0 ((3, 0) ∷ []) back ∷ []
-  pub drops : highest [] (filter (agrees (packet 1 2 3 0)) grouped_rows) ≡ Some drop_row
+  pub match_two : matching dst_and_tag.maxima port_rows (packet 1 2 3 0) ≡ plain 2 ((1, 2, 16) ∷ (3, 0, 3) ∷ []) [] ∷ plain 0 ((3, 0, 3) ∷ []) back ∷ []
+  pub drops : highest [] (filter (agrees dst_and_tag.maxima (packet 1 2 3 0)) grouped_rows) ≡ Some drop_row
   pub copies : (acting (packet 1 1 3 0) ≡ both) × (acting (packet 1 3 3 0) ≡ both)
   pub goes_back : acting (packet 1 4 3 0) ≡ back
