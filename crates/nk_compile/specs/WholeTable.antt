@@ -1,5 +1,5 @@
 -- The whole printed table: one table for each switch, with the rows of tag 0 and of each tag whose link ends there.
-use Rattle.std.specs.Prelude.{◌≡◌, ℕ, zero, suc, ◌↔◌, ◌==◌, if◌then◌else◌, Option, Some, None, List, [], length, map, slice_get, Contains, All}
+use Rattle.std.specs.Prelude.{◌≡◌, ℕ, zero, suc, ◌↔◌, ◌==◌, if◌then◌else◌, Option, Some, None, List, [], map, slice_get, Contains, All}
 use Rattle.std.specs.List.Sorted.{IsStrictlyIncreasing}
 use Rattle.nk_field.specs.Packet.{FieldTable}
 use Rattle.nk_topo.specs.Topology.{Topology}

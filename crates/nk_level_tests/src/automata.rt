@@ -29,7 +29,7 @@ pub fn fits(st: &Store, p: &Pol) -> bool
     ensures complements { result ≡ true → NegatesPredicates (tree_of p.now) }
 {
     match p {
-        Pol::Test(_, _) | Pol::Dup(_) => true,
+        Pol::Test(_, _) | Pol::Range(_, _, _) | Pol::Dup(_) => true,
         Pol::Set(f, n) => *n <= st.max(*f),
         Pol::Sum(ps) => all_fit(st, ps.as_slice()),
         Pol::Seq(ps) => all_fit(st, ps.as_slice()),

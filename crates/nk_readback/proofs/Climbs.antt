@@ -1,18 +1,11 @@
 -- What a bucket assigns ascends by field.
 use Rattle.std.proofs.Common.{◌≡◌, ◌≢◌, ℕ, zero, suc, ◌+◌, ◌<◌, ◌≤◌, Bool, true, false, cond, ◌⊎◌, inl, inr, ⊎_elim, List, [], ◌∷◌, refl, sym, subst, arith}
 use Rattle.std.specs.Prelude.{◌==◌, ◌&&◌, not, nat_lt, map, filter, slice_index}
-use Rattle.std.specs.List.{flat_map, AllByRecursion}
 use Rattle.std.proofs.lemmas.Bool.Decides.{nat_tests}
 use Rattle.nk_field.specs.Act.{AscendsFrom}
 use Rattle.nk_field.proofs.Lists.{In}
-use Rattle.nk_store.specs.Diagram.{Branches, leaf, case, no_branch, branch, IsReduced, AreReduced, AreTwo}
-use Rattle.nk_store.specs.Intervals.{same_tree, counted}
-use Rattle.nk_table.specs.declared.Bucket.{Bucket}
-use Rattle.nk_table.specs.Buckets.{same_buckets}
-use Rattle.nk_extract.specs.RuleTree.{Path, PathInterval, is_drop, with_match, block_paths, paths_of, path_intervals, put}
-use Rattle.nk_extract.proofs.Lists.{every_weaker, every_append, every_map, every_flat_map, every_true}
-use Rattle.nk_extract.proofs.Trees.{Tree, TestsOnly, TestOnly, IsMatchable, with_most_has}
-use Rattle.nk_extract.proofs.Highest.{other_of}
+use Rattle.nk_store.specs.Intervals.{counted}
+use Rattle.nk_extract.specs.RuleTree.{put}
 
 -- declared fields but the tag, ascending from low on
 abbrev pub Climbs : (width tag low : ℕ) → List (ℕ × ℕ) → Type 0

@@ -1,5 +1,5 @@
 -- The tables that are made of the diagrams of tags are those of the tags' rows.
-use Rattle.std.proofs.Common.{ℕ, zero, suc, ◌<◌, ◌≤◌, ◌↔◌, Option, List, [], length, take, sym, ap, subst, ◌∙◌}
+use Rattle.std.proofs.Common.{ℕ, zero, suc, ◌<◌, ◌≤◌, ◌↔◌, Option, List, [], length, sym, ap, subst, ◌∙◌}
 use Rattle.std.specs.Prelude.{All}
 use Rattle.nk_field.proofs.Lists.{In, in_mapped}
 use Rattle.nk_field.proofs.Ascending.{all_from_members, members_from_all}
