@@ -78,7 +78,7 @@ fn are_one(st: &mut Store, p: Pol, q: Pol) -> Result<bool, AllocError> {
     Ok(left == right)
 }
 
-/// Whether `dst in 1..2` is `dst=1 + dst=2`, `~dst in 1..2` the other two values, and `dst in 2..1` nothing.
+/// Whether `dst in 1..2` is `dst=1 + dst=2` and not `dst=1`, `~dst in 1..2` the other two values, and `dst in 2..1` nothing.
 pub fn ranges_are_tests(st: &mut Store) -> Result<bool, AllocError> {
     let alloc = st.alloc();
     let both = either(alloc, dst_is(1), dst_is(2))?;
@@ -87,13 +87,14 @@ pub fn ranges_are_tests(st: &mut Store) -> Result<bool, AllocError> {
     let neither = complement(alloc, dst_in(1, 2))?;
     let is_neither = are_one(st, neither, others)?;
     let is_none = are_one(st, dst_in(2, 1), dropping(alloc))?;
-    Ok(is_both && is_neither && is_none)
+    let is_first = are_one(st, dst_in(1, 2), dst_is(1))?;
+    Ok(is_both && is_neither && is_none && !is_first)
 }
 
-/// Whether `dst in 3..3 + dst=0 + dst in 2..0 + dst in 1..1` is `~dst=2`, and `dst in 0..1 + dst in 1..2 + dst=0` is `~dst=3`.
+/// Whether `dst=3 + dst in 2..1 + dst in 0..1` is `~dst=2`, and `dst in 0..1 + dst in 1..2 + dst=0` is `~dst=3`.
 pub fn ranges_together(st: &mut Store) -> Result<bool, AllocError> {
     let alloc = st.alloc();
-    let apart = vec![in alloc; dst_in(3, 3), dst_is(0), dst_in(2, 0), dst_in(1, 1)]?;
+    let apart = vec![in alloc; dst_is(3), dst_in(2, 1), dst_in(0, 1)]?;
     let but_two = complement(alloc, dst_is(2))?;
     let is_but_two = are_one(st, Pol::Sum(Pols::new(apart)), but_two)?;
     let common = vec![in alloc; dst_in(0, 1), dst_in(1, 2), dst_is(0)]?;

@@ -93,12 +93,12 @@ fn put_test(text: &mut Vec<u8>, draws: &mut Draws, largest: Largest) -> Result<(
     put_number(text, value(draws, place))
 }
 
-/// A range, mostly with the lesser value first.
+/// A range, at least every other one with the lesser value first.
 fn put_range(text: &mut Vec<u8>, draws: &mut Draws, largest: Largest) -> Result<(), AllocError> {
     let place = one_place(draws, largest);
     let x = value(draws, place);
     let y = value(draws, place);
-    let ascends = draws.below(8) > 0;
+    let ascends = draws.below(2) > 0;
     text.extend_from_slice(place.name)?;
     text.extend_from_slice(b" in ")?;
     put_number(text, if ascends { x.min(y) } else { x })?;
@@ -159,7 +159,7 @@ fn next_predicate(
             text.extend_from_slice(b"~")?;
             text.extend_from_slice(one_of(texts, draws))?;
         }
-        4 | 5 => put_test(&mut text, draws, largest)?,
+        4 => put_test(&mut text, draws, largest)?,
         _ => put_range(&mut text, draws, largest)?,
     }
     Ok(text)
@@ -174,7 +174,7 @@ fn next_policy(
     largest: Largest,
 ) -> Result<Vec<u8>, AllocError> {
     let mut text = Vec::new(alloc);
-    match draws.below(6) {
+    match draws.below(8) {
         0 | 1 => put_two(&mut text, texts, b" + ", draws)?,
         2 | 3 => put_two(&mut text, texts, b";", draws)?,
         4 => put_assignment(&mut text, draws, largest)?,

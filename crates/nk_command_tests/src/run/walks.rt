@@ -20,7 +20,7 @@ link 1:1 -> 2:2 link 2:1 -> 3:2 link 3:1 -> 1:2 link 2:2 -> 1:1
 ";
 
 /// What is done before a link and behind it.
-const DEEDS: [&[u8]; 8] = [
+const DEEDS: [&[u8]; 10] = [
     b"id",
     b"a=0",
     b"a=1;a:=0",
@@ -29,6 +29,8 @@ const DEEDS: [&[u8]; 8] = [
     b"~(a=1;pt=2)",
     b"(a=0;a:=1 + a=1;a:=0)",
     b"(pt=9 + pt=2)",
+    b"pt in 2..9",
+    b"~pt in 4..0",
 ];
 
 /// Ways over a link.
