@@ -5,7 +5,7 @@ use Rattle.nk_grammar.specs.Certified.{Certified}
 use Rattle.nk_grammar.specs.CertifiedMachine.{certified_of}
 use Rattle.nk_names.specs.declared.Program.{Program}
 use Rattle.nk_names.specs.ProgramOf.{program_of, said_by}
-use Rattle.nk_cert.specs.declared.shape.Certificate.{Certificate}
+use Rattle.nk_cert.specs.declared.certificate.Certificate.{Certificate}
 use Rattle.nk_cert.specs.Values.{certificate_value}
 use Rattle.nk_cert.specs.Verdicts.{HasPredicates}
 use Rattle.nk_certtext.specs.Rows.{certificate_of}

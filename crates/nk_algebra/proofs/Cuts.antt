@@ -268,9 +268,9 @@ chosen_grows old new f ps d g k = record {
 }
 
 -- and so does a table of them
-pub chosen_stay : (old new : Held) (f : ℕ) (rows : List (List (ℕ × ℕ) × ℕ)) → Grows old new → AreChosen old f rows →
-    AreChosen new f rows
-chosen_stay old new f rows g are ps d e = chosen_grows old new f ps d g (are ps d e)
+pub chosen_stay : (old new : Held) (f : ℕ) (entries : List (List (ℕ × ℕ) × ℕ)) → Grows old new → AreChosen old f entries →
+    AreChosen new f entries
+chosen_stay old new f entries g are ps d e = chosen_grows old new f ps d g (are ps d e)
 
 -- what was made of parts of an earlier store is a choice now
 pub chosen_now : (old new : Held) (f : ℕ) (ps : List (ℕ × ℕ)) (d : ℕ) → Grows old new → AreChoices old f ps →
@@ -287,7 +287,7 @@ chosen_now old new f ps d g c h l = record {
   later = let a = first_stays old new f ps g c.ids in omega (arith, a, l);
 }
 
--- a table with one more row
+-- a table with one more entry
 pub chosen_put : (st : Held) (f : ℕ) (ps : List (ℕ × ℕ)) (d : ℕ) (old new : List (List (ℕ × ℕ) × ℕ)) →
     AreChosen st f old → IsChosen st f ps d →
     ((qs : List (ℕ × ℕ)) → lookup (parts_eq qs) new ≡ cond (parts_eq ps qs) (Some d) (lookup (parts_eq qs) old)) →

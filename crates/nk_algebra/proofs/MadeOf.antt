@@ -26,8 +26,8 @@ module _ (P : List ℕ → List ℕ) (M : List ℕ → List ℕ → List Out →
   }
 
   -- and so is a table of them
-  pub rows_grow : (old new : Held) (rows : List (ℕ × ℕ)) → Grows old new → AreMadeOf P M F old rows → AreMadeOf P M F new rows
-  rows_grow old new rows g are d r e = made_grows old new d r g (are d r e)
+  pub entries_grow : (old new : Held) (entries : List (ℕ × ℕ)) → Grows old new → AreMadeOf P M F old entries → AreMadeOf P M F new entries
+  entries_grow old new entries g are d r e = made_grows old new d r g (are d r e)
 
   -- what was made of a diagram of an earlier store is made of it now
   pub made_now :
@@ -44,11 +44,11 @@ module _ (P : List ℕ → List ℕ) (M : List ℕ → List ℕ → List Out →
     later = subst (λ t. F t ≤ top new r) (sym (g.tops d i)) l;
   }
 
-  -- a table with one more row
-  pub rows_put :
+  -- a table with one more entry
+  pub entries_put :
       (st : Held) (d r : ℕ) (old new : List (ℕ × ℕ)) → AreMadeOf P M F st old → IsMadeOf P M F st d r
       → ((q : ℕ) → lookup (eqb q) new ≡ cond (eqb d q) (Some r) (lookup (eqb q) old)) → AreMadeOf P M F st new
-  rows_put st d r old new are one put q z e =
+  entries_put st d r old new are one put q z e =
       elim (eqb_tells d q) [
         | inl same ↦
             let is : Some r ≡ Some z = sym (put q ∙ ap (λ b. cond b (Some r) (lookup (eqb q) old)) same.0) ∙ e in

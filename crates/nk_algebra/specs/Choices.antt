@@ -39,6 +39,6 @@ pub record IsChosen (st : Held) (f : ℕ) (parts : List (ℕ × ℕ)) (d : ℕ) 
 abbrev pub parts_eq : List (ℕ × ℕ) → List (ℕ × ℕ) → Bool
 parts_eq ps qs = pointwise (λ p q. eqb p.0 q.0 && eqb p.1 q.1) ps qs
 
--- each row leads from parts to the choice by f between them
+-- each entry leads from parts to the choice by f between them
 abbrev pub AreChosen : Held → ℕ → List (List (ℕ × ℕ) × ℕ) → Type 0
-AreChosen st f rows = (parts : List (ℕ × ℕ)) (d : ℕ) → lookup (parts_eq parts) rows ≡ Some d → IsChosen st f parts d
+AreChosen st f entries = (parts : List (ℕ × ℕ)) (d : ℕ) → lookup (parts_eq parts) entries ≡ Some d → IsChosen st f parts d

@@ -12,6 +12,6 @@ pub record IsMadeOf
   pub leaves : HasLeaves st r (λ pk. M st.maxes pk (look st d (P pk)))
   pub later : F (top st d) ≤ top st r
 
--- each row leads from a diagram to what is made of it
+-- each entry leads from a diagram to what is made of it
 abbrev pub AreMadeOf : (List ℕ → List ℕ) → (List ℕ → List ℕ → List Out → List Out) → (ℕ → ℕ) → Held → List (ℕ × ℕ) → Type 0
-AreMadeOf P M F st rows = (d r : ℕ) → lookup (eqb d) rows ≡ Some r → IsMadeOf P M F st d r
+AreMadeOf P M F st entries = (d r : ℕ) → lookup (eqb d) entries ≡ Some r → IsMadeOf P M F st d r

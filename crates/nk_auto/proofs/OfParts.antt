@@ -1,4 +1,4 @@
--- Diagrams of parts: their rows one by one, the states that they are, and the automaton of those.
+-- Diagrams of parts: their legs one by one, the states that they are, and the automaton of those.
 use Rattle.std.proofs.Common.{◌≡◌, ℕ, zero, suc, ◌+◌, ◌-◌, ◌<◌, ◌≤◌, inl, inr, ⊎_elim, true, false, List, [], ◌∷◌, ◌++◌, All, length, map, get_or, drop, refl, sym, ap, subst, ◌∙◌, arith, drop-cons, replicate}
 use Rattle.std.specs.Prelude.{slice_index}
 use Rattle.std.specs.List.{range_with_len}
@@ -24,11 +24,11 @@ use Rattle.nk_algebra.specs.Unions.{AreIds}
 use Rattle.nk_algebra.proofs.Members.{Has, contains_has, has_contains, gathered_has, has_gathered}
 use Rattle.nk_deriv.specs.declared.values.Part.{Part}
 use Rattle.nk_deriv.specs.declared.values.Parts.{Parts}
-use Rattle.nk_deriv.specs.Part.{IsDupFree, AllDupFree, IsMadeOf, IsRowOf, IsWithin, IsPart}
+use Rattle.nk_deriv.specs.Part.{IsDupFree, AllDupFree, IsMadeOf, IsLegOf, IsWithin, IsPart}
 use Rattle.nk_auto.specs.Automaton.{IsState, IsAutomaton}
 use Rattle.nk_auto.specs.Complements.{NegatesPredicates, AllNegatePredicates}
 use Rattle.nk_auto.specs.Continued.{IsFit, IsSilent}
-use Rattle.nk_auto.specs.OfParts.{IsAimed, IsFitRow, IsOfPart, AreOfParts, AreParts, IsDrawable}
+use Rattle.nk_auto.specs.OfParts.{IsAimed, IsFitLeg, IsOfPart, AreOfParts, AreParts, IsDrawable}
 use Rattle.nk_auto.specs.Plain.{Sends}
 use Rattle.nk_auto.proofs.Sending.{out_of, sends_on, sends_back, union_sends, sends_left, sends_right}
 use Rattle.nk_auto.proofs.Silences.{fit_before, packet_before}
@@ -61,23 +61,23 @@ aim_aimed st new d r l p g a h = record {
       );
 }
 
--- so do rows that fit
-rows_before : (old new : Held) (rows : List (Pol × ℕ)) → Grows old new → All (IsFitRow new.maxes) rows → All (IsFitRow old.maxes) rows
-rows_before old new rows g fits = subst (λ m. All (IsFitRow m) rows) g.maxes fits
+-- so do legs that fit
+legs_before : (old new : Held) (legs : List (Pol × ℕ)) → Grows old new → All (IsFitLeg new.maxes) legs → All (IsFitLeg old.maxes) legs
+legs_before old new legs g fits = subst (λ m. All (IsFitLeg m) legs) g.maxes fits
 
 -- so does the diagram of a part
-pub part_grow : (old new : Held) (d : ℕ) (free : Policy) (rows : List (Pol × ℕ)) → Grows old new → IsOfPart old d free rows →
-    IsOfPart new d free rows
-part_grow old new d free rows g h = record {
+pub part_grow : (old new : Held) (d : ℕ) (free : Policy) (legs : List (Pol × ℕ)) → Grows old new → IsOfPart old d free legs →
+    IsOfPart new d free legs
+part_grow old new d free legs g h = record {
   id = g.ids d h.id;
   sends = λ fit fits pk y t r.
-      let both = h.sends (fit_before old new free g fit) (rows_before old new rows g fits) pk y t (packet_before old new pk g r) in
+      let both = h.sends (fit_before old new free g fit) (legs_before old new legs g fits) pk y t (packet_before old new pk g r) in
       (λ s. both.0 (sends_back old new d pk y t g h.id s), λ s. sends_on old new d pk y t g h.id (both.1 s));
 }
 
--- no rows yet
-pub no_rows : (st : Held) (d : ℕ) (free : Policy) → IsAimed st d free 0 → IsOfPart st d free []
-no_rows st d free a = record {
+-- no legs yet
+pub no_legs : (st : Held) (d : ℕ) (free : Policy) → IsAimed st d free 0 → IsOfPart st d free []
+no_legs st d free a = record {
   id = a.id;
   sends = λ fit fits pk y t pk_in. (
     λ s. inl ((a.sends fit pk y t pk_in).0 s),
@@ -85,16 +85,16 @@ no_rows st d free a = record {
   );
 }
 
--- one more row
-pub one_more_row : (st new : Held) (a d r : ℕ) (free : Policy) (row : Pol × ℕ) (rows : List (Pol × ℕ)) → Grows st new →
-    IsAimed st a (tree_of row.0) row.1 → IsOfPart st d free rows →
-    HasLeaves new r (λ pk. merged (look st a pk) (look st d pk)) → IsOfPart new r free (row ∷ rows)
-one_more_row st new a d r free row rows g one more h = record {
+-- one more leg
+pub one_more_leg : (st new : Held) (a d r : ℕ) (free : Policy) (leg : Pol × ℕ) (legs : List (Pol × ℕ)) → Grows st new →
+    IsAimed st a (tree_of leg.0) leg.1 → IsOfPart st d free legs →
+    HasLeaves new r (λ pk. merged (look st a pk) (look st d pk)) → IsOfPart new r free (leg ∷ legs)
+one_more_leg st new a d r free leg legs g one more h = record {
   id = h.id;
   sends = λ fit fits pk y t pk_in.
       let before = packet_before st new pk g pk_in in
-      let first = one.sends (fit_before st new (tree_of row.0) g (All-head (IsFitRow new.maxes) row rows fits)) pk y t before in
-      let rest = more.sends (fit_before st new free g fit) (rows_before st new rows g (All-tail (IsFitRow new.maxes) row rows fits)) pk y t before in (
+      let first = one.sends (fit_before st new (tree_of leg.0) g (All-head (IsFitLeg new.maxes) leg legs fits)) pk y t before in
+      let rest = more.sends (fit_before st new free g fit) (legs_before st new legs g (All-tail (IsFitLeg new.maxes) leg legs fits)) pk y t before in (
         λ s.
             ⊎_elim
             (λ k. let e = first.0 k in inr (inl (sym e.0, e.1)))
@@ -112,17 +112,17 @@ one_more_row st new a d r free row rows g one more h = record {
       );
 }
 
--- the rows from the place before
-pub rows_from : (rows : List (Pol × ℕ)) (i : ℕ) (row : Pol × ℕ) → 0 < i → i ≤ length rows → row ≡ get_or rows (i - 1) row →
-    drop (i - 1) rows ≡ row ∷ drop i rows
-rows_from rows i row some within is =
+-- the legs from the place before
+pub legs_from : (legs : List (Pol × ℕ)) (i : ℕ) (leg : Pol × ℕ) → 0 < i → i ≤ length legs → leg ≡ get_or legs (i - 1) leg →
+    drop (i - 1) legs ≡ leg ∷ drop i legs
+legs_from legs i leg some within is =
     let back : suc (i - 1) ≡ i = omega (arith, some) in
-    let lt : i - 1 < length rows = omega (arith, some, within) in
-    drop-cons rows (i - 1) row lt ∙ ap (λ x. x ∷ drop (suc (i - 1)) rows) (sym is) ∙ ap (λ n. row ∷ drop n rows) back
+    let lt : i - 1 < length legs = omega (arith, some, within) in
+    drop-cons legs (i - 1) leg lt ∙ ap (λ x. x ∷ drop (suc (i - 1)) legs) (sym is) ∙ ap (λ n. leg ∷ drop n legs) back
 
 -- the diagram of a part is that of the state whose part it is
-pub part_state : (st : Held) (d : ℕ) (made : Part) (s : Policy) → IsOfPart st d (tree_of made.free) made.rows → IsPart made s →
-    IsFit st.maxes (tree_of made.free) → All (IsFitRow st.maxes) made.rows → has_dup s 0 ≡ false → IsState st d s
+pub part_state : (st : Held) (d : ℕ) (made : Part) (s : Policy) → IsOfPart st d (tree_of made.free) made.legs → IsPart made s →
+    IsFit st.maxes (tree_of made.free) → All (IsFitLeg st.maxes) made.legs → has_dup s 0 ≡ false → IsState st d s
 part_state st d made s h is fit fits none = record {
   id = h.id;
   ends = λ pk y pk_in.
@@ -173,32 +173,32 @@ made_fit st fields p q store over m = (
   assigns_from_uses (IsValue fields) (λ f n. n ≤ slice_index st.maxes f) (λ f n v. value_in st fields f n store v) q (m.over fields over),
 )
 
--- so are rows
-rows_fit : (st : Held) (fields : FieldTable) (p : Policy) (rows : List (Pol × ℕ)) → IsStoreOver fields st → IsOver fields p →
-    All (IsRowOf p) rows → All (IsFitRow st.maxes) rows
-rows_fit st fields p [] store over h = All-nil (IsFitRow st.maxes)
-rows_fit st fields p (row ∷ rows) store over h =
-    All-cons (IsFitRow st.maxes) row rows
-    (made_fit st fields p (tree_of row.0) store over (All-head (IsRowOf p) row rows h).0)
-    (rows_fit st fields p rows store over (All-tail (IsRowOf p) row rows h))
+-- so are legs
+legs_fit : (st : Held) (fields : FieldTable) (p : Policy) (legs : List (Pol × ℕ)) → IsStoreOver fields st → IsOver fields p →
+    All (IsLegOf p) legs → All (IsFitLeg st.maxes) legs
+legs_fit st fields p [] store over h = All-nil (IsFitLeg st.maxes)
+legs_fit st fields p (leg ∷ legs) store over h =
+    All-cons (IsFitLeg st.maxes) leg legs
+    (made_fit st fields p (tree_of leg.0) store over (All-head (IsLegOf p) leg legs h).0)
+    (legs_fit st fields p legs store over (All-tail (IsLegOf p) leg legs h))
 
 -- a part of what is made of the policy is that of a state
 one_state : (st : Held) (fields : FieldTable) (d : ℕ) (made : Part) (p s : Policy) → IsStoreOver fields st → IsOver fields p →
-    IsOfPart st d (tree_of made.free) made.rows → IsPart made s → IsWithin p made → has_dup s 0 ≡ false → IsState st d s
+    IsOfPart st d (tree_of made.free) made.legs → IsPart made s → IsWithin p made → has_dup s 0 ≡ false → IsState st d s
 one_state st fields d made p s store over h is within none =
     part_state st d made s h is
     (made_fit st fields p (tree_of made.free) store over within.free)
-    (rows_fit st fields p made.rows store over within.rows)
+    (legs_fit st fields p made.legs store over within.legs)
     none
 
 -- one more diagram at the end
 pub one_more_state : (st new : Held) (made : List ℕ) (es : List (ℕ × Part)) (d : ℕ) (e : ℕ × Part) → Grows st new →
-    AreOfParts st made es → IsOfPart new d (tree_of e.1.free) e.1.rows → AreOfParts new (made ++ d ∷ []) (es ++ e ∷ [])
+    AreOfParts st made es → IsOfPart new d (tree_of e.1.free) e.1.legs → AreOfParts new (made ++ d ∷ []) (es ++ e ∷ [])
 one_more_state st new [] [] d e g a one = (one, tt)
 one_more_state st new [] (x ∷ es) d e g a one = absurd a
 one_more_state st new (m ∷ made) [] d e g a one = absurd a
 one_more_state st new (m ∷ made) (x ∷ es) d e g a one =
-    (part_grow st new m (tree_of x.1.free) x.1.rows g a.0, one_more_state st new made es d e g a.1 one)
+    (part_grow st new m (tree_of x.1.free) x.1.legs g a.0, one_more_state st new made es d e g a.1 one)
 
 -- as many diagrams as parts
 many_states : (st : Held) (made : List ℕ) (es : List (ℕ × Part)) (ls : List ℕ) → AreOfParts st made es → map (λ e. e.0) es ≡ ls →
@@ -229,10 +229,10 @@ each_state st fields p store over none (m ∷ made) (e ∷ es) from (suc n) is a
 
 -- the diagrams of the parts are the automaton
 pub parts_automaton : (old st : Held) (start : ℕ) (made all : List ℕ) (parts : Parts) (p : Policy) (first : ℕ) → Grows old st →
-    all ≡ start ∷ made → IsOfPart st start (tree_of parts.first.free) parts.first.rows → AreOfParts st made parts.after →
+    all ≡ start ∷ made → IsOfPart st start (tree_of parts.first.free) parts.first.legs → AreOfParts st made parts.after →
     AreParts parts p → IsDrawable old p first → IsAutomaton st all first p
 parts_automaton old st start made all parts p first g same begun rest are draw =
-    subst (λ rows. IsAutomaton st rows first p) (sym same)
+    subst (λ states. IsAutomaton st states first p) (sym same)
     (states_are st (start ∷ made) first p draw.numbered many
     (one_state st draw.fields start parts.first p p store draw.over begun are.first are.first.within (no_zero p p first draw.from draw.numbered (λ k. k)))
     (λ i lt.

@@ -1,4 +1,4 @@
--- The states of a policy's automaton, from its rows.
+-- The states of a policy's automaton, from the diagrams that were written.
 use Rattle.std.proofs.Common.{◌≡◌, ◌≢◌, ℕ, zero, suc, ◌+◌, ◌-◌, ◌<◌, ◌≤◌, ◌⊎◌, inl, inr, ⊎_elim, Bool, true, false, List, [], ◌∷◌, length, refl, sym, ap, subst, ◌∙◌, arith, length-set, get_or-set_other, get_or-set_same}
 use Rattle.std.specs.Prelude.{slice_index, slice_set, Contains, ◌==◌, if◌then◌else◌}
 use Rattle.std.specs.List.{range_with_len}
@@ -158,27 +158,27 @@ states_are st all first p numbered many begun rest = record {
         state_leads st (slice_index all (1 + i)) p (after p (first + i)) first numbered (λ l k. rest_dups p (first + i) l k) (rest i within) pk y t pk_in
         (subst (λ n. Sends st (slice_index all n) pk y t) same s)
 
--- the rows and the start are the automaton
-pub automaton_is : (st : Held) (blank rows all : List ℕ) (first start e : ℕ) (p : Policy) → 1 ≤ first →
-    marked_from p first ≡ p → length blank ≡ dups_of p + 1 → AreWritten st blank rows (first - 1) p e →
-    IsContinued st start p e → HasLeaves st e (λ pk. no_out ∷ []) → all ≡ slice_set rows 0 start → IsFit st.maxes p →
+-- they and the start are the automaton
+pub automaton_is : (st : Held) (blank states all : List ℕ) (first start e : ℕ) (p : Policy) → 1 ≤ first →
+    marked_from p first ≡ p → length blank ≡ dups_of p + 1 → AreWritten st blank states (first - 1) p e →
+    IsContinued st start p e → HasLeaves st e (λ pk. no_out ∷ []) → all ≡ slice_set states 0 start → IsFit st.maxes p →
     IsAutomaton st all first p
-automaton_is st blank rows all first start e p from numbered many written begun h put fit =
+automaton_is st blank states all first start e p from numbered many written begun h put fit =
     states_are st all first p numbered length_is
     (subst (λ d. IsState st d p) (sym first_is) (state_is st start e p h fit (no_zero p p first from numbered (λ k. k)) begun))
-    (λ i lt. state_is st (slice_index all (1 + i)) e (after p (first + i)) h (after_fit st.maxes p (first + i) fit) (no_zero p (after p (first + i)) first from numbered (λ k. rest_dups p (first + i) 0 k)) (row i lt))
+    (λ i lt. state_is st (slice_index all (1 + i)) e (after p (first + i)) h (after_fit st.maxes p (first + i) fit) (no_zero p (after p (first + i)) first from numbered (λ k. rest_dups p (first + i) 0 k)) (state i lt))
   where
     length_is : length all ≡ 1 + dups_of p
-    length_is = ap length put ∙ length-set rows 0 start ∙ written.count ∙ many ∙ omega arith
+    length_is = ap length put ∙ length-set states 0 start ∙ written.count ∙ many ∙ omega arith
 
     first_is : slice_index all 0 ≡ start
-    first_is = ap (λ r. slice_index r 0) put ∙ get_or-set_same rows 0 start 0 (omega (arith, written.count, many))
+    first_is = ap (λ r. slice_index r 0) put ∙ get_or-set_same states 0 start 0 (omega (arith, written.count, many))
 
-    row : (i : ℕ) → i < dups_of p → IsContinued st (slice_index all (1 + i)) (after p (first + i)) e
-    row i lt =
+    state : (i : ℕ) → i < dups_of p → IsContinued st (slice_index all (1 + i)) (after p (first + i)) e
+    state i lt =
         let has = label_held p first i numbered lt in
         let at : (first + i) - (first - 1) ≡ 1 + i = omega (arith, from) in
         let apart : (1 + i) ≢ 0 = λ s. omega (arith, s) in
-        let kept : slice_index all (1 + i) ≡ slice_index rows (1 + i) = ap (λ r. slice_index r (1 + i)) put ∙ get_or-set_other rows 0 (1 + i) start 0 apart in
-        subst (λ d. IsContinued st d (after p (first + i)) e) (ap (λ n. slice_index rows n) at ∙ sym kept)
-        (written.rows fit.0 (first + i) (omega (arith, from)) (omega (arith, from, lt, many, written.count)) has)
+        let kept : slice_index all (1 + i) ≡ slice_index states (1 + i) = ap (λ r. slice_index r (1 + i)) put ∙ get_or-set_other states 0 (1 + i) start 0 apart in
+        subst (λ d. IsContinued st d (after p (first + i)) e) (ap (λ n. slice_index states n) at ∙ sym kept)
+        (written.states fit.0 (first + i) (omega (arith, from)) (omega (arith, from, lt, many, written.count)) has)

@@ -38,17 +38,17 @@ pub record IsContinued (st : Held) (d : ℕ) (p : Policy) (k : ℕ) : Type 0 whe
   pub next : IsId st k
   pub sends : IsFit st.maxes p → (pk y : List ℕ) (t : ℕ) → IsPacket st pk → Sends st d pk y t ↔ GoesOn st p k pk y t
 
--- the row of each dup that has a place is the diagram of what is left after it, continued by k; the row of the dup l stands
+-- the state of each dup that has a place is the diagram of what is left after it, continued by k; the state of the dup l stands
 -- at the place l - base
-abbrev pub AreRows : Held → List ℕ → ℕ → Policy → ℕ → Type 0
-AreRows st rows base p k =
-    NegatesPredicates p → (l : ℕ) → base ≤ l → l < base + length rows → has_dup p l ≡ true →
-    IsContinued st (slice_index rows (l - base)) (after p l) k
+abbrev pub AreStates : Held → List ℕ → ℕ → Policy → ℕ → Type 0
+AreStates st states base p k =
+    NegatesPredicates p → (l : ℕ) → base ≤ l → l < base + length states → has_dup p l ≡ true →
+    IsContinued st (slice_index states (l - base)) (after p l) k
 
--- the rows of the policy's dups were written, and the others stayed
+-- the states of the policy's dups were written, and the others stayed
 pub record AreWritten (st : Held) (old new : List ℕ) (base : ℕ) (p : Policy) (k : ℕ) : Type 0 where
   pub count : length new ≡ length old
-  pub rows : AreRows st new base p k
+  pub states : AreStates st new base p k
   pub others : (l : ℕ) → base ≤ l → has_dup p l ≡ false → slice_index new (l - base) ≡ slice_index old (l - base)
 
 -- d was written at the place of the label l, if it has one

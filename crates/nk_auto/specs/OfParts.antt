@@ -11,7 +11,7 @@ use Rattle.nk_store.specs.Held.{Held, IsId, IsPacket}
 use Rattle.nk_store.specs.Held.{IsOver as IsStoreOver}
 use Rattle.nk_deriv.specs.declared.values.Part.{Part}
 use Rattle.nk_deriv.specs.declared.values.Parts.{Parts}
-use Rattle.nk_deriv.specs.Part.{RowsGive, IsPart, IsWithin}
+use Rattle.nk_deriv.specs.Part.{LegsGive, IsPart, IsWithin}
 use Rattle.nk_auto.specs.Plain.{Sends}
 use Rattle.nk_auto.specs.Continued.{IsFit}
 
@@ -21,23 +21,23 @@ pub record IsAimed (st : Held) (d : ℕ) (p : Policy) (target : ℕ) : Type 0 wh
   pub sends : IsFit st.maxes p → (pk y : List ℕ) (t : ℕ) → IsPacket st pk →
       Sends st d pk y t ↔ ((t ≡ target) × Gives p pk [] y)
 
--- a row's policy is fit
-abbrev pub IsFitRow : List ℕ → Pol × ℕ → Type 0
-IsFitRow maxes row = IsFit maxes (tree_of row.0)
+-- a leg's policy is fit
+abbrev pub IsFitLeg : List ℕ → Pol × ℕ → Type 0
+IsFitLeg maxes leg = IsFit maxes (tree_of leg.0)
 
--- the diagram of a free policy and rows: to target 0 it sends to where the free policy ends without a record, and to
--- target l to where some row of label l does
-pub record IsOfPart (st : Held) (d : ℕ) (free : Policy) (rows : List (Pol × ℕ)) : Type 0 where
+-- the diagram of a free policy and legs: to target 0 it sends to where the free policy ends without a record, and to
+-- target l to where some leg of label l does
+pub record IsOfPart (st : Held) (d : ℕ) (free : Policy) (legs : List (Pol × ℕ)) : Type 0 where
   pub id : IsId st d
-  pub sends : IsFit st.maxes free → All (IsFitRow st.maxes) rows → (pk y : List ℕ) (t : ℕ) → IsPacket st pk →
-      Sends st d pk y t ↔ (((t ≡ 0) × Gives free pk [] y) ⊎ RowsGive rows pk y t)
+  pub sends : IsFit st.maxes free → All (IsFitLeg st.maxes) legs → (pk y : List ℕ) (t : ℕ) → IsPacket st pk →
+      Sends st d pk y t ↔ (((t ≡ 0) × Gives free pk [] y) ⊎ LegsGive legs pk y t)
 
 -- the diagrams of the parts behind labels, in order
 abbrev pub AreOfParts : Held → List ℕ → List (ℕ × Part) → Type 0
 AreOfParts st [] [] = Unit {0}
 AreOfParts st [] (e ∷ es) = ⊥
 AreOfParts st (d ∷ ds) [] = ⊥
-AreOfParts st (d ∷ ds) (e ∷ es) = IsOfPart st d (tree_of e.1.free) e.1.rows × AreOfParts st ds es
+AreOfParts st (d ∷ ds) (e ∷ es) = IsOfPart st d (tree_of e.1.free) e.1.legs × AreOfParts st ds es
 
 -- the parts are those of the policy: what is answered for it by `nk_deriv::derivatives::parts`
 pub record AreParts (parts : Parts) (p : Policy) : Type 0 where

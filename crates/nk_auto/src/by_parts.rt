@@ -21,54 +21,54 @@ use std::alloc::AllocError;
 /// error is that memory ran out.
 pub fn automaton(st: &mut Store, parts: &Parts) -> Result<List<Id>, AllocError>
     ensures grows { Grows st.old st.new }
-    ensures ok { IfOk result (λ rows. (p : Policy) (first : ℕ) → AreParts parts.now p → IsDrawable st.old p first →
-        IsAutomaton st.new rows first p) }
-    ensures ids { IfOk result (λ rows. AreIds st.new rows) }
+    ensures ok { IfOk result (λ states. (p : Policy) (first : ℕ) → AreParts parts.now p → IsDrawable st.old p first →
+        IsAutomaton st.new states first p) }
+    ensures ids { IfOk result (λ states. AreIds st.new states) }
 {
-    let mut rows = List::new(st.alloc());
+    let mut states = List::new(st.alloc());
     let start = state_of_part(st, &parts.first)?;
-    rows.push(start)?;
-    push_states(st, parts.after.as_slice(), &mut rows)?;
-    Ok(rows)
+    states.push(start)?;
+    push_states(st, parts.after.as_slice(), &mut states)?;
+    Ok(states)
 }
 
 /// Puts the diagrams of the parts at the end.
 fn push_states(
     st: &mut Store,
     entries: &[(u32, Part)],
-    rows: &mut List<Id>,
+    states: &mut List<Id>,
 ) -> Result<(), AllocError>
     ensures grows { Grows st.old st.new }
-    ensures states { OnOk result ((made : Items ℕ) × (rows.new ≡ rows.old ++ made) × AreOfParts st.new made entries.now) }
+    ensures pushed { OnOk result ((made : Items ℕ) × (states.new ≡ states.old ++ made) × AreOfParts st.new made entries.now) }
 {
     for entry in entries {
         let d = state_of_part(st, &entry.1)?;
-        rows.push(d)?;
+        states.push(d)?;
     }
     Ok(())
 }
 
-/// The diagram of a part: its free policy, and each row to the row's label.
+/// The diagram of a part: its free policy, and each leg to the leg's label.
 fn state_of_part(st: &mut Store, part: &Part) -> Result<Id, AllocError>
     ensures grows { Grows st.old st.new }
-    ensures ok { IfOk result (λ d. IsOfPart st.new d (tree_of part.now.free) part.now.rows) }
+    ensures ok { IfOk result (λ d. IsOfPart st.new d (tree_of part.now.free) part.now.legs) }
 {
     let free = silent(st, &part.free)?;
-    with_rows(st, free, &part.free, part.rows.as_slice())
+    with_legs(st, free, &part.free, part.legs.as_slice())
 }
 
-/// The diagram of a free policy, with those of the rows.
-fn with_rows(st: &mut Store, drawn: Id, free: &Pol, rows: &[(Pol, u32)]) -> Result<Id, AllocError>
+/// The diagram of a free policy, with those of the legs.
+fn with_legs(st: &mut Store, drawn: Id, free: &Pol, legs: &[(Pol, u32)]) -> Result<Id, AllocError>
     requires { IsAimed st.old drawn (tree_of free.now) 0 }
     ensures grows { Grows st.old st.new }
-    ensures ok { IfOk result (λ d. IsOfPart st.new d (tree_of free.now) rows.now) }
+    ensures ok { IfOk result (λ d. IsOfPart st.new d (tree_of free.now) legs.now) }
 {
     let mut d = drawn;
-    let mut i = rows.len();
+    let mut i = legs.len();
     while i > 0 {
         i -= 1;
-        let row = &rows[i];
-        let records = aimed_at(st, &row.0, u64::from(row.1))?;
+        let leg = &legs[i];
+        let records = aimed_at(st, &leg.0, u64::from(leg.1))?;
         d = union(st, records, d)?;
     }
     Ok(d)

@@ -5,13 +5,13 @@
 mod by_parts;
 mod going_on;
 mod one_field;
-mod rows;
 mod silence;
 mod states;
 mod values;
+mod with_states;
 
 pub use by_parts::automaton;
 pub use going_on::continued;
-pub use rows::continued_with_rows;
 pub use silence::silent;
 pub use states::policy_automaton;
+pub use with_states::continued_with_states;

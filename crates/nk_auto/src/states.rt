@@ -6,7 +6,7 @@ ghost use Rattle.nk_store.specs.Held.{Grows};
 ghost use Rattle.nk_auto.specs.Continued.{IsFit};
 ghost use Rattle.nk_auto.specs.Automaton.{IsAutomaton};
 
-use crate::rows::continued_with_rows;
+use crate::with_states::continued_with_states;
 use nk_algebra::identity;
 use nk_field::List;
 use nk_policy::{Pol, dups};
@@ -21,23 +21,23 @@ pub fn policy_automaton(st: &mut Store, p: &Pol, first: u32) -> Result<List<Id>,
     requires numbered { marked_from (tree_of p.now) first ≡ tree_of p.now }
     requires few { first + dups_of (tree_of p.now) ≤ 2 ^ 32 }
     ensures grows { Grows st.old st.new }
-    ensures ok { IfOk result (λ rows. IsFit st.old.maxes (tree_of p.now) → IsAutomaton st.new rows first (tree_of p.now)) }
+    ensures ok { IfOk result (λ states. IsFit st.old.maxes (tree_of p.now) → IsAutomaton st.new states first (tree_of p.now)) }
 {
     let count = dups(p) as usize;
     let end = identity(st)?;
-    let mut rows = repeated(st.alloc(), end, count + 1)?;
-    let start = continued_with_rows(st, p, end, first - 1, &mut rows)?;
-    rows.put(0, start);
-    Ok(rows)
+    let mut states = repeated(st.alloc(), end, count + 1)?;
+    let start = continued_with_states(st, p, end, first - 1, &mut states)?;
+    states.put(0, start);
+    Ok(states)
 }
 
 /// A list of so many times the diagram.
 fn repeated(alloc: Global, d: Id, count: usize) -> Result<List<Id>, AllocError>
-    ensures { IfOk result (λ rows. length rows ≡ count) }
+    ensures { IfOk result (λ states. length states ≡ count) }
 {
-    let mut rows = List::new(alloc);
+    let mut states = List::new(alloc);
     for i in 0..count {
-        rows.push(d)?;
+        states.push(d)?;
     }
-    Ok(rows)
+    Ok(states)
 }

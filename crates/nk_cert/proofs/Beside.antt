@@ -1,4 +1,4 @@
--- The rows of the automaton of two policies are put together of theirs.
+-- The states of the automaton of two policies are put together of theirs.
 use Rattle.std.proofs.Common.{◌≡◌, ℕ, suc, ◌+◌, ◌<◌, inl, inr, ⊎_elim, List, [], ◌∷◌, ◌++◌, length, length-append, refl, sym, ap, subst, ◌∙◌, arith, drop, get_or}
 use Rattle.std.specs.Prelude.{slice_index, slice_set}
 use Rattle.std.proofs.lemmas.List.{get_or_append_left}
@@ -21,12 +21,12 @@ behind_list (x ∷ xs) ys i =
     let e : length (x ∷ xs) + i ≡ suc (length xs + i) = omega arith in
     ap (λ k. get_or (x ∷ (xs ++ ys)) k 0) e ∙ behind_list xs ys i
 
--- the rows behind the start
-joined_rows : (of_left of_right : List ℕ) (start : ℕ) (p q : Policy) → length of_left ≡ 1 + dups_of p → length of_right ≡ 1 + dups_of q
+-- the states behind the start
+joined_states : (of_left of_right : List ℕ) (start : ℕ) (p q : Policy) → length of_left ≡ 1 + dups_of p → length of_right ≡ 1 + dups_of q
     → AreJoined of_left of_right (slice_set of_left 0 start ++ drop 1 of_right) p q
-joined_rows [] of_right start p q e f = absurd (omega (arith, e))
-joined_rows (x ∷ ls) [] start p q e f = absurd (omega (arith, f))
-joined_rows (x ∷ ls) (y ∷ rs) start p q e f = record {
+joined_states [] of_right start p q e f = absurd (omega (arith, e))
+joined_states (x ∷ ls) [] start p q e f = absurd (omega (arith, f))
+joined_states (x ∷ ls) (y ∷ rs) start p q e f = record {
   count = omega (arith, e, f, length-append ls rs);
   left = λ i lt.
       let is : 1 + i ≡ suc i = omega arith in
@@ -39,26 +39,26 @@ joined_rows (x ∷ ls) (y ∷ rs) start p q e f = record {
 }
 
 -- and the start
-first_row : (of_left more : List ℕ) (start : ℕ) → 0 < length of_left → slice_index (slice_set of_left 0 start ++ more) 0 ≡ start
-first_row [] more start lt = absurd (omega (arith, lt))
-first_row (x ∷ ls) more start lt = refl
+first_state : (of_left more : List ℕ) (start : ℕ) → 0 < length of_left → slice_index (slice_set of_left 0 start ++ more) 0 ≡ start
+first_state [] more start lt = absurd (omega (arith, lt))
+first_state (x ∷ ls) more start lt = refl
 
--- the rows that are put together are the automaton of both
-pub both_are : (fields : FieldTable) (first second third : Held) (of_left of_right rows : List ℕ) (left right start : ℕ) (p q : Policy)
+-- the states that are put together are the automaton of both
+pub both_are : (fields : FieldTable) (first second third : Held) (of_left of_right states : List ℕ) (left right start : ℕ) (p q : Policy)
     → IsOver fields third → AreTidy third → AreNumbered p q
     → IsAutomaton first of_left 1 p → Grows first second → IsAutomaton second of_right (1 + dups_of p) q → Grows second third
     → left ≡ slice_index of_left 0 → right ≡ slice_index of_right 0
     → HasLeaves third start (λ pk. merged (look second left pk) (look second right pk))
-    → rows ≡ slice_set of_left 0 start ++ drop 1 of_right
-    → IsAutomatonOfBoth fields third rows left right p q
-both_are fields first second third of_left of_right rows left right start p q over tidy numbered al begun ar grown left_is right_is leaves rows_are = record {
+    → states ≡ slice_set of_left 0 start ++ drop 1 of_right
+    → IsAutomatonOfBoth fields third states left right p q
+both_are fields first second third of_left of_right states left right start p q over tidy numbered al begun ar grown left_is right_is leaves states_are = record {
   over = over;
   tidy = tidy;
   numbered = numbered;
-  rows_are = subst (λ r. IsAutomaton third r 1 (either_of p q)) (sym rows_are)
+  states_are = subst (λ r. IsAutomaton third r 1 (either_of p q)) (sym states_are)
       (joined_automaton third of_left of_right made p q numbered in_left in_right
-      (subst (λ d. IsState third d (either_of p q)) (sym (first_row of_left (drop 1 of_right) start some)) of_both)
-      (joined_rows of_left of_right start p q al.count ar.count));
+      (subst (λ d. IsState third d (either_of p q)) (sym (first_state of_left (drop 1 of_right) start some)) of_both)
+      (joined_states of_left of_right start p q al.count ar.count));
   left_start = of_left_start;
   right_start = of_right_start;
 }

@@ -33,58 +33,58 @@ positions_either p q pk (y ∷ u) s h =
     exact_for (IsAt (either_of p q) pk (y ∷ u)) (IsAtEither p q pk (y ∷ u)) s (either_at p q pk (y ∷ u)) h
 
 -- the set where a history's records end
-record IsEnd (st : Held) (rows : List ℕ) (p q : Policy) (f : Found) (n : Node) : Type 0 where
+record IsEnd (st : Held) (states : List ℕ) (p q : Policy) (f : Found) (n : Node) : Type 0 where
   exactly : HasExactly (IsPositionOfEither p q f.start f.records) n.0
   last : n.1 ≡ last_from f.start f.records
   range : IsPacket st n.1
-  places : HavePlaces (length rows) n.0
+  places : HavePlaces (length states) n.0
 
-module _ (fields : FieldTable) (st : Held) (rows : List ℕ) (left right : ℕ) (p q : Policy) (a : IsAutomatonOfBoth fields st rows left right p q) where
+module _ (fields : FieldTable) (st : Held) (states : List ℕ) (left right : ℕ) (p q : Policy) (a : IsAutomatonOfBoth fields st states left right p q) where
   sides : AreSides p q
   sides = sides_of p q a.numbered
 
   distinct : HasDistinct (either_of p q)
   distinct = either_distinct p q sides
 
-  end_is : (f : Found) (n : Node) → IsPacket st f.start → Walks (IsStep st rows) (0 ∷ [], f.start) f.records n → IsEnd st rows p q f n
+  end_is : (f : Found) (n : Node) → IsPacket st f.start → Walks (IsStep st states) (0 ∷ [], f.start) f.records n → IsEnd st states p q f n
   end_is f n r w =
-      let m = (walks_met st rows (either_of p q) a.rows_are distinct a.tidy f.start f.records n r).0 w in
+      let m = (walks_met st states (either_of p q) a.states_are distinct a.tidy f.start f.records n r).0 w in
       record {
         exactly = positions_either p q f.start f.records n.0 m.0.1;
         last = m.1;
-        range = walk_in_range st rows f.records (0 ∷ [], f.start) n r w;
-        places = walk_places st rows (either_of p q) a.rows_are distinct a.tidy f.start f.records n m;
+        range = walk_in_range st states f.records (0 ∷ [], f.start) n r w;
+        places = walk_places st states (either_of p q) a.states_are distinct a.tidy f.start f.records n m;
       }
 
   -- a side has the history exactly where it ends there
-  left_end : (f : Found) (n : Node) → IsEnd st rows p q f n
-      → Gives p f.start f.records f.last ↔ EndsAt st rows left (1 + dups_of p) 1 n.0 n.1 f.last
+  left_end : (f : Found) (n : Node) → IsEnd st states p q f n
+      → Gives p f.start f.records f.last ↔ EndsAt st states left (1 + dups_of p) 1 n.0 n.1 f.last
   left_end f n e =
-      let at = left_ends_at fields st rows left right p q a f.start f.records n.0 n.1 e.exactly e.range f.last in
+      let at = left_ends_at fields st states left right p q a f.start f.records n.0 n.1 e.exactly e.range f.last in
       let g = left_gives p q sides f.start f.records f.last n.0 e.exactly in (
         λ h. at.1 (subst (λ x. EndsWithin p n.0 x f.last) (sym e.last) (g.0 h)),
         λ h. g.1 (subst (λ x. EndsWithin p n.0 x f.last) e.last (at.0 h)),
       )
 
-  right_end : (f : Found) (n : Node) → IsEnd st rows p q f n
-      → Gives q f.start f.records f.last ↔ EndsAt st rows right (1 + dups_of p) 2 n.0 n.1 f.last
+  right_end : (f : Found) (n : Node) → IsEnd st states p q f n
+      → Gives q f.start f.records f.last ↔ EndsAt st states right (1 + dups_of p) 2 n.0 n.1 f.last
   right_end f n e =
-      let at = right_ends_at fields st rows left right p q a f.start f.records n.0 n.1 e.exactly e.range f.last in
+      let at = right_ends_at fields st states left right p q a f.start f.records n.0 n.1 e.exactly e.range f.last in
       let g = right_gives p q sides f.start f.records f.last n.0 e.exactly in (
         λ h. at.1 (subst (λ x. EndsWithin q n.0 x f.last) (sym e.last) (g.0 h)),
         λ h. g.1 (subst (λ x. EndsWithin q n.0 x f.last) e.last (at.0 h)),
       )
 
-  module _ (bad : List ℕ → List ℕ → List Out) (goal : IsOneSided st rows left right (1 + dups_of p) bad) (start : ℕ) where
+  module _ (bad : List ℕ → List ℕ → List Out) (goal : IsOneSided st states left right (1 + dups_of p) bad) (start : ℕ) where
     -- with target 0 the left policy's histories alone
-    pub left_breaks : (f : Found) → IsBreak st rows (0 ∷ []) start bad 0 f ↔ IsAloneFrom (IsAmong st start) p q f
+    pub left_breaks : (f : Found) → IsBreak st states (0 ∷ []) start bad 0 f ↔ IsAloneFrom (IsAmong st start) p q f
     left_breaks f = (
       λ b.
           let e = end_is f b.end b.starts.packet b.walk in
           let w = ((goal.sides b.end.0 b.end.1 e.places e.range).left_alone f.last).0 b.makes in
           ((b.starts.packet, b.starts.has), (left_end f b.end e).1 w.0, λ h. w.1 ((right_end f b.end e).0 h)),
       λ h.
-          let w = given_walked st rows (either_of p q) a.rows_are distinct a.tidy f.start f.records f.last h.0.0 (inl h.1) in
+          let w = given_walked st states (either_of p q) a.states_are distinct a.tidy f.start f.records f.last h.0.0 (inl h.1) in
           let e = end_is f w.0 h.0.0 w.1 in
           record {
             starts = record { set_is = refl; packet = h.0.0; has = h.0.1 };
@@ -97,14 +97,14 @@ module _ (fields : FieldTable) (st : Held) (rows : List ℕ) (left right : ℕ) 
     )
 
     -- with target 1 the right policy's
-    pub right_breaks : (f : Found) → IsBreak st rows (0 ∷ []) start bad 1 f ↔ IsAloneFrom (IsAmong st start) q p f
+    pub right_breaks : (f : Found) → IsBreak st states (0 ∷ []) start bad 1 f ↔ IsAloneFrom (IsAmong st start) q p f
     right_breaks f = (
       λ b.
           let e = end_is f b.end b.starts.packet b.walk in
           let w = ((goal.sides b.end.0 b.end.1 e.places e.range).right_alone f.last).0 b.makes in
           ((b.starts.packet, b.starts.has), (right_end f b.end e).1 w.0, λ h. w.1 ((left_end f b.end e).0 h)),
       λ h.
-          let w = given_walked st rows (either_of p q) a.rows_are distinct a.tidy f.start f.records f.last h.0.0 (inr (inl h.1)) in
+          let w = given_walked st states (either_of p q) a.states_are distinct a.tidy f.start f.records f.last h.0.0 (inr (inl h.1)) in
           let e = end_is f w.0 h.0.0 w.1 in
           record {
             starts = record { set_is = refl; packet = h.0.0; has = h.0.1 };
@@ -117,32 +117,32 @@ module _ (fields : FieldTable) (st : Held) (rows : List ℕ) (left right : ℕ) 
     )
 
     -- and there is no other target
-    pub no_other_breaks : (t : ℕ) (f : Found) → IsBreak st rows (0 ∷ []) start bad t f → (t ≡ 0) ⊎ (t ≡ 1)
+    pub no_other_breaks : (t : ℕ) (f : Found) → IsBreak st states (0 ∷ []) start bad t f → (t ≡ 0) ⊎ (t ≡ 1)
     no_other_breaks t f b = goal.targets b.end.0 b.end.1 (record { act = b.makes.0; target = t }) b.makes.1
 
     module _ (each : HasEach st start) where
       -- from all packets
-      of_side : (side : Side) (f : Found) → IsBreak st rows (0 ∷ []) start bad (target_of side) f → IsOfOneAlone fields p q side f
+      of_side : (side : Side) (f : Found) → IsBreak st states (0 ∷ []) start bad (target_of side) f → IsOfOneAlone fields p q side f
       of_side on_left f b =
           let h = (left_breaks f).0 b in (packet_of_fields fields st f.start a.over h.0.0, h.1, h.2)
       of_side on_right f b =
           let h = (right_breaks f).0 b in (packet_of_fields fields st f.start a.over h.0.0, h.1, h.2)
 
-      breaks_by : (side : Side) (f : Found) → IsOfOneAlone fields p q side f → Breaks st rows (0 ∷ []) start bad f
+      breaks_by : (side : Side) (f : Found) → IsOfOneAlone fields p q side f → Breaks st states (0 ∷ []) start bad f
       breaks_by on_left f h =
           let r = packet_in_range fields st f.start a.over h.0 in (0, (left_breaks f).1 ((r, each f.start r), h.1, h.2))
       breaks_by on_right f h =
           let r = packet_in_range fields st f.start a.over h.0 in (1, (right_breaks f).1 ((r, each f.start r), h.1, h.2))
 
-      some_side : (f : Found) → Breaks st rows (0 ∷ []) start bad f → (side : Side) × IsOfOneAlone fields p q side f
+      some_side : (f : Found) → Breaks st states (0 ∷ []) start bad f → (side : Side) × IsOfOneAlone fields p q side f
       some_side f b =
           ⊎_elim
-          (λ e. (on_left, of_side on_left f (subst (λ t. IsBreak st rows (0 ∷ []) start bad t f) e b.1)))
-          (λ e. (on_right, of_side on_right f (subst (λ t. IsBreak st rows (0 ∷ []) start bad t f) e b.1)))
+          (λ e. (on_left, of_side on_left f (subst (λ t. IsBreak st states (0 ∷ []) start bad t f) e b.1)))
+          (λ e. (on_right, of_side on_right f (subst (λ t. IsBreak st states (0 ∷ []) start bad t f) e b.1)))
           (no_other_breaks b.0 f b.1)
 
       -- so the least that breaks is the least difference
-      pub least_difference : (side : Side) (f : Found) → IsBreak st rows (0 ∷ []) start bad (target_of side) f
-          → IsLeast (λ g. Breaks st rows (0 ∷ []) start bad g) f → IsLeastDifference fields p q side f
+      pub least_difference : (side : Side) (f : Found) → IsBreak st states (0 ∷ []) start bad (target_of side) f
+          → IsLeast (λ g. Breaks st states (0 ∷ []) start bad g) f → IsLeastDifference fields p q side f
       least_difference side f b least =
           (of_side side f b, (some_side f least.0, λ g h. least.1 g (breaks_by h.0 g h.1)))

@@ -13,14 +13,14 @@ use Rattle.nk_store.specs.Held.{Held, Grows, AreTidy}
 use Rattle.nk_store.proofs.Stores.{grows_on}
 use Rattle.nk_sets.specs.PacketSets.{is_in}
 use Rattle.nk_determ.specs.Sets.{Differ}
-use Rattle.nk_reach.specs.Pairs.{AreRows, EachPair, IsPair}
+use Rattle.nk_reach.specs.Pairs.{AreStates, EachPair, IsPair}
 use Rattle.nk_reach.specs.Rounds.{HaveSets}
 use Rattle.nk_reach.specs.Levels.{AreLevels}
 use Rattle.nk_reach.specs.Sides.{alone, ends_of}
 use Rattle.nk_reach.specs.Breaks.{IsBreak, Breaks}
-use Rattle.nk_reach.proofs.Growing.{rows_grow}
+use Rattle.nk_reach.proofs.Growing.{states_grow}
 use Rattle.nk_reach.proofs.Kept.{has_on}
-use Rattle.nk_runs.proofs.Stands.{packet_back, are_rows}
+use Rattle.nk_runs.proofs.Stands.{packet_back, are_states}
 use Rattle.nk_reach.specs.Finds.{first_set, first_packets, found_of}
 use Rattle.nk_reach.specs.Finds.{target_of as witness_target}
 use Rattle.nk_reach.specs.declared.found.Side.{Side}
@@ -38,7 +38,7 @@ use Rattle.nk_cert.proofs.FromLevels.{is_printed}
 use Rattle.nk_cert.proofs.Printing.{is_certificate}
 use Rattle.nk_cert.proofs.Together.{sides_of}
 use Rattle.nk_cert.proofs.Levels.{same_by_levels}
-use Rattle.nk_cert.proofs.Rows.{both_stand}
+use Rattle.nk_cert.proofs.CertRows.{both_stand}
 use Rattle.nk_cert.proofs.Sided.{levels_of_policies, goal_now}
 use Rattle.nk_cert.proofs.Breaking.{least_difference}
 use Rattle.nk_cert.specs.Comparison.{whose, IsRelated, IsComparison}
@@ -50,17 +50,17 @@ same_target : (side : Side) → witness_target side ≡ target_of (whose side)
 same_target Left = refl
 same_target Right = refl
 
--- entries over rows have sets of packets
-pub packets_are_sets : (st : Held) (ss : List (List ℕ)) (rows : ℕ) (ps : List (ℕ × ℕ)) → EachPair (IsPair st ss rows) ps → HaveSets st ps
-packets_are_sets st ss rows [] h = tt
-packets_are_sets st ss rows (p ∷ ps) h = (h.0.packets, packets_are_sets st ss rows ps h.1)
+-- entries over states have sets of packets
+pub packets_are_sets : (st : Held) (ss : List (List ℕ)) (states : ℕ) (ps : List (ℕ × ℕ)) → EachPair (IsPair st ss states) ps → HaveSets st ps
+packets_are_sets st ss states [] h = tt
+packets_are_sets st ss states (p ∷ ps) h = (h.0.packets, packets_are_sets st ss states ps h.1)
 
 -- what the goal finds bad in a store
 abbrev pub bad_in : Held → List ℕ → List ℕ → List ℕ → List Out
 bad_in st ends set pk = alone (ends_of st ends set pk)
 
-module _ (first : Held) (rows : List ℕ) (left right bound : ℕ) (new : Held) (ss : List (List ℕ)) (ends : List ℕ) (ls : List (List (ℕ × ℕ))) (broken : Bool) (rows_are : AreRows first rows)
-    (lv : AreSideLevels first rows left right bound new ss ends ls broken) where
+module _ (first : Held) (states : List ℕ) (left right bound : ℕ) (new : Held) (ss : List (List ℕ)) (ends : List ℕ) (ls : List (List (ℕ × ℕ))) (broken : Bool) (states_are : AreStates first states)
+    (lv : AreSideLevels first states left right bound new ss ends ls broken) where
   -- the levels begin with the start at all packets
   set_first : first_set ls ≡ lv.set
   set_first = ap (λ (v : List (ℕ × ℕ)). (get_or v 0 (0, 0)).0) lv.levels.start_is
@@ -77,25 +77,25 @@ module _ (first : Held) (rows : List ℕ) (left right bound : ℕ) (new : Held) 
       (has_on lv.old new lv.start pk lv.grown lv.start_id (lv.start_is pk (packet_back lv.old new pk lv.grown r)))
 
   -- they are levels of the store as it is now
-  pub levels_here : AreLevels new new ss rows (first_set ls) (first_packets ls) (λ set pk. bad_in new ends set pk) ls broken
+  pub levels_here : AreLevels new new ss states (first_set ls) (first_packets ls) (λ set pk. bad_in new ends set pk) ls broken
   levels_here =
-      let begun = rows_grow first lv.old rows lv.begun rows_are in
-      let made : AreLevels new new ss rows lv.set lv.start (λ set pk. bad_in new ends set pk) ls broken =
-      levels_now lv.old new ss rows lv.set lv.start lv.bad (λ set pk. bad_in new ends set pk) ls broken lv.grown begun lv.start_id (λ n places. lv.read n.0 n.1 places) lv.levels in
-      subst (λ (v : ℕ). AreLevels new new ss rows v (first_packets ls) (λ set pk. bad_in new ends set pk) ls broken) (sym set_first)
-      (subst (λ (v : ℕ). AreLevels new new ss rows lv.set v (λ set pk. bad_in new ends set pk) ls broken) (sym packets_first) made)
+      let begun = states_grow first lv.old states lv.begun states_are in
+      let made : AreLevels new new ss states lv.set lv.start (λ set pk. bad_in new ends set pk) ls broken =
+      levels_now lv.old new ss states lv.set lv.start lv.bad (λ set pk. bad_in new ends set pk) ls broken lv.grown begun lv.start_id (λ n places. lv.read n.0 n.1 places) lv.levels in
+      subst (λ (v : ℕ). AreLevels new new ss states v (first_packets ls) (λ set pk. bad_in new ends set pk) ls broken) (sym set_first)
+      (subst (λ (v : ℕ). AreLevels new new ss states lv.set v (λ set pk. bad_in new ends set pk) ls broken) (sym packets_first) made)
 
-module _ (fields : FieldTable) (first : Held) (rows : List ℕ) (left right bound : ℕ) (p q : Policy) (a : IsAutomatonOfBoth fields first rows left right p q) (is : bound ≡ 1 + dups_of p)
-    (new : Held) (ss : List (List ℕ)) (ends : List ℕ) (ls : List (List (ℕ × ℕ))) (broken : Bool) (lv : AreSideLevels first rows left right bound new ss ends ls broken) where
+module _ (fields : FieldTable) (first : Held) (states : List ℕ) (left right bound : ℕ) (p q : Policy) (a : IsAutomatonOfBoth fields first states left right p q) (is : bound ≡ 1 + dups_of p)
+    (new : Held) (ss : List (List ℕ)) (ends : List ℕ) (ls : List (List (ℕ × ℕ))) (broken : Bool) (lv : AreSideLevels first states left right bound new ss ends ls broken) where
   -- without an end of one side alone both do the same, and what is made of the levels is the printed certificate
   pub related_is :
       broken ≡ false → Differ ss → IsInRange p fields → IsInRange q fields → (final : Held) → Grows new final
       → (c : CertificateValue) → IsCertificateOf new final ss ls c → IsRelated fields p q c
   related_is e differ rp rq final grew c made =
-      let levels = levels_of_policies fields first rows left right bound p q a is new ss ends ls broken lv in
-      let both = subst (λ b. AreLevelsOfBoth fields p q rows left right first lv.old new ss lv.set lv.start lv.bad ls b) e levels in
-      let same : AreSame fields p q = same_by_levels fields p q rows left right first lv.old new ss lv.set lv.start lv.bad ls false both both.levels in
-      let printed : IsPrinted fields p q c = is_printed fields p q rows left right first lv.old new final ss lv.set lv.start lv.bad ls both differ lv.grown grew c made in
+      let levels = levels_of_policies fields first states left right bound p q a is new ss ends ls broken lv in
+      let both = subst (λ b. AreLevelsOfBoth fields p q states left right first lv.old new ss lv.set lv.start lv.bad ls b) e levels in
+      let same : AreSame fields p q = same_by_levels fields p q states left right first lv.old new ss lv.set lv.start lv.bad ls false both both.levels in
+      let printed : IsPrinted fields p q c = is_printed fields p q states left right first lv.old new final ss lv.set lv.start lv.bad ls both differ lv.grown grew c made in
       let shows : IsCertificate fields p q c = is_certificate fields p q (sides_of p q a.numbered) rp rq same c printed in
       record {
         same = same;
@@ -105,34 +105,34 @@ module _ (fields : FieldTable) (first : Held) (rows : List ℕ) (left right boun
 
   -- and what is least of all that break the goal is the least difference
   pub difference_is : AreTidy new → (side : Side) (f : Found)
-      → IsBreak new rows (slice_index_or ss (first_set ls) []) (first_packets ls) (λ set pk. bad_in new ends set pk) (witness_target side) f
-      → IsLeast (λ g. Breaks new rows (slice_index_or ss (first_set ls) []) (first_packets ls) (λ set pk. bad_in new ends set pk) g) f
+      → IsBreak new states (slice_index_or ss (first_set ls) []) (first_packets ls) (λ set pk. bad_in new ends set pk) (witness_target side) f
+      → IsLeast (λ g. Breaks new states (slice_index_or ss (first_set ls) []) (first_packets ls) (λ set pk. bad_in new ends set pk) g) f
       → IsLeastDifference fields p q (whose side) f
   difference_is tidy side f breaks least =
-      let rows_are = are_rows first rows (either_of p q) a.rows_are in
-      let alone_set = start_alone first rows left right bound new ss ends ls broken rows_are lv in
-      let here = both_stand fields first new rows left right p q a (grows_on first lv.old new lv.begun lv.grown) tidy in
-      least_difference fields new rows left right p q here (λ set pk. bad_in new ends set pk)
-      (goal_now fields first rows left right bound p q a is new ss ends ls broken lv) (first_packets ls)
-      (each_first first rows left right bound new ss ends ls broken rows_are lv) (whose side) f
-      (subst (λ t. IsBreak new rows (0 ∷ []) (first_packets ls) (λ set pk. bad_in new ends set pk) t f) (same_target side)
-      (subst (λ s. IsBreak new rows s (first_packets ls) (λ set pk. bad_in new ends set pk) (witness_target side) f) alone_set breaks))
-      (subst (λ s. IsLeast (λ g. Breaks new rows s (first_packets ls) (λ set pk. bad_in new ends set pk) g) f) alone_set least)
+      let states_are = are_states first states (either_of p q) a.states_are in
+      let alone_set = start_alone first states left right bound new ss ends ls broken states_are lv in
+      let here = both_stand fields first new states left right p q a (grows_on first lv.old new lv.begun lv.grown) tidy in
+      least_difference fields new states left right p q here (λ set pk. bad_in new ends set pk)
+      (goal_now fields first states left right bound p q a is new ss ends ls broken lv) (first_packets ls)
+      (each_first first states left right bound new ss ends ls broken states_are lv) (whose side) f
+      (subst (λ t. IsBreak new states (0 ∷ []) (first_packets ls) (λ set pk. bad_in new ends set pk) t f) (same_target side)
+      (subst (λ s. IsBreak new states s (first_packets ls) (λ set pk. bad_in new ends set pk) (witness_target side) f) alone_set breaks))
+      (subst (λ s. IsLeast (λ g. Breaks new states s (first_packets ls) (λ set pk. bad_in new ends set pk) g) f) alone_set least)
 
--- the same where the rows are given as a slice
-module _ (new : Held) (ss : List (List ℕ)) (ends : List ℕ) (ls : List (List (ℕ × ℕ))) (slice rows : List ℕ) (same : slice ≡ rows) where
-  pub levels_at : (broken : Bool) → AreLevels new new ss rows (first_set ls) (first_packets ls) (λ set pk. bad_in new ends set pk) ls broken
+-- the same where the states are given as a slice
+module _ (new : Held) (ss : List (List ℕ)) (ends : List ℕ) (ls : List (List (ℕ × ℕ))) (slice states : List ℕ) (same : slice ≡ states) where
+  pub levels_at : (broken : Bool) → AreLevels new new ss states (first_set ls) (first_packets ls) (λ set pk. bad_in new ends set pk) ls broken
       → AreLevels new new ss slice (first_set ls) (first_packets ls) (λ set pk. bad_in new ends set pk) ls broken
   levels_at broken h =
       subst (λ r. AreLevels new new ss r (first_set ls) (first_packets ls) (λ set pk. bad_in new ends set pk) ls broken) (sym same) h
 
   pub break_at : (t : ℕ) (f : Found) → IsBreak new slice (slice_index_or ss (first_set ls) []) (first_packets ls) (λ set pk. bad_in new ends set pk) t f
-      → IsBreak new rows (slice_index_or ss (first_set ls) []) (first_packets ls) (λ set pk. bad_in new ends set pk) t f
+      → IsBreak new states (slice_index_or ss (first_set ls) []) (first_packets ls) (λ set pk. bad_in new ends set pk) t f
   break_at t f h =
       subst (λ r. IsBreak new r (slice_index_or ss (first_set ls) []) (first_packets ls) (λ set pk. bad_in new ends set pk) t f) same h
 
   pub least_at : (f : Found) → IsLeast (λ g. Breaks new slice (slice_index_or ss (first_set ls) []) (first_packets ls) (λ set pk. bad_in new ends set pk) g) f
-      → IsLeast (λ g. Breaks new rows (slice_index_or ss (first_set ls) []) (first_packets ls) (λ set pk. bad_in new ends set pk) g) f
+      → IsLeast (λ g. Breaks new states (slice_index_or ss (first_set ls) []) (first_packets ls) (λ set pk. bad_in new ends set pk) g) f
   least_at f h =
       subst (λ r. IsLeast (λ g. Breaks new r (slice_index_or ss (first_set ls) []) (first_packets ls) (λ set pk. bad_in new ends set pk) g) f) same h
 

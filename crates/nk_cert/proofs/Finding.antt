@@ -16,11 +16,11 @@ use Rattle.nk_reach.specs.Goals.{PairBad, PairNone}
 use Rattle.nk_reach.proofs.Kept.{under_at, entry_of, get_or_same}
 use Rattle.nk_reach.proofs.Growing.{place_of, step_places}
 use Rattle.nk_reach.proofs.Rising.{rising_one}
-use Rattle.nk_runs.proofs.Stands.{are_rows}
-use Rattle.nk_cert.specs.declared.shape.CertPart.{CertPart}
-use Rattle.nk_cert.specs.declared.shape.CertPart.TheVariants.{Position, Start, Finals, Hop}
-use Rattle.nk_cert.specs.declared.shape.Verdict.{Verdict}
-use Rattle.nk_cert.specs.declared.shape.Verdict.TheVariants.{Valid, Invalid}
+use Rattle.nk_runs.proofs.Stands.{are_states}
+use Rattle.nk_cert.specs.declared.certificate.CertPart.{CertPart}
+use Rattle.nk_cert.specs.declared.certificate.CertPart.TheVariants.{Position, Start, Finals, Hop}
+use Rattle.nk_cert.specs.declared.certificate.Verdict.{Verdict}
+use Rattle.nk_cert.specs.declared.certificate.Verdict.TheVariants.{Valid, Invalid}
 use Rattle.nk_cert.specs.Together.{either_of}
 use Rattle.nk_cert.specs.Certificates.{at_start, behind, RowValue, CertificateValue, CertRow, later_row, rows_of, Holds, IsPlaceOf, HasAll, MeetsPosition, MeetsStart, MeetsFinals, MeetsHop, MeetsAll}
 use Rattle.nk_cert.specs.Verdicts.{FailsIn, FailsFirst, IsFinding}
@@ -28,7 +28,7 @@ use Rattle.nk_cert.specs.Levelled.{IsAutomatonOfBoth, IsOneSided, HasEach}
 use Rattle.nk_cert.specs.Checked.{labels_at, IsSetAt, HasNoBad, StepsLeadToRows}
 use Rattle.nk_cert.specs.Values.{part_of, finding_of}
 use Rattle.nk_cert.specs.Judged.{AreLabels, IsStartEntryOf, AreEntriesOf, AreTold, row_at, entry_at, StepsStay, SomeStepLeaves, IsRowJudged, IsStartJudged, IsLaterFailure, IsJudged}
-use Rattle.nk_cert.proofs.Rows.{position_is, finals_is, hop_is}
+use Rattle.nk_cert.proofs.CertRows.{position_is, finals_is, hop_is}
 use Rattle.nk_cert.proofs.Findings.{each_decided}
 
 -- a later row of a certificate
@@ -87,34 +87,34 @@ count_before rows zero lt = refl
 count_before [] (suc k) lt = absurd (omega (arith, lt))
 count_before (r ∷ rs) (suc k) lt = ap suc (count_before rs k (omega (arith, lt)))
 
-module _ (fields : FieldTable) (st : Held) (rows : List ℕ) (left right : ℕ) (p q : Policy) (a : IsAutomatonOfBoth fields st rows left right p q) (bad : List ℕ → List ℕ → List Out) (goal : IsOneSided st rows left right (1 + dups_of p) bad) (ss : List (List ℕ)) (ascend : Ascend ss) (c : CertificateValue) (start : ℕ × ℕ) (entries told : List (ℕ × ℕ)) (s : IsStartEntryOf st ss (length rows) c.start start) (es : AreEntriesOf st ss (length rows) c.rows entries) (t : AreTold st ss (length rows) entries told) where
+module _ (fields : FieldTable) (st : Held) (states : List ℕ) (left right : ℕ) (p q : Policy) (a : IsAutomatonOfBoth fields st states left right p q) (bad : List ℕ → List ℕ → List Out) (goal : IsOneSided st states left right (1 + dups_of p) bad) (ss : List (List ℕ)) (ascend : Ascend ss) (c : CertificateValue) (start : ℕ × ℕ) (entries told : List (ℕ × ℕ)) (s : IsStartEntryOf st ss (length states) c.start start) (es : AreEntriesOf st ss (length states) c.rows entries) (t : AreTold st ss (length states) entries told) where
   -- all dups have labels
-  label_is : (positions : List ℕ) → AreLabels (length rows) positions ↔ IsPlaceOf p q (behind positions)
+  label_is : (positions : List ℕ) → AreLabels (length states) positions ↔ IsPlaceOf p q (behind positions)
   label_is positions =
-      let is = position_is fields st rows left right p q a positions in (
-        λ are. is.1 (λ l m. let w = are l m in (w.0, omega (arith, w.1, a.rows_are.count))),
-        λ place l m. let w = is.0 place l m in (w.0, omega (arith, w.1, a.rows_are.count)),
+      let is = position_is fields st states left right p q a positions in (
+        λ are. is.1 (λ l m. let w = are l m in (w.0, omega (arith, w.1, a.states_are.count))),
+        λ place l m. let w = is.0 place l m in (w.0, omega (arith, w.1, a.states_are.count)),
       )
 
   -- a row, its set of labels and its packets
-  module _ (row : CertRow) (set : List ℕ) (x : ℕ) (ok : MeetsPosition fields p q row) (begun : MeetsStart fields p q row) (same : IsSetAt row.place set) (places : HavePlaces (length rows) set) (keeps : (pk : List ℕ) → IsPacket st pk → Holds row.predicate pk ↔ (is_in st x pk ≡ true)) where
+  module _ (row : CertRow) (set : List ℕ) (x : ℕ) (ok : MeetsPosition fields p q row) (begun : MeetsStart fields p q row) (same : IsSetAt row.place set) (places : HavePlaces (length states) set) (keeps : (pk : List ℕ) → IsPacket st pk → Holds row.predicate pk ↔ (is_in st x pk ≡ true)) where
     -- no bad final at its packets
     no_bad : PairNone st x (bad set) → HasNoBad st bad row set
     no_bad none pk range holds = none pk range ((keeps pk range).0 holds)
 
     -- where steps lead to rows they stay
-    steps_stay : StepsLeadToRows st rows (rows_of c) row set → StepsStay st ss rows bad told set x
+    steps_stay : StepsLeadToRows st states (rows_of c) row set → StepsStay st ss states bad told set x
     steps_stay h pk n range has step =
         let r = h pk n.1 n.0 range ((keeps pk range).1 has) step in
         let k = placed c.rows (later_row r.0 r.1) (later_in (later_row r.0 r.1) r.0 refl (in_from_contains (rows_of c) (later_row r.0 r.1) r.2)) in
         let positions : (row_at c.rows k.0).positions ≡ r.0 = sym (ap (λ (z : CertRow). labels_at z.place) k.2) in
         let predicate : (row_at c.rows k.0).predicate ≡ r.1 = sym (ap (λ (z : CertRow). z.predicate) k.2) in
         let entry = es.each k.0 k.1 in
-        let inside = step_places st rows (set, pk) n (are_rows st rows (either_of p q) a.rows_are) places range step in
+        let inside = step_places st states (set, pk) n (are_states st states (either_of p q) a.states_are) places range step in
         let to_next : (l : ℕ) → Contains (row_at c.rows k.0).positions l → Contains n.0 l = λ l m. (r.3 l).0 (subst (λ z. Contains z l) positions m) in
         let from_next : (l : ℕ) → Contains n.0 l → Contains (row_at c.rows k.0).positions l = λ l m. subst (λ z. Contains z l) (sym positions) ((r.3 l).1 m) in
-        let are : AreLabels (length rows) (row_at c.rows k.0).positions =
-        λ l m. let above = ((step.every l).0 (to_next l m)).0 in (omega (arith, above), place_of (length rows) n.0 l inside (to_next l m)) in
+        let are : AreLabels (length states) (row_at c.rows k.0).positions =
+        λ l m. let above = ((step.every l).0 (to_next l m)).0 in (omega (arith, above), place_of (length states) n.0 l inside (to_next l m)) in
         let one = rising_one (get_or ss (entry_at entries k.0).0 []) n.0 (ascend (entry_at entries k.0).0) step.ascend
         (λ l m. to_next l ((entry.members are l).0 m)) (λ l m. (entry.members are l).1 (from_next l m)) in
         let here = (entry.keeps are n.1 step.packet).0 (subst (λ z. Holds z n.1) (sym predicate) r.4) in
@@ -127,7 +127,7 @@ module _ (fields : FieldTable) (st : Held) (rows : List ℕ) (left right : ℕ) 
         later_in z positions is (inr i) = i
 
     -- where steps stay they lead to rows
-    steps_lead : StepsStay st ss rows bad told set x → StepsLeadToRows st rows (rows_of c) row set
+    steps_lead : StepsStay st ss states bad told set x → StepsLeadToRows st states (rows_of c) row set
     steps_lead stay pk y next range holds step =
         let w = stay pk (next, y) range ((keeps pk range).0 holds) step in
         let k = entry_of st entries w.0 y (t.from w.0 y step.packet w.2) in
@@ -146,27 +146,27 @@ module _ (fields : FieldTable) (st : Held) (rows : List ℕ) (left right : ℕ) 
           (entry.keeps are y step.packet).1 (k.3 (0, 0)),
         ))
         (λ other. absurd (entry.none other y step.packet (k.3 (0, 0))))
-        (labels_decided (length rows) (row_at c.rows k.0).positions)
+        (labels_decided (length states) (row_at c.rows k.0).positions)
 
     -- finals and hop
     finals_met : PairNone st x (bad set) → MeetsFinals fields p q row
-    finals_met none = (finals_is fields st rows left right p q a bad goal row ok set same).1 (no_bad none)
+    finals_met none = (finals_is fields st states left right p q a bad goal row ok set same).1 (no_bad none)
 
-    row_meets : PairNone st x (bad set) → StepsStay st ss rows bad told set x → MeetsAll fields p q (rows_of c) row
+    row_meets : PairNone st x (bad set) → StepsStay st ss states bad told set x → MeetsAll fields p q (rows_of c) row
     row_meets none stay = record {
       position = ok;
       start = begun;
       finals = finals_met none;
-      hop = (hop_is fields st rows left right p q a (rows_of c) row ok set same).1 (steps_lead stay);
+      hop = (hop_is fields st states left right p q a (rows_of c) row ok set same).1 (steps_lead stay);
     }
 
     row_ends : PairBad st x (bad set) → MeetsFinals fields p q row → ⊥
     row_ends m f =
-        m.3 ((finals_is fields st rows left right p q a bad goal row ok set same).0 f m.0 m.1 ((keeps m.0 m.1).1 m.2))
+        m.3 ((finals_is fields st states left right p q a bad goal row ok set same).0 f m.0 m.1 ((keeps m.0 m.1).1 m.2))
 
-    row_leaves : SomeStepLeaves st ss rows bad told set x → MeetsHop fields p q (rows_of c) row → ⊥
+    row_leaves : SomeStepLeaves st ss states bad told set x → MeetsHop fields p q (rows_of c) row → ⊥
     row_leaves m h =
-        m.5 (steps_stay ((hop_is fields st rows left right p q a (rows_of c) row ok set same).0 h) m.0 m.1 m.2 m.3 m.4)
+        m.5 (steps_stay ((hop_is fields st states left right p q a (rows_of c) row ok set same).0 h) m.0 m.1 m.2 m.3 m.4)
 
   -- the start row is judged by its entry
   start_same : IsSetAt at_start (get_or ss start.0 [])
@@ -178,11 +178,11 @@ module _ (fields : FieldTable) (st : Held) (rows : List ℕ) (left right : ℕ) 
   start_lacks : (HasEach st start.1 → ⊥) → HasAll fields at_start c.start → ⊥
   start_lacks other has = other (λ pk range. (s.packets.keeps pk range).0 (has pk (packet_of_fields fields st pk a.over range)))
 
-  start_meets : IsStartJudged st ss rows bad told start None → MeetsAll fields p q (rows_of c) (start_row c)
+  start_meets : IsStartJudged st ss states bad told start None → MeetsAll fields p q (rows_of c) (start_row c)
   start_meets j =
       row_meets (start_row c) (get_or ss start.0 []) start.1 tt (start_has j.0) start_same s.pair.places s.packets.keeps j.1.0 j.1.1
 
-  start_fails : (k : CertPart) → IsStartJudged st ss rows bad told start (Some k)
+  start_fails : (k : CertPart) → IsStartJudged st ss states bad told start (Some k)
       → FailsIn fields p q (rows_of c) (start_row c) (part_of k)
   start_fails Position j = absurd j
   start_fails Start j = (tt, start_lacks j)
@@ -199,13 +199,13 @@ module _ (fields : FieldTable) (st : Held) (rows : List ℕ) (left right : ℕ) 
   )
 
   -- a later row is judged by its entry
-  later_meets : (k : ℕ) → k < length c.rows → IsRowJudged st ss rows bad told (row_at c.rows k).positions (entry_at entries k) None
+  later_meets : (k : ℕ) → k < length c.rows → IsRowJudged st ss states bad told (row_at c.rows k).positions (entry_at entries k) None
       → MeetsAll fields p q (rows_of c) (later_of (row_at c.rows k))
   later_meets k lt j =
       let e = es.each k lt in
       row_meets (later_of (row_at c.rows k)) (get_or ss (entry_at entries k).0 []) (entry_at entries k).1 ((label_is (row_at c.rows k).positions).0 j.0) tt (e.members j.0) e.pair.places (e.keeps j.0) j.1.0 j.1.1
 
-  later_fails : (k : ℕ) → k < length c.rows → (in_part : CertPart) → IsRowJudged st ss rows bad told (row_at c.rows k).positions (entry_at entries k) (Some in_part)
+  later_fails : (k : ℕ) → k < length c.rows → (in_part : CertPart) → IsRowJudged st ss states bad told (row_at c.rows k).positions (entry_at entries k) (Some in_part)
       → FailsIn fields p q (rows_of c) (later_of (row_at c.rows k)) (part_of in_part)
   later_fails k lt Position j = λ place. j ((label_is (row_at c.rows k).positions).1 place)
   later_fails k lt Start j = absurd j
@@ -226,7 +226,7 @@ module _ (fields : FieldTable) (st : Held) (rows : List ℕ) (left right : ℕ) 
       )
 
   -- a later row fails first
-  later_first : (k n : ℕ) (in_part : CertPart) → n ≡ k + 2 → IsLaterFailure st ss rows bad told start c.rows entries k in_part
+  later_first : (k n : ℕ) (in_part : CertPart) → n ≡ k + 2 → IsLaterFailure st ss states bad told start c.rows entries k in_part
       → FailsFirst fields p q (rows_of c) n (part_of in_part)
   later_first k n in_part is f = record {
     before = start_row c ∷ map later_of (take k c.rows);
@@ -245,7 +245,7 @@ module _ (fields : FieldTable) (st : Held) (rows : List ℕ) (left right : ℕ) 
           subst (λ z. MeetsAll fields p q (rows_of c) z) (sym w.2) (later_meets w.0 (omega (arith, w.1, f.within)) (f.before w.0 w.1))
 
   -- what is found
-  pub found : (v : Verdict) → IsJudged st ss rows bad told start c.rows entries v → IsFinding fields p q c (finding_of v)
+  pub found : (v : Verdict) → IsJudged st ss states bad told start c.rows entries v → IsFinding fields p q c (finding_of v)
   found Valid j = λ row m. each row (in_from_contains (rows_of c) row m)
     where
       each : (row : CertRow) → In (rows_of c) row → MeetsAll fields p q (rows_of c) row

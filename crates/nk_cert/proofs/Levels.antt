@@ -93,24 +93,24 @@ first_of_some [] h = absurd (h refl)
 first_of_some (x ∷ xs) h = (x, contains_from_in (x ∷ xs) x (inl refl))
 
 -- whether a side ends at a packet is decided
-pub ends_decided : (st : Held) (rows : List ℕ) (d bound k : ℕ) (s x y : List ℕ) → Decided (EndsAt st rows d bound k s x y)
-ends_decided st rows d bound k s x y =
+pub ends_decided : (st : Held) (states : List ℕ) (d bound k : ℕ) (s x y : List ℕ) → Decided (EndsAt st states d bound k s x y)
+ends_decided st states d bound k s x y =
     either_decided
     (both_decided
     (decided_for (λ i. contains_from_in s 0 i) (λ c. in_from_contains s 0 c) (in_decided numbers_decided s 0))
     (sends_decided st d x y 0))
     (decided_for (λ h. (h.0, contains_from_in s h.0 h.1, h.2.0, h.2.1.0, h.2.1.1)) (λ h. (h.0, in_from_contains s h.0 h.1, (h.2, (h.3, h.4))))
-    (some_decided (λ l. (0 < l) × ((mark_of bound l ≡ k) × Sends st (slice_index rows l) x y 0))
-    (λ l. both_decided (above_zero l) (both_decided (numbers_decided (mark_of bound l) k) (sends_decided st (slice_index rows l) x y 0)))
+    (some_decided (λ l. (0 < l) × ((mark_of bound l ≡ k) × Sends st (slice_index states l) x y 0))
+    (λ l. both_decided (above_zero l) (both_decided (numbers_decided (mark_of bound l) k) (sends_decided st (slice_index states l) x y 0)))
     s))
 
 -- a side's marked ends at a set are the ends of its own members
-module _ (st : Held) (rows : List ℕ) (d bound k : ℕ) (a : Policy) (start : IsState st d a)
-    (state : (l : ℕ) → has_dup a l ≡ true → IsState st (slice_index rows l) (after a l))
+module _ (st : Held) (states : List ℕ) (d bound k : ℕ) (a : Policy) (start : IsState st d a)
+    (state : (l : ℕ) → has_dup a l ≡ true → IsState st (slice_index states l) (after a l))
     (own : (l : ℕ) → has_dup a l ≡ true → (0 < l) × (mark_of bound l ≡ k))
     (s x : List ℕ) (range : IsPacket st x)
     (is_own : (l : ℕ) → Contains s l → 0 < l → mark_of bound l ≡ k → has_dup a l ≡ true) where
-  pub side_ends : (y : List ℕ) → EndsAt st rows d bound k s x y ↔ EndsWithin a s x y
+  pub side_ends : (y : List ℕ) → EndsAt st states d bound k s x y ↔ EndsWithin a s x y
   side_ends y = (
     λ e.
         ⊎_elim
@@ -133,13 +133,13 @@ module _ (st : Held) (rows : List ℕ) (d bound k : ℕ) (a : Policy) (start : I
         e.2,
   )
 
-module _ (fields : FieldTable) (st : Held) (rows : List ℕ) (left right : ℕ) (p q : Policy) (a : IsAutomatonOfBoth fields st rows left right p q) where
+module _ (fields : FieldTable) (st : Held) (states : List ℕ) (left right : ℕ) (p q : Policy) (a : IsAutomatonOfBoth fields st states left right p q) where
   -- the left side's ends at the positions after some records
   pub left_ends_at : (pk : Packet) (u : List Packet) (s x : List ℕ) → HasExactly (IsPositionOfEither p q pk u) s → IsPacket st x
-      → (y : Packet) → EndsAt st rows left (1 + dups_of p) 1 s x y ↔ EndsWithin p s x y
+      → (y : Packet) → EndsAt st states left (1 + dups_of p) 1 s x y ↔ EndsWithin p s x y
   left_ends_at pk u s x h range y =
-      side_ends st rows left (1 + dups_of p) 1 p a.left_start
-      (left_state fields st rows left right p q a)
+      side_ends st states left (1 + dups_of p) 1 p a.left_start
+      (left_state fields st states left right p q a)
       (λ l dup. let w = label_within p 1 l a.numbered.left dup in (omega (arith, w.0), mark_below (1 + dups_of p) l w.1))
       s x range
       (λ l c some mark.
@@ -154,10 +154,10 @@ module _ (fields : FieldTable) (st : Held) (rows : List ℕ) (left right : ℕ) 
 
   -- and the right side's
   pub right_ends_at : (pk : Packet) (u : List Packet) (s x : List ℕ) → HasExactly (IsPositionOfEither p q pk u) s → IsPacket st x
-      → (y : Packet) → EndsAt st rows right (1 + dups_of p) 2 s x y ↔ EndsWithin q s x y
+      → (y : Packet) → EndsAt st states right (1 + dups_of p) 2 s x y ↔ EndsWithin q s x y
   right_ends_at pk u s x h range y =
-      side_ends st rows right (1 + dups_of p) 2 q a.right_start
-      (right_state fields st rows left right p q a)
+      side_ends st states right (1 + dups_of p) 2 q a.right_start
+      (right_state fields st states left right p q a)
       (λ l dup.
       let w = label_within q (1 + dups_of p) l a.numbered.right dup in
       (omega (arith, w.0), mark_above (1 + dups_of p) l w.0))
@@ -181,14 +181,14 @@ record IsBehind (st : Held) (p q : Policy) (n : Node) : Type 0 where
   exactly : HasExactly (IsPositionOfEither p q start records) n.0
   range : IsPacket st n.1
 
-module _ (fields : FieldTable) (p q : Policy) (rows : List ℕ) (left right : ℕ) (first old new : Held) (ss : List (List ℕ)) (set start : ℕ) (bad : List ℕ → List ℕ → List Out) (ls : List (List (ℕ × ℕ))) (broken : Bool) (lv : AreLevelsOfBoth fields p q rows left right first old new ss set start bad ls broken) where
+module _ (fields : FieldTable) (p q : Policy) (states : List ℕ) (left right : ℕ) (first old new : Held) (ss : List (List ℕ)) (set start : ℕ) (bad : List ℕ → List ℕ → List Out) (ls : List (List (ℕ × ℕ))) (broken : Bool) (lv : AreLevelsOfBoth fields p q states left right first old new ss set start bad ls broken) where
   -- what is known of both
 
   distinct : HasDistinct (either_of p q)
   distinct = either_distinct p q (sides_of p q lv.automaton.numbered)
 
-  auto : IsAutomaton old rows 1 (either_of p q)
-  auto = stands first old rows 1 (either_of p q) lv.automaton.rows_are lv.grown
+  auto : IsAutomaton old states 1 (either_of p q)
+  auto = stands first old states 1 (either_of p q) lv.automaton.states_are lv.grown
 
   -- a packet of one store is one of the other
   to_first : (pk : List ℕ) → IsPacket old pk → IsPacket first pk
@@ -198,7 +198,7 @@ module _ (fields : FieldTable) (p q : Policy) (rows : List ℕ) (left right : �
   to_old pk r = subst (λ m. InRange m pk) (sym lv.grown.maxes) r
 
   -- what is met has records behind it
-  behind_met : (i : ℕ) (n : Node) → At old rows (0 ∷ []) start i n → IsBehind first p q n
+  behind_met : (i : ℕ) (n : Node) → At old states (0 ∷ []) start i n → IsBehind first p q n
   behind_met zero n h = record {
     start = n.1;
     records = [];
@@ -208,19 +208,19 @@ module _ (fields : FieldTable) (p q : Policy) (rows : List ℕ) (left right : �
     range = to_first n.1 h.packet;
   }
   behind_met (suc i) n h =
-      let l = met_labels old rows start (either_of p q) auto distinct lv.tidy (suc i) n h in
+      let l = met_labels old states start (either_of p q) auto distinct lv.tidy (suc i) n h in
       record {
         start = l.0;
         records = l.1 ++ n.1 ∷ [];
         in_range = to_first l.0 l.2.0;
         last = last_is_last l.0 l.1 n.1;
         exactly = exact_for (IsAt (either_of p q) l.0 (l.1 ++ n.1 ∷ [])) (IsPositionOfEither p q l.0 (l.1 ++ n.1 ∷ [])) n.0 (either_position p q l.0 l.1 n.1) l.4.1;
-        range = to_first n.1 (met_in_range old rows start (either_of p q) auto distinct lv.tidy (suc i) n h);
+        range = to_first n.1 (met_in_range old states start (either_of p q) auto distinct lv.tidy (suc i) n h);
       }
 
   -- the positions after records are met at the packet recorded last
   met_behind : (pk : Packet) (u : List Packet) (s : List ℕ) → IsPacket old pk → HasExactly (IsPositionOfEither p q pk u) s → (s ≡ [] → ⊥)
-      → (i : ℕ) × At old rows (0 ∷ []) start i (s, last_from pk u)
+      → (i : ℕ) × At old states (0 ∷ []) start i (s, last_from pk u)
   met_behind pk [] s ok h some =
       (0, record { set_is = one_set (IsPositionOfEither p q pk []) s (0 ∷ []) h (start_of_two p q (sides_of p q lv.automaton.numbered) pk); packet = ok; has = lv.start_is pk ok })
   met_behind pk (y ∷ u) s ok h some =
@@ -228,23 +228,23 @@ module _ (fields : FieldTable) (p q : Policy) (rows : List ℕ) (left right : �
       let h' : HasExactly (IsAtEither p q pk (c.0 ++ c.1 ∷ [])) s = subst (λ w. HasExactly (IsAtEither p q pk w) s) c.2 h in
       let e = either_at p q pk (c.0 ++ c.1 ∷ []) in
       let exactly = exact_for (IsAtEither p q pk (c.0 ++ c.1 ∷ [])) (IsAt (either_of p q) pk (c.0 ++ c.1 ∷ [])) s (λ l. ((e l).1, (e l).0)) h' in
-      let at : At old rows (0 ∷ []) start (suc (length c.0)) (s, c.1) =
-      labels_met old rows start (either_of p q) auto distinct lv.tidy (suc (length c.0)) (s, c.1) (pk, c.0, (ok, lv.start_is pk ok), refl, (some, exactly)) in
+      let at : At old states (0 ∷ []) start (suc (length c.0)) (s, c.1) =
+      labels_met old states start (either_of p q) auto distinct lv.tidy (suc (length c.0)) (s, c.1) (pk, c.0, (ok, lv.start_is pk ok), refl, (some, exactly)) in
       let last : last_from pk (y ∷ u) ≡ c.1 = ap (λ w. last_from pk w) c.2 ∙ last_is_last pk c.0 c.1 in
-      (suc (length c.0), subst (λ x. At old rows (0 ∷ []) start (suc (length c.0)) (s, x)) (sym last) at)
+      (suc (length c.0), subst (λ x. At old states (0 ∷ []) start (suc (length c.0)) (s, x)) (sym last) at)
 
   -- where no level has a bad final, the set of some records has none
-  none_bad : AreLevels old new ss rows set start bad ls false → (i : ℕ) (n : Node) → At old rows (0 ∷ []) start i n
-      → (bad n.0 n.1 ≡ []) × HavePlaces (length rows) n.0
+  none_bad : AreLevels old new ss states set start bad ls false → (i : ℕ) (n : Node) → At old states (0 ∷ []) start i n
+      → (bad n.0 n.1 ≡ []) × HavePlaces (length states) n.0
   none_bad levels i n at =
-      let good = met_in_range old rows start (either_of p q) auto distinct lv.tidy i n at in
-      let c = levels.complete refl i n (subst (λ t. At old rows t start i n) (sym lv.set_is) at) in (
-        empty_from (bad n.0 n.1) (never_bad old new ss rows set start bad ls (either_of p q) (λ y. Unit {0}) auto distinct lv.tidy lv.set_is levels c.0 n c.2 good c.3),
-        level_places old new ss rows set start bad ls (either_of p q) (λ y. Unit {0}) auto distinct lv.tidy lv.set_is false levels c.0 n c.2 c.3,
+      let good = met_in_range old states start (either_of p q) auto distinct lv.tidy i n at in
+      let c = levels.complete refl i n (subst (λ t. At old states t start i n) (sym lv.set_is) at) in (
+        empty_from (bad n.0 n.1) (never_bad old new ss states set start bad ls (either_of p q) (λ y. Unit {0}) auto distinct lv.tidy lv.set_is levels c.0 n c.2 good c.3),
+        level_places old new ss states set start bad ls (either_of p q) (λ y. Unit {0}) auto distinct lv.tidy lv.set_is false levels c.0 n c.2 c.3,
       )
 
   -- so the members of both sides end alike
-  pub agree_by_levels : AreLevels old new ss rows set start bad ls false → AgreeBySets fields p q
+  pub agree_by_levels : AreLevels old new ss states set start bad ls false → AgreeBySets fields p q
   agree_by_levels levels pk u s ok h y = (λ e. forth e, λ e. back e)
     where
       ok_old : IsPacket old pk
@@ -262,12 +262,12 @@ module _ (fields : FieldTable) (p q : Policy) (rows : List ℕ) (left right : �
           let range = (behind_met at.0 (s, last_from pk u) at.1).range in
           let none = none_bad levels at.0 (s, last_from pk u) at.1 in
           let sided = lv.goal.sides s (last_from pk u) none.1 range in
-          let mine = (left_ends_at fields first rows left right p q lv.automaton pk u s (last_from pk u) h range y).1 e in
-          let its = stable (ends_decided first rows right (1 + dups_of p) 2 s (last_from pk u) y) (λ other.
+          let mine = (left_ends_at fields first states left right p q lv.automaton pk u s (last_from pk u) h range y).1 e in
+          let its = stable (ends_decided first states right (1 + dups_of p) 2 s (last_from pk u) y) (λ other.
           let m = (sided.left_alone y).1 (mine, other) in
           let c = subst (λ os. Contains os (record { act = m.0; target = 0 })) none.0 m.1 in
           in_from_contains {X = Out} [] (record { act = m.0; target = 0 }) c) in
-          (right_ends_at fields first rows left right p q lv.automaton pk u s (last_from pk u) h range y).0 its
+          (right_ends_at fields first states left right p q lv.automaton pk u s (last_from pk u) h range y).0 its
 
       back : EndsWithin q s (last_from pk u) y → EndsWithin p s (last_from pk u) y
       back e =
@@ -275,34 +275,34 @@ module _ (fields : FieldTable) (p q : Policy) (rows : List ℕ) (left right : �
           let range = (behind_met at.0 (s, last_from pk u) at.1).range in
           let none = none_bad levels at.0 (s, last_from pk u) at.1 in
           let sided = lv.goal.sides s (last_from pk u) none.1 range in
-          let mine = (right_ends_at fields first rows left right p q lv.automaton pk u s (last_from pk u) h range y).1 e in
-          let its = stable (ends_decided first rows left (1 + dups_of p) 1 s (last_from pk u) y) (λ other.
+          let mine = (right_ends_at fields first states left right p q lv.automaton pk u s (last_from pk u) h range y).1 e in
+          let its = stable (ends_decided first states left (1 + dups_of p) 1 s (last_from pk u) y) (λ other.
           let m = (sided.right_alone y).1 (mine, other) in
           let c = subst (λ os. Contains os (record { act = m.0; target = 1 })) none.0 m.1 in
           in_from_contains {X = Out} [] (record { act = m.0; target = 1 }) c) in
-          (left_ends_at fields first rows left right p q lv.automaton pk u s (last_from pk u) h range y).0 its
+          (left_ends_at fields first states left right p q lv.automaton pk u s (last_from pk u) h range y).0 its
 
   -- and both policies do the same
-  pub same_by_levels : AreLevels old new ss rows set start bad ls false → AreSame fields p q
+  pub same_by_levels : AreLevels old new ss states set start bad ls false → AreSame fields p q
   same_by_levels levels =
-      same_from p q (sides_of p q lv.automaton.numbered) fields (have_sets fields first rows left right p q lv.automaton)
+      same_from p q (sides_of p q lv.automaton.numbered) fields (have_sets fields first states left right p q lv.automaton)
       (agree_by_levels levels)
 
   -- a bad final is an end of a history of one side alone
-  pub differ_by_levels : AreLevels old new ss rows set start bad ls true → HasOneAlone fields p q
+  pub differ_by_levels : AreLevels old new ss states set start bad ls true → HasOneAlone fields p q
   differ_by_levels levels =
       let b = levels.broken_at refl in
       let n = b.0 in
       let lt : length ls - 1 < length ls = omega (arith, levels.some) in
-      let at = subst (λ t. At old rows t start (length ls - 1) n) lv.set_is (levels.exact.sound (length ls - 1) n lt b.1 b.2) in
+      let at = subst (λ t. At old states t start (length ls - 1) n) lv.set_is (levels.exact.sound (length ls - 1) n lt b.1 b.2) in
       let r = behind_met (length ls - 1) n at in
-      let places = level_places old new ss rows set start bad ls (either_of p q) (λ y. Unit {0}) auto distinct lv.tidy lv.set_is true levels (length ls - 1) n lt b.2 in
+      let places = level_places old new ss states set start bad ls (either_of p q) (λ y. Unit {0}) auto distinct lv.tidy lv.set_is true levels (length ls - 1) n lt b.2 in
       let sided = lv.goal.sides n.0 n.1 places r.range in
       let o = first_of_some (bad n.0 n.1) b.3 in
       let y = applied o.0.act n.1 in
       let ok = packet_of_fields fields first r.start lv.automaton.over r.in_range in
-      let mine = left_ends_at fields first rows left right p q lv.automaton r.start r.records n.0 n.1 r.exactly r.range y in
-      let its = right_ends_at fields first rows left right p q lv.automaton r.start r.records n.0 n.1 r.exactly r.range y in
+      let mine = left_ends_at fields first states left right p q lv.automaton r.start r.records n.0 n.1 r.exactly r.range y in
+      let its = right_ends_at fields first states left right p q lv.automaton r.start r.records n.0 n.1 r.exactly r.range y in
       let l = left_gives p q (sides_of p q lv.automaton.numbered) r.start r.records y n.0 r.exactly in
       let g = right_gives p q (sides_of p q lv.automaton.numbered) r.start r.records y n.0 r.exactly in
       ⊎_elim

@@ -3,7 +3,7 @@ pub mod Printing
 pub mod Together
 pub mod Findings
 pub mod Levels
-pub mod Rows
+pub mod CertRows
 pub mod FromLevels
 pub mod Deciding
 pub mod Worked

@@ -8,40 +8,40 @@ use Rattle.nk_algebra.specs.Unions.{AreIds}
 use Rattle.nk_determ.specs.Sets.{Ascend}
 use Rattle.nk_reach.specs.Pairs.{HavePlaces, ArePairs}
 use Rattle.nk_reach.specs.Sides.{alone, ends_of, AreMarked, AreOneSided, IsGoalOf, goal_on}
-use Rattle.nk_reach.proofs.Growing.{rows_grow}
-use Rattle.nk_runs.proofs.Stands.{are_rows}
-use Rattle.nk_cert.specs.declared.shape.Verdict.{Verdict}
+use Rattle.nk_reach.proofs.Growing.{states_grow}
+use Rattle.nk_runs.proofs.Stands.{are_states}
+use Rattle.nk_cert.specs.declared.certificate.Verdict.{Verdict}
 use Rattle.nk_cert.specs.Together.{either_of}
 use Rattle.nk_cert.specs.Certificates.{CertificateValue}
 use Rattle.nk_cert.specs.Verdicts.{IsFinding}
 use Rattle.nk_cert.specs.Levelled.{IsAutomatonOfBoth, IsOneSided}
 use Rattle.nk_cert.specs.Values.{finding_of}
 use Rattle.nk_cert.specs.Judged.{CanJudge, IsJudge, IsJudged}
-use Rattle.nk_cert.proofs.Rows.{both_stand, goal_is_one_sided}
+use Rattle.nk_cert.proofs.CertRows.{both_stand, goal_is_one_sided}
 use Rattle.nk_cert.proofs.Sided.{one_sided_on}
 use Rattle.nk_cert.proofs.Finding.{found}
 
-module _ (fields : FieldTable) (first made now : Held) (rows : List ℕ) (left right : ℕ) (p q : Policy) (a : IsAutomatonOfBoth fields first rows left right p q) (bound : ℕ) (is : bound ≡ 1 + dups_of p) (ends : List ℕ) (g1 : Grows first made) (g2 : Grows made now) (ids : AreIds made ends) (marked : AreMarked first rows left right bound (length rows) made ends) where
-  -- rows and ends are at hand
-  pub can_judge : (ss : List (List ℕ)) (pairs table : List (ℕ × ℕ)) → ArePairs now ss (length rows) pairs → IsGoalOf made ends table → CanJudge now ss rows pairs ends table
+module _ (fields : FieldTable) (first made now : Held) (states : List ℕ) (left right : ℕ) (p q : Policy) (a : IsAutomatonOfBoth fields first states left right p q) (bound : ℕ) (is : bound ≡ 1 + dups_of p) (ends : List ℕ) (g1 : Grows first made) (g2 : Grows made now) (ids : AreIds made ends) (marked : AreMarked first states left right bound (length states) made ends) where
+  -- states and ends are at hand
+  pub can_judge : (ss : List (List ℕ)) (pairs table : List (ℕ × ℕ)) → ArePairs now ss (length states) pairs → IsGoalOf made ends table → CanJudge now ss states pairs ends table
   can_judge ss pairs table t goal =
       let g = grows_on first made now g1 g2 in
-      let r = are_rows first rows (either_of p q) a.rows_are in
+      let r = are_states first states (either_of p q) a.states_are in
       record {
-        rows_are = rows_grow first now rows g r;
+        states_are = states_grow first now states g r;
         told_are = t;
         goal = goal_on made now ends table goal g2;
         labels = marked.count;
       }
 
   -- what is judged of all rows is what is found of the certificate
-  pub found_by : ((set pk : List ℕ) → HavePlaces (length rows) set → IsPacket first pk → AreOneSided first rows left right bound set pk (alone (ends_of made ends set pk)))
-      → AreTidy now → (ss : List (List ℕ)) → Ascend ss → (c : CertificateValue) (start : ℕ × ℕ) (entries told : List (ℕ × ℕ)) → IsJudge now ss (length rows) c start entries told
-      → (v : Verdict) → IsJudged now ss rows (λ set pk. alone (ends_of now ends set pk)) told start c.rows entries v → IsFinding fields p q c (finding_of v)
+  pub found_by : ((set pk : List ℕ) → HavePlaces (length states) set → IsPacket first pk → AreOneSided first states left right bound set pk (alone (ends_of made ends set pk)))
+      → AreTidy now → (ss : List (List ℕ)) → Ascend ss → (c : CertificateValue) (start : ℕ × ℕ) (entries told : List (ℕ × ℕ)) → IsJudge now ss (length states) c start entries told
+      → (v : Verdict) → IsJudged now ss states (λ set pk. alone (ends_of now ends set pk)) told start c.rows entries v → IsFinding fields p q c (finding_of v)
   found_by sided tidy ss ascend c start entries told j v judged =
       let g = grows_on first made now g1 g2 in
       let bad = λ (set pk : List ℕ). alone (ends_of now ends set pk) in
-      let goal = goal_is_one_sided first made now rows left right bound ends ids marked.count g1 g2 sided in
-      let here = one_sided_on first now rows left right bound bad g a.left_start.id a.right_start.id (are_rows first rows (either_of p q) a.rows_are).ids goal in
-      let there = subst (λ b. IsOneSided now rows left right b bad) is here in
-      found fields now rows left right p q (both_stand fields first now rows left right p q a g tidy) bad there ss ascend c start entries told j.start_is j.later j.all v judged
+      let goal = goal_is_one_sided first made now states left right bound ends ids marked.count g1 g2 sided in
+      let here = one_sided_on first now states left right bound bad g a.left_start.id a.right_start.id (are_states first states (either_of p q) a.states_are).ids goal in
+      let there = subst (λ b. IsOneSided now states left right b bad) is here in
+      found fields now states left right p q (both_stand fields first now states left right p q a g tidy) bad there ss ascend c start entries told j.start_is j.later j.all v judged

@@ -3,7 +3,7 @@ use Rattle.std.specs.Prelude.{◌≡◌, ℕ, ◌+◌, ◌⊎◌, ⊤, Result, O
 use Rattle.nk_policy.specs.Policy.{Policy, marked_from, dups_of}
 use Rattle.nk_names.specs.declared.Program.{Program}
 use Rattle.nk_names.specs.Named.{policy_named}
-use Rattle.nk_cert.specs.declared.shape.Verdict.{Verdict}
+use Rattle.nk_cert.specs.declared.certificate.Verdict.{Verdict}
 use Rattle.nk_cert.specs.declared.error.CheckError.{CheckError}
 use Rattle.nk_cert.specs.declared.error.CheckError.TheVariants.{NoMemory, NoPolicy}
 use Rattle.nk_cert.specs.Certificates.{CertificateValue}

@@ -5,24 +5,24 @@ use Rattle.nk_policy.specs.After.{id_policy}
 use Rattle.nk_store.specs.declared.node.Out.{Out}
 use Rattle.nk_store.specs.Held.{Held, IsPacket}
 use Rattle.nk_sets.specs.PacketSets.{is_in, IsSet}
-use Rattle.nk_reach.specs.Pairs.{Node, Under, Within, AreRows, IsPair, ArePairs, IsStep}
+use Rattle.nk_reach.specs.Pairs.{Node, Under, Within, AreStates, IsPair, ArePairs, IsStep}
 use Rattle.nk_reach.specs.Goals.{PairBad, PairNone}
 use Rattle.nk_reach.specs.Sides.{IsGoalOf}
-use Rattle.nk_cert.specs.declared.shape.CertPart.{CertPart}
-use Rattle.nk_cert.specs.declared.shape.CertPart.TheVariants.{Position, Start, Finals, Hop}
-use Rattle.nk_cert.specs.declared.shape.Verdict.{Verdict}
-use Rattle.nk_cert.specs.declared.shape.Verdict.TheVariants.{Valid, Invalid}
+use Rattle.nk_cert.specs.declared.certificate.CertPart.{CertPart}
+use Rattle.nk_cert.specs.declared.certificate.CertPart.TheVariants.{Position, Start, Finals, Hop}
+use Rattle.nk_cert.specs.declared.certificate.Verdict.{Verdict}
+use Rattle.nk_cert.specs.declared.certificate.Verdict.TheVariants.{Valid, Invalid}
 use Rattle.nk_cert.specs.Certificates.{behind, RowValue, CertificateValue, Holds}
 use Rattle.nk_cert.specs.Levelled.{HasEach}
 use Rattle.nk_cert.specs.Checked.{IsSetAt}
 
--- what is at hand while rows are judged: rows, entries, a diagram of marked ends for each row, and the
+-- what is at hand while rows are judged: states, entries, a diagram of marked ends for each state, and the
 -- table of what one side alone has of ends
-pub record CanJudge (st : Held) (ss : List (List ℕ)) (rows : List ℕ) (told : List (ℕ × ℕ)) (ends : List ℕ) (table : List (ℕ × ℕ)) : Type 0 where
-  pub rows_are : AreRows st rows
-  pub told_are : ArePairs st ss (length rows) told
+pub record CanJudge (st : Held) (ss : List (List ℕ)) (states : List ℕ) (told : List (ℕ × ℕ)) (ends : List ℕ) (table : List (ℕ × ℕ)) : Type 0 where
+  pub states_are : AreStates st states
+  pub told_are : ArePairs st ss (length states) told
   pub goal : IsGoalOf st ends table
-  pub labels : length ends ≡ length rows
+  pub labels : length ends ≡ length states
 
 -- d has exactly the packets that the predicate keeps
 pub record IsPacketsOf (st : Held) (predicate : Policy) (d : ℕ) : Type 0 where
@@ -72,17 +72,17 @@ pub record IsJudge (st : Held) (ss : List (List ℕ)) (n : ℕ) (c : Certificate
   pub later : AreEntriesOf st ss n c.rows entries
   pub all : AreTold st ss n entries told
 
--- For the rows of an automaton, with these bad finals, where rows have packets under sets.
-module _ (st : Held) (ss : List (List ℕ)) (rows : List ℕ) (bad : List ℕ → List ℕ → List Out) (told : List (ℕ × ℕ)) where
+-- For the states of an automaton, with these bad finals, where rows have packets under sets.
+module _ (st : Held) (ss : List (List ℕ)) (states : List ℕ) (bad : List ℕ → List ℕ → List Out) (told : List (ℕ × ℕ)) where
   -- each step of the set from one of these packets leads to a packet that stands under a set
   abbrev pub StepsStay : List ℕ → ℕ → Type 0
   StepsStay set x =
-      (pk : List ℕ) (n : Node) → IsPacket st pk → is_in st x pk ≡ true → IsStep st rows (set, pk) n → Within st ss told n
+      (pk : List ℕ) (n : Node) → IsPacket st pk → is_in st x pk ≡ true → IsStep st states (set, pk) n → Within st ss told n
 
   -- some step of it leads elsewhere
   abbrev pub SomeStepLeaves : List ℕ → ℕ → Type 0
   SomeStepLeaves set x =
-      (pk : List ℕ) × (n : Node) × IsPacket st pk × (is_in st x pk ≡ true) × IsStep st rows (set, pk) n × (Within st ss told n → ⊥)
+      (pk : List ℕ) × (n : Node) × IsPacket st pk × (is_in st x pk ≡ true) × IsStep st states (set, pk) n × (Within st ss told n → ⊥)
 
   -- whether the set at these packets has no bad final and no step that leads elsewhere, or which of the two it has
   abbrev pub IsSetJudged : ℕ × ℕ → Option CertPart → Type 0
@@ -95,11 +95,11 @@ module _ (st : Held) (ss : List (List ℕ)) (rows : List ℕ) (bad : List ℕ �
 
   -- the first part that a later row with this entry fails, if one
   abbrev pub IsRowJudged : List ℕ → ℕ × ℕ → Option CertPart → Type 0
-  IsRowJudged positions e None = AreLabels (length rows) positions × IsSetJudged e None
-  IsRowJudged positions e (Some Position) = AreLabels (length rows) positions → ⊥
+  IsRowJudged positions e None = AreLabels (length states) positions × IsSetJudged e None
+  IsRowJudged positions e (Some Position) = AreLabels (length states) positions → ⊥
   IsRowJudged positions e (Some Start) = ⊥
-  IsRowJudged positions e (Some Finals) = AreLabels (length rows) positions × IsSetJudged e (Some Finals)
-  IsRowJudged positions e (Some Hop) = AreLabels (length rows) positions × IsSetJudged e (Some Hop)
+  IsRowJudged positions e (Some Finals) = AreLabels (length states) positions × IsSetJudged e (Some Finals)
+  IsRowJudged positions e (Some Hop) = AreLabels (length states) positions × IsSetJudged e (Some Hop)
 
   -- the first part that the start row with this entry fails, if one
   abbrev pub IsStartJudged : ℕ × ℕ → Option CertPart → Type 0

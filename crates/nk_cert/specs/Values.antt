@@ -2,11 +2,11 @@
 use Rattle.std.specs.Prelude.{ℕ, List, map}
 use Rattle.nk_policy.specs.Tree.{tree_of}
 use Rattle.nk_policy.specs.declared.policy.Pol.{Pol}
-use Rattle.nk_cert.specs.declared.shape.Certificate.{Certificate}
-use Rattle.nk_cert.specs.declared.shape.CertPart.{CertPart}
-use Rattle.nk_cert.specs.declared.shape.CertPart.TheVariants.{Position, Start, Finals, Hop}
-use Rattle.nk_cert.specs.declared.shape.Verdict.{Verdict}
-use Rattle.nk_cert.specs.declared.shape.Verdict.TheVariants.{Valid, Invalid}
+use Rattle.nk_cert.specs.declared.certificate.Certificate.{Certificate}
+use Rattle.nk_cert.specs.declared.certificate.CertPart.{CertPart}
+use Rattle.nk_cert.specs.declared.certificate.CertPart.TheVariants.{Position, Start, Finals, Hop}
+use Rattle.nk_cert.specs.declared.certificate.Verdict.{Verdict}
+use Rattle.nk_cert.specs.declared.certificate.Verdict.TheVariants.{Valid, Invalid}
 use Rattle.nk_cert.specs.Certificates.{RowValue, CertificateValue}
 use Rattle.nk_cert.specs.Verdicts.{RowPart, position_part, start_part, finals_part, hop_part, Finding, valid, invalid}
 

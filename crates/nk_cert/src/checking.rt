@@ -12,10 +12,10 @@ ghost use Rattle.nk_cert.specs.Verdicts.{HasPredicates, IsFinding};
 ghost use Rattle.nk_cert.specs.Values.{row_values, certificate_value, finding_of};
 ghost use Rattle.nk_cert.specs.Judged.{IsStartEntryOf, AreEntriesOf, AreTold, IsJudge};
 
+use crate::certificate::{Certificate, Verdict};
 use crate::entries::{row_entries, start_entry};
 use crate::judge::{Judge, judge_rows};
 use crate::pairing::{Both, automaton_of_both, number_behind};
-use crate::shape::{Certificate, Verdict};
 use indexmap::IndexMap;
 use nk_determ::{SetId, Sets};
 use nk_field::{Fields, List};
@@ -67,7 +67,7 @@ fn verdict_in(
 {
     let both = automaton_of_both(st, left, right)?;
     let bound = number_behind(left) as usize;
-    let mut goal = OneSide::new(st, both.rows.as_slice(), both.left, both.right, bound)?;
+    let mut goal = OneSide::new(st, both.states.as_slice(), both.left, both.right, bound)?;
     let judge = judge_of(st, ss, both, certificate)?;
     ss.differ();
     st.laws();
@@ -81,21 +81,21 @@ fn judge_of(
     both: Both,
     certificate: &Certificate,
 ) -> Result<Judge, AllocError>
-    requires rows { 0 < length both.rows }
+    requires states { 0 < length both.states }
     requires start { is_predicate (tree_of certificate.now.start) ≡ true }
     requires later { All (λ r. is_predicate (tree_of r.1) ≡ true) certificate.now.rows }
     ensures grows { Grows st.old st.new }
     ensures sets { SetsGrow ss.old ss.new }
-    ensures rows { IfOk result (λ j. j.rows ≡ both.rows) }
-    ensures ok { IfOk result (λ j. IsJudge st.new ss.new (length j.rows) (certificate_value certificate.now) j.start j.entries j.told.entries) }
+    ensures states { IfOk result (λ j. j.states ≡ both.states) }
+    ensures ok { IfOk result (λ j. IsJudge st.new ss.new (length j.states) (certificate_value certificate.now) j.start j.entries j.told.entries) }
 {
-    let Both { rows, .. } = both;
-    let start = start_entry(st, ss, &certificate.start, rows.len())?;
-    let entries = row_entries(st, ss, certificate.rows.as_slice(), rows.len())?;
+    let Both { states, .. } = both;
+    let start = start_entry(st, ss, &certificate.start, states.len())?;
+    let entries = row_entries(st, ss, certificate.rows.as_slice(), states.len())?;
     let mut told = IndexMap::new(st.alloc());
     merge(st, &mut told, &entries)?;
     Ok(Judge {
-        rows,
+        states,
         start,
         entries,
         told,

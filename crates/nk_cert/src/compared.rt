@@ -1,5 +1,5 @@
 //! How two policies compare.
-use crate::shape::Certificate;
+use crate::certificate::Certificate;
 use nk_reach::Found;
 
 /// How two policies compare.

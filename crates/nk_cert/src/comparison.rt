@@ -48,9 +48,9 @@ pub fn compare_policies(
 /// Two policies compared by their automaton; labels below `bound` are the left one's.
 fn compare_by_levels(st: &mut Store, both: &Both, bound: usize) -> Result<Compared, AllocError>
     requires automaton { (fields : FieldTable) × (p : Policy) × (q : Policy)
-        × IsAutomatonOfBoth fields st.old both.now.rows both.now.left both.now.right p q × (bound ≡ 1 + dups_of p) }
+        × IsAutomatonOfBoth fields st.old both.now.states both.now.left both.now.right p q × (bound ≡ 1 + dups_of p) }
     ensures { IfOk result (λ r. (fields : FieldTable) (p q : Policy)
-        → IsAutomatonOfBoth fields st.old both.now.rows both.now.left both.now.right p q → bound ≡ 1 + dups_of p
+        → IsAutomatonOfBoth fields st.old both.now.states both.now.left both.now.right p q → bound ≡ 1 + dups_of p
         → IsInRange p fields → IsInRange q fields → IsComparison fields p q r) }
 {
     let mut ss = Sets::new(st.alloc());
@@ -61,6 +61,12 @@ fn compare_by_levels(st: &mut Store, both: &Both, bound: usize) -> Result<Compar
         return Ok(Compared::Related(certificate));
     }
     st.laws();
-    let found = least_history(st, &mut ss, both.rows.as_slice(), &lv.levels, &mut lv.goal)?;
+    let found = least_history(
+        st,
+        &mut ss,
+        both.states.as_slice(),
+        &lv.levels,
+        &mut lv.goal,
+    )?;
     Ok(Compared::Broken(found))
 }

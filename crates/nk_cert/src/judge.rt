@@ -7,9 +7,9 @@ ghost use Rattle.nk_reach.specs.Sides.{alone, ends_of};
 ghost use Rattle.nk_cert.specs.Values.{row_values};
 ghost use Rattle.nk_cert.specs.Judged.{CanJudge, AreLabels, AreEntriesOf, IsSetJudged, IsRowJudged, IsStartJudged, IsJudged, row_at, entry_at};
 
+use crate::certificate::{CertPart, Certificate, Verdict};
 use crate::entries::are_labels;
 use crate::packets::has_each;
-use crate::shape::{CertPart, Certificate, Verdict};
 use indexmap::IndexMap;
 use nk_determ::{SetId, Sets};
 use nk_field::List;
@@ -21,8 +21,8 @@ use std::alloc::{AllocError, Global};
 /// What rows are judged by: the automaton of both policies, and the certificate's rows as sets of labels and packets.
 #[derive(Drop)]
 pub(crate) struct Judge {
-    /// The automaton of both policies, of which the first row is that of both starts.
-    pub(crate) rows: List<Id>,
+    /// The automaton of both policies, of which the first state is that of both starts.
+    pub(crate) states: List<Id>,
     /// The start row's entry.
     pub(crate) start: (SetId, Id),
     /// The later rows' entries, in their order.
@@ -39,11 +39,11 @@ pub(crate) fn judge_rows(
     goal: &mut OneSide,
     later: &[(List<u64>, Pol)],
 ) -> Result<Verdict, AllocError>
-    requires can { CanJudge st.old ss.old judge.now.rows judge.now.told.entries goal.old.ends goal.old.seen.entries }
-    requires start { IsPair st.old ss.old (length judge.now.rows) judge.now.start }
-    requires entries { AreEntriesOf st.old ss.old (length judge.now.rows) (row_values later.now) judge.now.entries }
+    requires can { CanJudge st.old ss.old judge.now.states judge.now.told.entries goal.old.ends goal.old.seen.entries }
+    requires start { IsPair st.old ss.old (length judge.now.states) judge.now.start }
+    requires entries { AreEntriesOf st.old ss.old (length judge.now.states) (row_values later.now) judge.now.entries }
     ensures grows { Grows st.old st.new }
-    ensures ok { IfOk result (λ v. IsJudged st.old ss.old judge.now.rows (λ set pk. alone (ends_of st.old goal.old.ends set pk)) judge.now.told.entries judge.now.start (row_values later.now) judge.now.entries v) }
+    ensures ok { IfOk result (λ v. IsJudged st.old ss.old judge.now.states (λ set pk. alone (ends_of st.old goal.old.ends set pk)) judge.now.told.entries judge.now.start (row_values later.now) judge.now.entries v) }
 {
     let first = judge_start(st, ss, judge, goal)?;
     if let Some(part) = first {
@@ -68,13 +68,13 @@ fn judge_start(
     judge: &Judge,
     goal: &mut OneSide,
 ) -> Result<Option<CertPart>, AllocError>
-    requires can { CanJudge st.old ss.old judge.now.rows judge.now.told.entries goal.old.ends goal.old.seen.entries }
-    requires start { IsPair st.old ss.old (length judge.now.rows) judge.now.start }
+    requires can { CanJudge st.old ss.old judge.now.states judge.now.told.entries goal.old.ends goal.old.seen.entries }
+    requires start { IsPair st.old ss.old (length judge.now.states) judge.now.start }
     ensures grows { Grows st.old st.new }
     ensures sets { SetsGrow ss.old ss.new }
-    ensures can { OnOk result (CanJudge st.new ss.new judge.now.rows judge.now.told.entries goal.new.ends goal.new.seen.entries) }
+    ensures can { OnOk result (CanJudge st.new ss.new judge.now.states judge.now.told.entries goal.new.ends goal.new.seen.entries) }
     ensures same { OnOk result ((st : Held) (set pk : Items ℕ) → alone (ends_of st goal.new.ends set pk) ≡ alone (ends_of st goal.old.ends set pk)) }
-    ensures ok { IfOk result (λ o. IsStartJudged st.old ss.old judge.now.rows (λ set pk. alone (ends_of st.old goal.old.ends set pk)) judge.now.told.entries judge.now.start o) }
+    ensures ok { IfOk result (λ o. IsStartJudged st.old ss.old judge.now.states (λ set pk. alone (ends_of st.old goal.old.ends set pk)) judge.now.told.entries judge.now.start o) }
 {
     if !has_each(st, judge.start.1)? {
         return Ok(Some(CertPart::Start));
@@ -91,16 +91,16 @@ fn judge_row(
     later: &[(List<u64>, Pol)],
     i: usize,
 ) -> Result<Option<CertPart>, AllocError>
-    requires can { CanJudge st.old ss.old judge.now.rows judge.now.told.entries goal.old.ends goal.old.seen.entries }
-    requires entries { AreEntriesOf st.old ss.old (length judge.now.rows) (row_values later.now) judge.now.entries }
+    requires can { CanJudge st.old ss.old judge.now.states judge.now.told.entries goal.old.ends goal.old.seen.entries }
+    requires entries { AreEntriesOf st.old ss.old (length judge.now.states) (row_values later.now) judge.now.entries }
     requires place { i < length later.now }
     ensures grows { Grows st.old st.new }
     ensures sets { SetsGrow ss.old ss.new }
-    ensures can { OnOk result (CanJudge st.new ss.new judge.now.rows judge.now.told.entries goal.new.ends goal.new.seen.entries) }
+    ensures can { OnOk result (CanJudge st.new ss.new judge.now.states judge.now.told.entries goal.new.ends goal.new.seen.entries) }
     ensures same { OnOk result ((st : Held) (set pk : Items ℕ) → alone (ends_of st goal.new.ends set pk) ≡ alone (ends_of st goal.old.ends set pk)) }
-    ensures ok { IfOk result (λ o. IsRowJudged st.old ss.old judge.now.rows (λ set pk. alone (ends_of st.old goal.old.ends set pk)) judge.now.told.entries (row_at (row_values later.now) i).positions (entry_at judge.now.entries i) o) }
+    ensures ok { IfOk result (λ o. IsRowJudged st.old ss.old judge.now.states (λ set pk. alone (ends_of st.old goal.old.ends set pk)) judge.now.told.entries (row_at (row_values later.now) i).positions (entry_at judge.now.entries i) o) }
 {
-    if !has_labels(later, i, judge.rows.len()) {
+    if !has_labels(later, i, judge.states.len()) {
         return Ok(Some(CertPart::Position));
     }
     let entry = entry_of(judge, i);
@@ -132,19 +132,19 @@ fn judge_set(
     goal: &mut OneSide,
     entry: (SetId, Id),
 ) -> Result<Option<CertPart>, AllocError>
-    requires can { CanJudge st.old ss.old judge.now.rows judge.now.told.entries goal.old.ends goal.old.seen.entries }
-    requires entry { IsPair st.old ss.old (length judge.now.rows) entry }
+    requires can { CanJudge st.old ss.old judge.now.states judge.now.told.entries goal.old.ends goal.old.seen.entries }
+    requires entry { IsPair st.old ss.old (length judge.now.states) entry }
     ensures grows { Grows st.old st.new }
     ensures sets { SetsGrow ss.old ss.new }
-    ensures can { OnOk result (CanJudge st.new ss.new judge.now.rows judge.now.told.entries goal.new.ends goal.new.seen.entries) }
+    ensures can { OnOk result (CanJudge st.new ss.new judge.now.states judge.now.told.entries goal.new.ends goal.new.seen.entries) }
     ensures same { OnOk result ((st : Held) (set pk : Items ℕ) → alone (ends_of st goal.new.ends set pk) ≡ alone (ends_of st goal.old.ends set pk)) }
-    ensures ok { IfOk result (λ o. IsSetJudged st.old ss.old judge.now.rows (λ set pk. alone (ends_of st.old goal.old.ends set pk)) judge.now.told.entries entry o) }
+    ensures ok { IfOk result (λ o. IsSetJudged st.old ss.old judge.now.states (λ set pk. alone (ends_of st.old goal.old.ends set pk)) judge.now.told.entries entry o) }
 {
     let level = level_of(st.alloc(), entry)?;
     if any_bad(st, ss, &level, goal)? {
         return Ok(Some(CertPart::Finals));
     }
-    let elsewhere = next_level(st, ss, judge.rows.as_slice(), &judge.told, &level)?;
+    let elsewhere = next_level(st, ss, judge.states.as_slice(), &judge.told, &level)?;
     if elsewhere.len() > 0 {
         return Ok(Some(CertPart::Hop));
     }

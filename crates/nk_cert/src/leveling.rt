@@ -2,7 +2,7 @@
 ghost use Rattle.std.specs.Prelude.{◌≡◌, ◌<◌, ◌∷◌, [], IfOk, length};
 ghost use Rattle.nk_store.specs.Held.{IsId, Grows};
 ghost use Rattle.nk_determ.specs.Sets.{SetsGrow};
-ghost use Rattle.nk_reach.specs.Pairs.{AreRows};
+ghost use Rattle.nk_reach.specs.Pairs.{AreStates};
 ghost use Rattle.nk_reach.specs.Sides.{IsGoalOf};
 ghost use Rattle.nk_cert.specs.Levelled.{AreSideLevels};
 
@@ -31,41 +31,41 @@ pub fn levels_of_both(
     both: &Both,
     bound: usize,
 ) -> Result<LevelsOfBoth, AllocError>
-    requires rows { AreRows st.old both.now.rows }
-    requires start { 0 < length both.now.rows }
+    requires states { AreStates st.old both.now.states }
+    requires start { 0 < length both.now.states }
     requires left { IsId st.old both.now.left }
     requires right { IsId st.old both.now.right }
     ensures grows { Grows st.old st.new }
     ensures sets { SetsGrow ss.old ss.new }
-    ensures ok { IfOk result (λ l. AreSideLevels st.old both.now.rows both.now.left both.now.right bound st.new ss.new l.goal.ends l.levels.levels l.levels.broken) }
+    ensures ok { IfOk result (λ l. AreSideLevels st.old both.now.states both.now.left both.now.right bound st.new ss.new l.goal.ends l.levels.levels l.levels.broken) }
     ensures goal { IfOk result (λ l. IsGoalOf st.new l.goal.ends l.goal.seen.entries) }
 {
-    levels_of_rows(st, ss, both.rows.as_slice(), both.left, both.right, bound)
+    levels_of_states(st, ss, both.states.as_slice(), both.left, both.right, bound)
 }
 
-/// The same by rows, and the diagrams of both starts.
-fn levels_of_rows(
+/// The same by states, and the diagrams of both starts.
+fn levels_of_states(
     st: &mut Store,
     ss: &mut Sets,
-    rows: &[Id],
+    states: &[Id],
     left: Id,
     right: Id,
     bound: usize,
 ) -> Result<LevelsOfBoth, AllocError>
-    requires rows { AreRows st.old rows.now }
-    requires start { 0 < length rows.now }
+    requires states { AreStates st.old states.now }
+    requires start { 0 < length states.now }
     requires left { IsId st.old left }
     requires right { IsId st.old right }
     ensures grows { Grows st.old st.new }
     ensures sets { SetsGrow ss.old ss.new }
-    ensures ok { IfOk result (λ l. AreSideLevels st.old rows.now left right bound st.new ss.new l.goal.ends l.levels.levels l.levels.broken) }
+    ensures ok { IfOk result (λ l. AreSideLevels st.old states.now left right bound st.new ss.new l.goal.ends l.levels.levels l.levels.broken) }
     ensures goal { IfOk result (λ l. IsGoalOf st.new l.goal.ends l.goal.seen.entries) }
 {
-    let mut goal = OneSide::new(st, rows, left, right, bound)?;
+    let mut goal = OneSide::new(st, states, left, right, bound)?;
     let from = identity(st)?;
     let s = ss.intern(start_alone(st.alloc())?)?;
     st.laws();
-    let lv = levels(st, ss, rows, s, from, &mut goal)?;
+    let lv = levels(st, ss, states, s, from, &mut goal)?;
     Ok(LevelsOfBoth { levels: lv, goal })
 }
 

@@ -2,6 +2,7 @@
 //! of two policies together; and the comparison of two policies, with the printed certificate or the least history of one alone.
 #![tactic(auto)]
 
+mod certificate;
 mod checking;
 mod compared;
 mod comparison;
@@ -14,8 +15,8 @@ mod naming;
 mod packets;
 mod pairing;
 mod printed;
-mod shape;
 
+pub use certificate::{CertPart, Certificate, Verdict};
 pub use checking::check_policies;
 pub use compared::Compared;
 pub use comparison::compare_policies;
@@ -24,4 +25,3 @@ pub use leveling::{LevelsOfBoth, levels_of_both};
 pub use naming::check;
 pub use pairing::{Both, automaton_of_both, number_behind};
 pub use printed::certificate_of;
-pub use shape::{CertPart, Certificate, Verdict};

@@ -8,10 +8,10 @@ ghost use Rattle.nk_cert.specs.Verdicts.{HasPredicates, IsFinding};
 ghost use Rattle.nk_cert.specs.Values.{certificate_value, finding_of};
 ghost use Rattle.nk_cert.specs.Answers.{IsChecked};
 
+use crate::certificate::{Certificate, Verdict};
 use crate::checking::check_policies;
 use crate::error::CheckError;
 use crate::pairing::number_behind;
-use crate::shape::{Certificate, Verdict};
 use nk_field::Fields;
 use nk_names::Program;
 use nk_policy::{Pol, marked};

@@ -18,7 +18,7 @@ use std::alloc::AllocError;
 #[derive(Drop)]
 pub struct Both {
     /// The diagram of both starts together, then one for each dup of the left policy, then one for each of the right one's.
-    pub rows: List<Id>,
+    pub states: List<Id>,
     /// The diagram of the left policy's start.
     pub left: Id,
     /// The diagram of the right policy's start.
@@ -35,17 +35,21 @@ pub fn automaton_of_both(st: &mut Store, p: &Pol, q: &Pol) -> Result<Both, Alloc
     requires right_fit { IsFit st.old.maxes (tree_of q.now) }
     ensures grows { Grows st.old st.new }
     ensures ok { IfOk result (λ b. (fields : FieldTable) → IsOver fields st.old
-        → IsAutomatonOfBoth fields st.new b.rows b.left b.right (tree_of p.now) (tree_of q.now)) }
+        → IsAutomatonOfBoth fields st.new b.states b.left b.right (tree_of p.now) (tree_of q.now)) }
 {
-    let mut rows = policy_automaton(st, p, 1)?;
+    let mut states = policy_automaton(st, p, 1)?;
     let others = policy_automaton(st, q, number_behind(p))?;
-    let left = *rows.at(0);
+    let left = *states.at(0);
     let right = *others.at(0);
     let start = union(st, left, right)?;
-    rows.put(0, start);
-    push_rest(&mut rows, others.as_slice())?;
+    states.put(0, start);
+    push_rest(&mut states, others.as_slice())?;
     st.laws();
-    Ok(Both { rows, left, right })
+    Ok(Both {
+        states,
+        left,
+        right,
+    })
 }
 
 /// The number behind those of a policy's dups, which are numbered from 1 on.
@@ -56,20 +60,20 @@ pub fn number_behind(p: &Pol) -> u32
     1 + dups(p) as u32
 }
 
-/// Puts all rows but the first behind others.
-fn push_rest(rows: &mut List<Id>, others: &[Id]) -> Result<(), AllocError>
+/// Puts all states but the first behind others.
+fn push_rest(states: &mut List<Id>, others: &[Id]) -> Result<(), AllocError>
     requires { 0 < length others.now }
-    ensures { OnOk result (rows.new ≡ rows.old ++ drop 1 others.now) }
+    ensures { OnOk result (states.new ≡ states.old ++ drop 1 others.now) }
 {
-    push_all(rows, &others[1..])
+    push_all(states, &others[1..])
 }
 
-/// Puts rows behind others.
-fn push_all(rows: &mut List<Id>, more: &[Id]) -> Result<(), AllocError>
-    ensures { OnOk result (rows.new ≡ rows.old ++ more.now) }
+/// Puts states behind others.
+fn push_all(states: &mut List<Id>, more: &[Id]) -> Result<(), AllocError>
+    ensures { OnOk result (states.new ≡ states.old ++ more.now) }
 {
-    for row in more {
-        rows.push(*row)?;
+    for state in more {
+        states.push(*state)?;
     }
     Ok(())
 }

@@ -10,7 +10,7 @@ ghost use Rattle.nk_cert.specs.FromLevels.{HaveRows, IsCertificateOf};
 ghost use Rattle.nk_cert.specs.Values.{row_value, row_values, certificate_value};
 ghost use Rattle.nk_cert.specs.Later.{packets_at, IsRowBy, AreLaterPackets};
 
-use crate::shape::Certificate;
+use crate::certificate::Certificate;
 use indexmap::IndexMap;
 use nk_algebra::empty;
 use nk_determ::{SetId, Sets};

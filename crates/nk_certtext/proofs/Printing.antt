@@ -4,7 +4,7 @@ use Rattle.std.specs.List.{flat_map}
 use Rattle.nk_field.specs.Packet.{FieldTable}
 use Rattle.nk_policy.specs.Tree.{tree_of}
 use Rattle.nk_policy.specs.declared.policy.Pol.{Pol}
-use Rattle.nk_cert.specs.declared.shape.Certificate.{Certificate}
+use Rattle.nk_cert.specs.declared.certificate.Certificate.{Certificate}
 use Rattle.nk_cert.specs.Values.{row_value, row_values, certificate_value}
 use Rattle.nk_certtext.specs.Text.{predicate_bytes, row_bytes, cert_bytes}
 

@@ -15,12 +15,12 @@ use Rattle.nk_compile.specs.Refusals.{seen_with}
 use Rattle.nk_compile.proofs.Fitting.{fit}
 use Rattle.nk_compile.proofs.Making.{is_clear}
 
-pub begun_is : (fields : FieldTable) (topo : Topology) (tag : ℕ) (p : Policy) (first new : Held) (rows slice : List ℕ) →
+pub begun_is : (fields : FieldTable) (topo : Topology) (tag : ℕ) (p : Policy) (first new : Held) (states slice : List ℕ) →
     IsFieldTable fields → fields.tag ≡ Some tag → IsTopology topo → marked_from p 1 ≡ p → seen_with tag topo p ≡ None →
-    IsOver fields first → Grows first new → (IsFit first.maxes p → IsAutomaton new rows 1 p) → slice ≡ rows →
+    IsOver fields first → Grows first new → (IsFit first.maxes p → IsAutomaton new states 1 p) → slice ≡ states →
     NegatesPredicates p → IsInRange p fields → slice_index fields.maxima tag + 1 < 18446744073709551616 →
     IsBegun fields topo tag p new slice
-begun_is fields topo tag p first new rows slice table is topology numbered none over grows auto same complements range room = record {
+begun_is fields topo tag p first new states slice table is topology numbered none over grows auto same complements range room = record {
   clear = is_clear fields topo tag p table is topology numbered none;
   seen = none;
   over = over_grown fields first new over grows;

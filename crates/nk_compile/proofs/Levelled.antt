@@ -90,14 +90,14 @@ module _ (fields : FieldTable) (topo : Topology) (tag : ℕ) (p : Policy) (old f
       let r : IsPacket first pk = packet_in_range fields first pk (over_grown fields old first over grew) h.packet in
       (r, start_is.at pk r ∙ test_of fields topo tag first.maxes setup pk h)
 
-module _ (fields : FieldTable) (topo : Topology) (tag : ℕ) (p : Policy) (old : Held) (rows : List ℕ) (clear : IsClear fields topo tag p) (over : IsOver fields old) (auto : IsAutomaton old rows 1 p) (f : Found)
-    (k : IsLeastOff topo tag old rows f) where
+module _ (fields : FieldTable) (topo : Topology) (tag : ℕ) (p : Policy) (old : Held) (states : List ℕ) (clear : IsClear fields topo tag p) (over : IsOver fields old) (auto : IsAutomaton old states 1 p) (f : Found)
+    (k : IsLeastOff topo tag old states f) where
   -- what breaks the goal is a history off each edge port, and the other way round
-  breaks : (g : Found) → Breaks k.first rows (0 ∷ []) k.start k.bad g ↔ (IsAmong k.first k.start g.start × Gives p g.start g.records g.last × (is_no_edge topo g.last ≡ true))
+  breaks : (g : Found) → Breaks k.first states (0 ∷ []) k.start k.bad g ↔ (IsAmong k.first k.start g.start × Gives p g.start g.records g.last × (is_no_edge topo g.last ≡ true))
   breaks g =
-      breaks_given k.first rows (λ y. is_no_edge topo y ≡ true) k.bad k.wrong k.start p (stands old k.first rows 1 p auto k.grew) (numbered_distinct p 1 clear.numbered) k.tidy g
+      breaks_given k.first states (λ y. is_no_edge topo y ≡ true) k.bad k.wrong k.start p (stands old k.first states 1 p auto k.grew) (numbered_distinct p 1 clear.numbered) k.tidy g
 
-  off_of : (g : Found) → Breaks k.first rows (0 ∷ []) k.start k.bad g → EndsOffEdge fields topo p g
+  off_of : (g : Found) → Breaks k.first states (0 ∷ []) k.start k.bad g → EndsOffEdge fields topo p g
   off_of g b =
       let h = (breaks g).0 b in
       record {
@@ -106,7 +106,7 @@ module _ (fields : FieldTable) (topo : Topology) (tag : ℕ) (p : Policy) (old :
         off = not_both (is_edge topo (slice_index g.last 0) (slice_index g.last 1)) h.2;
       }
 
-  of_off : (g : Found) → EndsOffEdge fields topo p g → Breaks k.first rows (0 ∷ []) k.start k.bad g
+  of_off : (g : Found) → EndsOffEdge fields topo p g → Breaks k.first states (0 ∷ []) k.start k.bad g
   of_off g e =
       (breaks g).1 (
         is_among fields topo tag p old k.first k.start clear over k.grew k.start_is g.start e.starts,
@@ -118,11 +118,11 @@ module _ (fields : FieldTable) (topo : Topology) (tag : ℕ) (p : Policy) (old :
   pub least_off : IsLeast (EndsOffEdge fields topo p) f
   least_off = (off_of f k.least.0, λ g e. k.least.1 g (of_off g e))
 
-module _ (fields : FieldTable) (topo : Topology) (tag : ℕ) (p : Policy) (old : Held) (rows : List ℕ) (new : Held) (ss : List (List ℕ)) (ls : List (List (ℕ × ℕ))) (broken : Bool)
-    (clear : IsClear fields topo tag p) (over : IsOver fields old) (auto : IsAutomaton old rows 1 p) (lv : IsLevelled topo tag old rows new ss ls broken) where
+module _ (fields : FieldTable) (topo : Topology) (tag : ℕ) (p : Policy) (old : Held) (states : List ℕ) (new : Held) (ss : List (List ℕ)) (ls : List (List (ℕ × ℕ))) (broken : Bool)
+    (clear : IsClear fields topo tag p) (over : IsOver fields old) (auto : IsAutomaton old states 1 p) (lv : IsLevelled topo tag old states new ss ls broken) where
   -- the automaton in the store where the levels began
-  pub auto_then : IsAutomaton lv.first rows 1 p
-  auto_then = stands old lv.first rows 1 p auto lv.grew
+  pub auto_then : IsAutomaton lv.first states 1 p
+  auto_then = stands old lv.first states 1 p auto lv.grew
 
   -- the packets of the first level are those that start
   pub among_start : (pk : Packet) → IsAmong lv.first lv.start pk → IsStart fields topo pk
@@ -136,8 +136,8 @@ module _ (fields : FieldTable) (topo : Topology) (tag : ℕ) (p : Policy) (old :
       IsTrue (is_edge topo (slice_index last 0) (slice_index last 1))
   all_end e pk w last start gives =
       holds_unless (is_edge topo (slice_index last 0) (slice_index last 1)) (λ off.
-      none_ends lv.first new ss rows lv.set lv.start lv.bad ls p (λ y. is_no_edge topo y ≡ true) auto_then (numbered_distinct p 1 clear.numbered) lv.tidy lv.set_is (is_alert lv.first rows (λ y. is_no_edge topo y ≡ true) lv.bad lv.wrong)
-      (subst (AreLevels lv.first new ss rows lv.set lv.start lv.bad ls) e lv.are)
+      none_ends lv.first new ss states lv.set lv.start lv.bad ls p (λ y. is_no_edge topo y ≡ true) auto_then (numbered_distinct p 1 clear.numbered) lv.tidy lv.set_is (is_alert lv.first states (λ y. is_no_edge topo y ≡ true) lv.bad lv.wrong)
+      (subst (AreLevels lv.first new ss states lv.set lv.start lv.bad ls) e lv.are)
       (pk, w, last, start_among pk start, gives, off))
 
   distinct : HasDistinct p
@@ -147,12 +147,12 @@ module _ (fields : FieldTable) (topo : Topology) (tag : ℕ) (p : Policy) (old :
   pub numbers_are_tags : broken ≡ false → Differ ss → (r : List ℕ) → AreNumbers ss ls r → AreTags p (IsStart fields topo) (sets_of ss r)
   numbers_are_tags e differ r k =
       tags_too p (IsAmong lv.first lv.start) (IsStart fields topo) among_start start_among (sets_of ss r)
-      (are_tags lv.first new ss rows lv.set lv.start lv.bad ls p auto_then distinct lv.tidy lv.set_is (subst (AreLevels lv.first new ss rows lv.set lv.start lv.bad ls) e lv.are) clear.dups_in_links differ lv.grows r k)
+      (are_tags lv.first new ss states lv.set lv.start lv.bad ls p auto_then distinct lv.tidy lv.set_is (subst (AreLevels lv.first new ss states lv.set lv.start lv.bad ls) e lv.are) clear.dups_in_links differ lv.grows r k)
 
   -- where there are so many of them, there are as many tag sets
   pub many_are_tags : broken ≡ false → Differ ss → (least : ℕ) → AtLeast least (IsAtOdd ls) → AtLeast least (IsTagSet p (IsStart fields topo))
   many_are_tags e differ least k =
-      let h = many_tags lv.first new ss rows lv.set lv.start lv.bad ls p auto_then distinct lv.tidy lv.set_is (subst (AreLevels lv.first new ss rows lv.set lv.start lv.bad ls) e lv.are) differ lv.grows least k in
+      let h = many_tags lv.first new ss states lv.set lv.start lv.bad ls p auto_then distinct lv.tidy lv.set_is (subst (AreLevels lv.first new ss states lv.set lv.start lv.bad ls) e lv.are) differ lv.grows least k in
       (h.0, h.1, h.2, λ i d lt. tag_set_too p (IsAmong lv.first lv.start) (IsStart fields topo) among_start start_among (get_or h.0 i d) (h.3 i d lt))
 
 -- at most so many tag sets
@@ -180,13 +180,13 @@ named_known st ss count [] k s h = absurd h
 named_known st ss count (x ∷ xs) k s (inl e) = subst (λ n. n < length ss) e k.0.known
 named_known st ss count (x ∷ xs) k s (inr h) = named_known st ss count xs k.1 s h
 
-module _ (old st : Held) (ss : List (List ℕ)) (rows : List ℕ) (set start : ℕ) (bad : List ℕ → List ℕ → List Out) (ls : List (List (ℕ × ℕ))) (broken : Bool)
-    (are : AreLevels old st ss rows set start bad ls broken) where
+module _ (old st : Held) (ss : List (List ℕ)) (states : List ℕ) (set start : ℕ) (bad : List ℕ → List ℕ → List Out) (ls : List (List (ℕ × ℕ))) (broken : Bool)
+    (are : AreLevels old st ss states set start bad ls broken) where
   -- the entries of levels are of known sets, a set once
   pub entries_are : AreEntries ss ls
   entries_are i lt =
       let k = are.pairs i lt in
-      (all_each (IsPair st ss (length rows)) (λ e. e.0 < length ss) (λ e p. p.known) (get_or ls i []) k.each, k.once)
+      (all_each (IsPair st ss (length states)) (λ e. e.0 < length ss) (λ e p. p.known) (get_or ls i []) k.each, k.once)
 
   -- so the numbers of the sets at odd levels are of known sets
   pub numbers_known : (r : List ℕ) → AreNumbers ss ls r → All (λ s. s < length ss) r
@@ -196,27 +196,27 @@ module _ (old st : Held) (ss : List (List ℕ)) (rows : List ℕ) (set start : �
     where
       named : (i s : ℕ) → Named (get_or ls i []) s → s < length ss
       named i s h = elim (leb_tells (suc i) (length ls)) [
-        | inl inside ↦ named_known st ss (length rows) (get_or ls i []) (are.pairs i (omega (arith, inside.1))).each s h
+        | inl inside ↦ named_known st ss (length states) (get_or ls i []) (are.pairs i (omega (arith, inside.1))).each s h
         | inr past ↦ absurd (subst (λ (l : List (ℕ × ℕ)). Named l s) (none_past ls i (omega (arith, past.1))) h)
       ]
 
-module _ (fields : FieldTable) (topo : Topology) (tag : ℕ) (p : Policy) (old : Held) (rows : List ℕ) (new : Held) (ss : List (List ℕ)) (ls : List (List (ℕ × ℕ))) (broken : Bool)
-    (clear : IsClear fields topo tag p) (over : IsOver fields old) (auto : IsAutomaton old rows 1 p) (lv : IsLevelled topo tag old rows new ss ls broken)
+module _ (fields : FieldTable) (topo : Topology) (tag : ℕ) (p : Policy) (old : Held) (states : List ℕ) (new : Held) (ss : List (List ℕ)) (ls : List (List (ℕ × ℕ))) (broken : Bool)
+    (clear : IsClear fields topo tag p) (over : IsOver fields old) (auto : IsAutomaton old states 1 p) (lv : IsLevelled topo tag old states new ss ls broken)
     (whole : broken ≡ false) (differ : Differ ss) (ascend : Ascend ss) (has : HasFields new) (r : List ℕ) (numbers : AreNumbers ss ls r) where
   grown : Grows old new
   grown = grows_on old lv.first new lv.grew lv.grows
 
   in_order : AreTags p (IsStart fields topo) (sets_of ss r)
-  in_order = numbers_are_tags fields topo tag p old rows new ss ls broken clear over auto lv whole differ r numbers
+  in_order = numbers_are_tags fields topo tag p old states new ss ls broken clear over auto lv whole differ r numbers
 
   -- all that the tables are made of is there
-  pub is_ready : IsReady fields topo p new ss rows r
+  pub is_ready : IsReady fields topo p new ss states r
   is_ready = record {
     over = over_grown fields old new over grown;
     has = has;
-    automaton = stands old new rows 1 p auto grown;
+    automaton = stands old new states 1 p auto grown;
     ascend = ascend;
-    known = numbers_known lv.first new ss rows lv.set lv.start lv.bad ls broken lv.are r numbers;
+    known = numbers_known lv.first new ss states lv.set lv.start lv.bad ls broken lv.are r numbers;
     in_order = in_order;
   }
 
@@ -224,7 +224,7 @@ module _ (fields : FieldTable) (topo : Topology) (tag : ℕ) (p : Policy) (old :
   pub are_made : (most : ℕ) → length r ≤ most → most ≡ slice_index fields.maxima tag → (ts : List Table) →
       ((t : Tables) → t.fields ≡ fields → t.topo ≡ topo → t.tables ≡ ts → IsTableOf fields topo (IsStart fields topo) p t) → AreMade fields topo p ts
   are_made most few is ts printed = record {
-    compilable = is_compilable fields topo tag p clear (λ pk w last start gives. all_end fields topo tag p old rows new ss ls broken clear over auto lv whole pk w last start gives);
+    compilable = is_compilable fields topo tag p clear (λ pk w last start gives. all_end fields topo tag p old states new ss ls broken clear over auto lv whole pk w last start gives);
     few = tags_few p (IsStart fields topo) (sets_of ss r) (most_tags fields fields.tag) in_order
         (subst (λ n. n ≤ most_tags fields fields.tag) (sym (length-map r (λ s. get_or ss s []))) (subst (λ n. length r ≤ n) (is ∙ sym (ap (most_tags fields) clear.tag_is)) few));
     printed = printed;

@@ -106,17 +106,17 @@ module _ (fields : FieldTable) (topo : Topology) (tag : ℕ) (p : Policy) (is : 
   none_seen = ap (λ o. seen_for o topo p) is ∙ none
 
   -- the least history off each edge port is a reason
-  pub off_error : (old : Held) (rows : List ℕ) (e : CompileError) → ((f : Found) → IsLeastOff topo tag old rows f → IsLeast (EndsOffEdge fields topo p) f) →
-      IsOffFault topo tag old rows e → IsError fields topo p e
-  off_error old rows NoMemory to h = tt
-  off_error old rows (Refused (OffEdge start history)) to h = (none_seen, to (found_from start history) h)
-  off_error old rows (Refused NoPolicy) to h = absurd h
-  off_error old rows (Refused NoTag) to h = absurd h
-  off_error old rows (Refused TagUsed) to h = absurd h
-  off_error old rows (Refused LooseDup) to h = absurd h
-  off_error old rows (Refused SwitchSet) to h = absurd h
-  off_error old rows (Refused NoSuchLink) to h = absurd h
-  off_error old rows (Refused (TooManyTags found)) to h = absurd h
+  pub off_error : (old : Held) (states : List ℕ) (e : CompileError) → ((f : Found) → IsLeastOff topo tag old states f → IsLeast (EndsOffEdge fields topo p) f) →
+      IsOffFault topo tag old states e → IsError fields topo p e
+  off_error old states NoMemory to h = tt
+  off_error old states (Refused (OffEdge start history)) to h = (none_seen, to (found_from start history) h)
+  off_error old states (Refused NoPolicy) to h = absurd h
+  off_error old states (Refused NoTag) to h = absurd h
+  off_error old states (Refused TagUsed) to h = absurd h
+  off_error old states (Refused LooseDup) to h = absurd h
+  off_error old states (Refused SwitchSet) to h = absurd h
+  off_error old states (Refused NoSuchLink) to h = absurd h
+  off_error old states (Refused (TooManyTags found)) to h = absurd h
 
   -- so are too many sets
   pub many_error : (levels : List (List (ℕ × ℕ))) (max : ℕ) (e : CompileError) → EndsOnEdges fields topo p → max ≡ slice_index fields.maxima tag →

@@ -1,4 +1,4 @@
--- The tables that are made of an automaton's rows are the printed ones: where the rows of a tag lead with a tag is a result
+-- The tables that are made of an automaton's states are the printed ones: where the states of a tag lead with a tag is a result
 -- of that tag's states.
 use Rattle.std.proofs.Common.{◌≡◌, ℕ, zero, suc, ◌+◌, ◌<◌, ◌≤◌, ◌↔◌, true, ⊎_elim, inl, inr, Some, List, [], ◌∷◌, length, get_or, take, refl, sym, ap, subst, ◌∙◌, arith}
 use Rattle.std.specs.Prelude.{All, map, Contains, slice_get}
@@ -21,7 +21,7 @@ use Rattle.nk_policy.proofs.LinkStructure.{holds_second}
 use Rattle.nk_store.specs.Diagram.{IsReduced, leaf_at}
 use Rattle.nk_store.specs.Held.{Held, IsPacket as IsPacketOf}
 use Rattle.nk_store.proofs.InRange.{packet_in_range}
-use Rattle.nk_determ.specs.States.{RowLeads}
+use Rattle.nk_determ.specs.States.{StateLeads}
 use Rattle.nk_extract.specs.Buckets.{AreBuckets}
 use Rattle.nk_group.specs.Groups.{groups_of, rows_after}
 use Rattle.nk_table.specs.declared.Table.{Table}
@@ -33,7 +33,7 @@ use Rattle.nk_compile.specs.WholeTable.{HasRowsAt, IsSwitchTable}
 use Rattle.nk_compile.specs.Ready.{sets_of, IsClear, IsReady}
 use Rattle.nk_compile.proofs.Fitting.{set_up}
 use Rattle.nk_compile.proofs.Reached.{same_some}
-use Rattle.nk_compile.proofs.Standing.{at_later, row_state, IsTagged, members_off, rows_stay}
+use Rattle.nk_compile.proofs.Standing.{at_later, position_state, IsTagged, members_off, states_stay}
 
 -- the set at a place
 pub set_there : (ss : List (List ℕ)) (tags : List ℕ) (t : ℕ) → t < length tags → slice_get (sets_of ss tags) t ≡ Some (set_of ss tags t)
@@ -56,7 +56,7 @@ set_contained ss tags t lt = contains_from_in _ _ (there tags t lt)
     there (x ∷ is) zero l = inl refl
     there (x ∷ is) (suc i) l = inr (there is i (omega (arith, l)))
 
-module _ (fields : FieldTable) (topo : Topology) (tag : ℕ) (p : Policy) (st : Held) (ss : List (List ℕ)) (rows tags : List ℕ) (clear : IsClear fields topo tag p) (ready : IsReady fields topo p st ss rows tags)
+module _ (fields : FieldTable) (topo : Topology) (tag : ℕ) (p : Policy) (st : Held) (ss : List (List ℕ)) (states tags : List ℕ) (clear : IsClear fields topo tag p) (ready : IsReady fields topo p st ss states tags)
     (tagged : (i : ℕ) → i < length tags → IsTagged p ss tags i) where
   distinct : HasDistinct p
   distinct = numbered_distinct p 1 clear.numbered
@@ -68,14 +68,14 @@ module _ (fields : FieldTable) (topo : Topology) (tag : ℕ) (p : Policy) (st : 
   pub tagged_at : (t : ℕ) → t ≤ length tags → (i : ℕ) → t ≡ suc i → IsTagged p ss tags i
   tagged_at t le i e = tagged i (omega (arith, le, e))
 
-  -- the number of a dup is a place of a row
-  pub dup_place : (l : ℕ) → has_dup p l ≡ true → (1 ≤ l) × (l < length rows)
+  -- the number of a dup is a place of a state
+  pub dup_place : (l : ℕ) → has_dup p l ≡ true → (1 ≤ l) × (l < length states)
   dup_place l h =
       let w = number_within p 1 l (ap (λ q. has_dup q l) clear.numbered ∙ h) in
       (w.0, let c = ready.automaton.count in omega (arith, w.1, c))
 
-  -- the positions of a tag are places of rows
-  pub member_place : (t : ℕ) → t ≤ length tags → (l : ℕ) → Contains (members_of ss tags t) l → l < length rows
+  -- the positions of a tag are places of states
+  pub member_place : (t : ℕ) → t ≤ length tags → (l : ℕ) → Contains (members_of ss tags t) l → l < length states
   member_place zero le l c =
       ⊎_elim (λ e. let n = ready.automaton.count in omega (arith, e, n)) (λ i. absurd i) (in_from_contains (0 ∷ []) l c)
   member_place (suc i) le l c =
@@ -86,12 +86,12 @@ module _ (fields : FieldTable) (topo : Topology) (tag : ℕ) (p : Policy) (st : 
       let f : l ≡ m.0 + 1 = m.2 in
       omega (arith, w.1, e, f)
 
-  -- so a tag's rows can be put into the table of a switch
-  pub tag_at : (sw t : ℕ) → t ≤ length tags → IsTagAt st ss rows tags tag sw t
+  -- so a tag's states can be put into the table of a switch
+  pub tag_at : (sw t : ℕ) → t ≤ length tags → IsTagAt st ss states tags tag sw t
   tag_at sw t le = record {
     within = le;
-    places = all_from_members (λ l. l < length rows) (members_of ss tags t) (λ l i. member_place t le l (contains_from_in _ _ i));
-    stay = rows_stay p tag past distinct clear.tag_free clear.dups_in_links clear.switch_in_links st rows (members_of ss tags t) ready.automaton
+    places = all_from_members (λ l. l < length states) (members_of ss tags t) (λ l i. member_place t le l (contains_from_in _ _ i));
+    stay = states_stay p tag past distinct clear.tag_free clear.dups_in_links clear.switch_in_links st states (members_of ss tags t) ready.automaton
         (member_place t le)
         (members_off p tag past distinct clear.tag_free clear.dups_in_links clear.switch_in_links ss tags t (tagged_at t le)) sw;
   }
@@ -113,22 +113,22 @@ module _ (fields : FieldTable) (topo : Topology) (tag : ℕ) (p : Policy) (st : 
       (h.1 + 1, contains_from_in _ _ (in_mapped (λ n. n + 1) (set_of ss tags i) h.1 (in_from_contains _ _ c)), at_later p h.1 ∙ sym h.4)
 
   module _ (t : ℕ) (le : t ≤ length tags) (pk : Packet) (r : IsPacketOf st pk) where
-    -- rows end where a state does
-    ends_are : (y : Packet) → RowLeads st rows (members_of ss tags t) pk y 0 ↔ IsResult p (sets_of ss tags) t pk y 0
+    -- they end where a policy of the tag does
+    ends_are : (y : Packet) → StateLeads st states (members_of ss tags t) pk y 0 ↔ IsResult p (sets_of ss tags) t pk y 0
     ends_are y = (
-      λ s. (at_position p s.0, state_of_member t le s.0 s.1, ((row_state st rows p ready.automaton s.0 (member_place t le s.0 s.1)).ends pk y r).0 s.2),
+      λ s. (at_position p s.0, state_of_member t le s.0 s.1, ((position_state st states p ready.automaton s.0 (member_place t le s.0 s.1)).ends pk y r).0 s.2),
       λ h.
           let m = member_of_state t h.0 h.1 in
-          (m.0, m.1, ((row_state st rows p ready.automaton m.0 (member_place t le m.0 m.1)).ends pk y r).1 (subst (λ q. Gives q pk [] y) (sym m.2) h.2)),
+          (m.0, m.1, ((position_state st states p ready.automaton m.0 (member_place t le m.0 m.1)).ends pk y r).1 (subst (λ q. Gives q pk [] y) (sym m.2) h.2)),
     )
 
     -- and record where one does
-    records_are : (y : Packet) (l : ℕ) → 1 ≤ l → RowLeads st rows (members_of ss tags t) pk y l ↔ StateRecords p (sets_of ss tags) t pk y l
+    records_are : (y : Packet) (l : ℕ) → 1 ≤ l → StateLeads st states (members_of ss tags t) pk y l ↔ StateRecords p (sets_of ss tags) t pk y l
     records_are y l one = (
-      λ s. (at_position p s.0, state_of_member t le s.0 s.1, ((row_state st rows p ready.automaton s.0 (member_place t le s.0 s.1)).records pk y l r one).0 s.2),
+      λ s. (at_position p s.0, state_of_member t le s.0 s.1, ((position_state st states p ready.automaton s.0 (member_place t le s.0 s.1)).records pk y l r one).0 s.2),
       λ h.
           let m = member_of_state t h.0 h.1 in
-          (m.0, m.1, ((row_state st rows p ready.automaton m.0 (member_place t le m.0 m.1)).records pk y l r one).1 (subst (λ q. RecordsAt q pk [] y l) (sym m.2) h.2)),
+          (m.0, m.1, ((position_state st states p ready.automaton m.0 (member_place t le m.0 m.1)).records pk y l r one).1 (subst (λ q. RecordsAt q pk [] y l) (sym m.2) h.2)),
     )
 
     -- what a state records has a number from 1 on
@@ -141,8 +141,8 @@ module _ (fields : FieldTable) (topo : Topology) (tag : ℕ) (p : Policy) (st : 
         held zero c = holds_dup p pk [] y l c
         held (suc k) c = rest_dups p (suc k) l (holds_dup (after p (suc k)) pk [] y l c)
 
-    -- where rows lead with a tag are the results
-    pub results_are : (y : Packet) (t' : ℕ) → LeadsWith st ss rows tags (members_of ss tags t) pk y t' ↔ IsResult p (sets_of ss tags) t pk y t'
+    -- where states lead with a tag are the results
+    pub results_are : (y : Packet) (t' : ℕ) → LeadsWith st ss states tags (members_of ss tags t) pk y t' ↔ IsResult p (sets_of ss tags) t pk y t'
     results_are y zero = ends_are y
     results_are y (suc i) = (
       λ h. (
@@ -179,14 +179,14 @@ module _ (fields : FieldTable) (topo : Topology) (tag : ℕ) (p : Policy) (st : 
   declared_are = ap (λ n. take n st.maxes) ready.over.width ∙ (set_up fields st tag clear.table ready.over clear.tag_is).front
 
   -- the tree of a tag is that of its states
-  tree_is : (sw : ℕ) (e : TagTree) → e.tag ≤ length tags → IsTagTree st ss rows tags tag sw e → IsTreeOf fields tag p (sets_of ss tags) e.tag sw e.tree
+  tree_is : (sw : ℕ) (e : TagTree) → e.tag ≤ length tags → IsTagTree st ss states tags tag sw e → IsTreeOf fields tag p (sets_of ss tags) e.tag sw e.tree
   tree_is sw e le k = record {
     reduced = subst (λ m. IsReduced e.tree m 1) declared_are k.reduced;
     tag_free = k.tag_free;
     leaves = λ pk packet here.
         let r : IsPacketOf st pk = packet_in_range fields st pk ready.over packet in
-        let buckets : AreBuckets (length fields.maxima) tag (λ y t. LeadsWith st ss rows tags (members_of ss tags e.tag) pk y t) pk (leaf_at e.tree [] pk) =
-        subst (λ n. AreBuckets n tag (λ y t. LeadsWith st ss rows tags (members_of ss tags e.tag) pk y t) pk (leaf_at e.tree [] pk)) ready.over.width (k.leaves pk r here) in
+        let buckets : AreBuckets (length fields.maxima) tag (λ y t. LeadsWith st ss states tags (members_of ss tags e.tag) pk y t) pk (leaf_at e.tree [] pk) =
+        subst (λ n. AreBuckets n tag (λ y t. LeadsWith st ss states tags (members_of ss tags e.tag) pk y t) pk (leaf_at e.tree [] pk)) ready.over.width (k.leaves pk r here) in
         record {
           exactly = λ b. (
             λ c. let h = (buckets.exactly b).0 c in (h.0, h.1, (results_are e.tag le pk r h.0 h.1).0 h.2, h.3),
@@ -198,7 +198,7 @@ module _ (fields : FieldTable) (topo : Topology) (tag : ℕ) (p : Policy) (st : 
 
   -- the table of a switch is the printed one
   pub switch_table_is : (s : Stop) (t : Table) → IsStrictlyIncreasing s.tags → ((n : ℕ) → Contains s.tags n ↔ HasRowsAt p (sets_of ss tags) s.switch n) → All (λ n. n ≤ length tags) s.tags →
-      IsTableAt st ss rows tags tag s t → IsSwitchTable fields tag p (sets_of ss tags) t
+      IsTableAt st ss states tags tag s t → IsSwitchTable fields tag p (sets_of ss tags) t
   switch_table_is s t ascend exactly within k = record {
     trees = k.trees;
     ascending = subst IsStrictlyIncreasing (sym k.tags_are) ascend;
@@ -206,7 +206,7 @@ module _ (fields : FieldTable) (topo : Topology) (tag : ℕ) (p : Policy) (st : 
         (subst (λ l. Contains l n ↔ HasRowsAt p (sets_of ss tags) s.switch n) (sym k.tags_are) (exactly n));
     each = all_from_members (λ (e : TagTree). IsTreeOf fields tag p (sets_of ss tags) e.tag t.switch e.tree) k.trees (λ e i.
         let le = members_from_all (λ n. n ≤ length tags) s.tags within e.tag (subst (λ l. In l e.tag) k.tags_are (in_mapped (λ (x : TagTree). x.tag) k.trees e i)) in
-        subst (λ sw. IsTreeOf fields tag p (sets_of ss tags) e.tag sw e.tree) (sym k.switch) (tree_is s.switch e le (members_from_all (IsTagTree st ss rows tags tag s.switch) k.trees k.each e i)));
+        subst (λ sw. IsTreeOf fields tag p (sets_of ss tags) e.tag sw e.tree) (sym k.switch) (tree_is s.switch e le (members_from_all (IsTagTree st ss states tags tag s.switch) k.trees k.each e i)));
     groups = k.groups ∙ ap (λ m. groups_of (rows_of_trees m tag k.trees)) declared_are;
     rows = k.rows ∙ ap (λ m. rows_after [] (rows_of_trees m tag k.trees)) declared_are;
   }

@@ -1,4 +1,4 @@
--- The rows of an automaton are the states of the policy's positions; those of a tag stay at their switch, and are alike
+-- The states of an automaton are those of the policy's positions; those of a tag stay at their switch, and are alike
 -- whatever the tag.
 use Rattle.std.proofs.Common.{◌≡◌, ℕ, zero, suc, ◌+◌, ◌<◌, ◌≤◌, false, ⊎_elim, List, [], ◌∷◌, length, get_or, refl, sym, ap, subst, ◌∙◌, arith}
 use Rattle.std.specs.Prelude.{Contains, slice_index, slice_set}
@@ -21,7 +21,7 @@ use Rattle.nk_policy.proofs.Parity.{no_records}
 use Rattle.nk_store.specs.Held.{Held, IsPacket}
 use Rattle.nk_store.proofs.Same.{set_in_range}
 use Rattle.nk_algebra.specs.Unions.{AreIds}
-use Rattle.nk_determ.specs.States.{RowLeads}
+use Rattle.nk_determ.specs.States.{StateLeads}
 use Rattle.nk_auto.specs.Automaton.{IsState, IsAutomaton}
 use Rattle.nk_switches.specs.States.{StayAt}
 use Rattle.nk_switches.specs.Tagged.{set_of, members_of}
@@ -31,17 +31,17 @@ use Rattle.nk_compile.proofs.TagFree.{uses_others, assigns_only, keeps_field, re
 pub at_later : (p : Policy) (l : ℕ) → at_position p (l + 1) ≡ after p (l + 1)
 at_later p l = let e : l + 1 ≡ suc l = omega arith in ap (at_position p) e ∙ ap (after p) (sym e)
 
-module _ (st : Held) (rows : List ℕ) (p : Policy) (auto : IsAutomaton st rows 1 p) where
-  -- each row is the state of its position
-  pub row_state : (l : ℕ) → l < length rows → IsState st (get_or rows l 0) (at_position p l)
-  row_state zero lt = auto.start
-  row_state (suc l) lt =
+module _ (st : Held) (states : List ℕ) (p : Policy) (auto : IsAutomaton st states 1 p) where
+  -- each is the state of its position
+  pub position_state : (l : ℕ) → l < length states → IsState st (get_or states l 0) (at_position p l)
+  position_state zero lt = auto.start
+  position_state (suc l) lt =
       let e : 1 + l ≡ suc l = omega arith in
-      subst (λ k. IsState st (get_or rows k 0) (after p k)) e (auto.rest l (omega (arith, lt, auto.count)))
+      subst (λ k. IsState st (get_or states k 0) (after p k)) e (auto.rest l (omega (arith, lt, auto.count)))
 
   -- and a diagram of the store
-  pub row_ids : AreIds st rows
-  row_ids l lt = (row_state l lt).id
+  pub state_ids : AreIds st states
+  state_ids l lt = (position_state l lt).id
 
 -- a tag's positions: behind the second dups of literals of the policy
 pub record IsTagged (p : Policy) (ss : List (List ℕ)) (tags : List ℕ) (t : ℕ) : Type 0 where
@@ -76,34 +76,34 @@ module _ (p : Policy) (tag : ℕ) (past : 2 ≤ tag) (distinct : HasDistinct p) 
       subst (λ n. IsOffLink p tag (at_position p n)) (ap (λ n. n + 1) k.2 ∙ sym m.2)
       (subst (IsOffLink p tag) (sym (at_later p k.0.mark)) (later_off k.0 k.1))
 
-  module _ (st : Held) (rows members : List ℕ) (auto : IsAutomaton st rows 1 p) (inside : (l : ℕ) → Contains members l → l < length rows)
+  module _ (st : Held) (states members : List ℕ) (auto : IsAutomaton st states 1 p) (inside : (l : ℕ) → Contains members l → l < length states)
       (off : (l : ℕ) → Contains members l → IsOffLink p tag (at_position p l)) where
-    -- a row stays at its switch and keeps the tag
-    keeps_at : (pk y : List ℕ) (t : ℕ) → IsPacket st pk → RowLeads st rows members pk y t → (slice_index y 0 ≡ slice_index pk 0) × (slice_index y tag ≡ slice_index pk tag)
+    -- a state stays at its switch and keeps the tag
+    keeps_at : (pk y : List ℕ) (t : ℕ) → IsPacket st pk → StateLeads st states members pk y t → (slice_index y 0 ≡ slice_index pk 0) × (slice_index y tag ≡ slice_index pk tag)
     keeps_at pk y zero r s =
         let o = off s.0 s.1 in
-        let g : Gives (at_position p s.0) pk [] y = ((row_state st rows p auto s.0 (inside s.0 s.1)).ends pk y r).0 s.2 in
+        let g : Gives (at_position p s.0) pk [] y = ((position_state st states p auto s.0 (inside s.0 s.1)).ends pk y r).0 s.2 in
         let v = (gives_is_runs (at_position p s.0) pk [] y).0 g in
         let run = subst (λ w. Runs (at_position p s.0) pk w y) (no_records v.0 v.1) v.2 in
         (o.between.ends pk y run, keeps_field tag (at_position p s.0) (assigns_only tag (at_position p s.0) o.others) pk [] y g)
     keeps_at pk y (suc t) r s =
         let o = off s.0 s.1 in
         let one : 1 ≤ suc t = omega arith in
-        let g : RecordsAt (at_position p s.0) pk [] y (suc t) = ((row_state st rows p auto s.0 (inside s.0 s.1)).records pk y (suc t) r one).0 s.2 in
+        let g : RecordsAt (at_position p s.0) pk [] y (suc t) = ((position_state st states p auto s.0 (inside s.0 s.1)).records pk y (suc t) r one).0 s.2 in
         ((o.between.records pk y (suc t) g).4, records_field tag (at_position p s.0) (assigns_only tag (at_position p s.0) o.others) pk [] y (suc t) g)
 
     -- and does the same for packets that differ in the tag alone
-    free_at : (pk y : List ℕ) (t n : ℕ) → IsPacket st pk → IsPacket st (slice_set pk tag n) → RowLeads st rows members pk y t → RowLeads st rows members (slice_set pk tag n) (slice_set y tag n) t
+    free_at : (pk y : List ℕ) (t n : ℕ) → IsPacket st pk → IsPacket st (slice_set pk tag n) → StateLeads st states members pk y t → StateLeads st states members (slice_set pk tag n) (slice_set y tag n) t
     free_at pk y zero n r there s =
-        let q = row_state st rows p auto s.0 (inside s.0 s.1) in
+        let q = position_state st states p auto s.0 (inside s.0 s.1) in
         (s.0, s.1, (q.ends (slice_set pk tag n) (slice_set y tag n) there).1 (ends_stay tag (at_position p s.0) (off s.0 s.1).others n pk y ((q.ends pk y r).0 s.2)))
     free_at pk y (suc t) n r there s =
-        let q = row_state st rows p auto s.0 (inside s.0 s.1) in
+        let q = position_state st states p auto s.0 (inside s.0 s.1) in
         let one : 1 ≤ suc t = omega arith in
         (s.0, s.1, (q.records (slice_set pk tag n) (slice_set y tag n) (suc t) there one).1 (first_records_stay tag (at_position p s.0) (off s.0 s.1).others n pk y (suc t) ((q.records pk y (suc t) r one).0 s.2)))
 
-    pub rows_stay : (sw : ℕ) → StayAt st tag sw rows members
-    rows_stay sw = record {
+    pub states_stay : (sw : ℕ) → StayAt st tag sw states members
+    states_stay sw = record {
       keeps = λ pk y t r here s. let k = keeps_at pk y t r s in (k.0 ∙ here, k.1);
       free = λ pk y t n r here le s. free_at pk y t n r (set_in_range st.maxes pk tag n r le) s;
     }

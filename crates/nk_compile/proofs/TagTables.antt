@@ -1,4 +1,4 @@
--- The tables that are made of the rows and the tag sets of a policy are the printed ones.
+-- The tables that are made of the states and the tag sets of a policy are the printed ones.
 use Rattle.std.proofs.Common.{◌≡◌, ◌≢◌, ℕ, zero, suc, ◌<◌, ◌↔◌, Option, Some, None, true, List, [], ◌∷◌, length, get_or, inl, refl, sym, ap, subst, ◌∙◌}
 use Rattle.std.specs.Prelude.{All, map, Contains}
 use Rattle.nk_field.specs.Packet.{FieldTable}
@@ -36,7 +36,7 @@ first_of : (ends : List (Option ℕ)) (s : List ℕ) → s ≢ [] → (l : ℕ) 
 first_of ends [] h = absurd (h refl)
 first_of ends (l ∷ ls) h = (l, contains_from_in (l ∷ ls) l (inl refl), refl)
 
-module _ (fields : FieldTable) (topo : Topology) (tag : ℕ) (p : Policy) (st : Held) (ss : List (List ℕ)) (rows tags : List ℕ) (clear : IsClear fields topo tag p) (ready : IsReady fields topo p st ss rows tags) where
+module _ (fields : FieldTable) (topo : Topology) (tag : ℕ) (p : Policy) (st : Held) (ss : List (List ℕ)) (states tags : List ℕ) (clear : IsClear fields topo tag p) (ready : IsReady fields topo p st ss states tags) where
   distinct : HasDistinct p
   distinct = numbered_distinct p 1 clear.numbered
 
@@ -60,12 +60,12 @@ module _ (fields : FieldTable) (topo : Topology) (tag : ℕ) (p : Policy) (st : 
   pub ready_frame : IsFrame st st.width tag
   ready_frame = frame fields st tag clear.table ready.over clear.tag_is ready.has
 
-  module _ (ends : List (Option ℕ)) (each : (l : ℕ) → l < length rows → get_or ends l None ≡ link_end p l) where
+  module _ (ends : List (Option ℕ)) (each : (l : ℕ) → l < length states → get_or ends l None ≡ link_end p l) where
     -- a member's place in the list of ends
     member_end : (i : ℕ) → i < length tags → (l : ℕ) → Contains (set_of ss tags i) l → get_or ends l None ≡ link_end p l
     member_end i lt l c =
         let k = (tagged i lt).literal l c in
-        each l (dup_place fields topo tag p st ss rows tags clear ready tagged l (subst (λ n. has_dup p n ≡ true) k.2 (holds_first p k.0 k.1))).1
+        each l (dup_place fields topo tag p st ss states tags clear ready tagged l (subst (λ n. has_dup p n ≡ true) k.2 (holds_first p k.0 k.1))).1
 
     -- a tag comes to a switch exactly where it has rows there
     comes_rows : (sw t : ℕ) → ComesTo ends ss tags (length tags) sw t ↔ HasRowsAt p (sets_of ss tags) sw t
@@ -86,18 +86,18 @@ module _ (fields : FieldTable) (topo : Topology) (tag : ℕ) (p : Policy) (st : 
     )
 
     -- a switch's tags can be put into its table
-    pub stop_is : (s : Stop) → HasComing ends ss tags (length tags) s → IsStop st ss rows tags tag s
-    stop_is s k j d lt = tag_at fields topo tag p st ss rows tags clear ready tagged s.switch (get_or s.tags j d) (k.within j d lt)
+    pub stop_is : (s : Stop) → HasComing ends ss tags (length tags) s → IsStop st ss states tags tag s
+    stop_is s k j d lt = tag_at fields topo tag p st ss states tags clear ready tagged s.switch (get_or s.tags j d) (k.within j d lt)
 
     -- the table of a switch
-    table_is : (s : Stop) (t : Table) → HasComing ends ss tags (length tags) s → IsTableAt st ss rows tags tag s t → IsSwitchTable fields tag p (sets_of ss tags) t
+    table_is : (s : Stop) (t : Table) → HasComing ends ss tags (length tags) s → IsTableAt st ss states tags tag s t → IsSwitchTable fields tag p (sets_of ss tags) t
     table_is s t k at =
-        switch_table_is fields topo tag p st ss rows tags clear ready tagged s t k.ascend
+        switch_table_is fields topo tag p st ss states tags clear ready tagged s t k.ascend
         (λ n. let a = k.exactly n in let b = comes_rows s.switch n in (λ c. b.0 (a.0 c), λ h. a.1 (b.1 h))) k.within at
 
     -- the tables of all switches
     pub tables_are : (stops : List Stop) (ts : List Table) → map (λ (s : Stop). s.switch) stops ≡ numbers_of topo → All (HasComing ends ss tags (length tags)) stops →
-        Matched (IsTableAt st ss rows tags tag) stops ts → (t : Tables) → t.fields ≡ fields → t.topo ≡ topo → t.tables ≡ ts → IsTableOf fields topo (IsStart fields topo) p t
+        Matched (IsTableAt st ss states tags tag) stops ts → (t : Tables) → t.fields ≡ fields → t.topo ≡ topo → t.tables ≡ ts → IsTableOf fields topo (IsStart fields topo) p t
     tables_are stops ts switches coming m t same_fields same_topology are = record {
       tag = tag;
       tags = sets_of ss tags;
@@ -107,8 +107,8 @@ module _ (fields : FieldTable) (topo : Topology) (tag : ℕ) (p : Policy) (st : 
       same_topology = same_topology;
       switches =
           ap (map (λ (u : Table). u.switch)) are
-          ∙ matched_maps (IsTableAt st ss rows tags tag) (λ (s : Stop). s.switch) (λ (u : Table). u.switch) (λ s u k. k.switch) stops ts m ∙ switches;
+          ∙ matched_maps (IsTableAt st ss states tags tag) (λ (s : Stop). s.switch) (λ (u : Table). u.switch) (λ s u k. k.switch) stops ts m ∙ switches;
       each = subst (All (IsSwitchTable fields tag p (sets_of ss tags))) (sym are) (all_from_members (IsSwitchTable fields tag p (sets_of ss tags)) ts (λ u i.
-          let s = of_second (IsTableAt st ss rows tags tag) stops ts u m i in
+          let s = of_second (IsTableAt st ss states tags tag) stops ts u m i in
           table_is s.0 u (members_from_all (HasComing ends ss tags (length tags)) stops coming s.0 s.1) s.2));
     }

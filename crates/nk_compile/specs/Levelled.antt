@@ -18,8 +18,8 @@ use Rattle.nk_places.specs.Edges.{is_start, is_no_edge}
 use Rattle.nk_places.specs.PacketSets.{IsSetInRange}
 use Rattle.nk_compile.specs.Refusals.{found_from}
 
--- the levels of these rows from the start packets; they are broken where a member ends at no edge port
-pub record IsLevelled (topo : Topology) (tag : ℕ) (old : Held) (rows : List ℕ) (new : Held) (ss : List (List ℕ)) (levels : List (List (ℕ × ℕ))) (broken : Bool) : Type 0 where
+-- the levels of these states from the start packets; they are broken where a member ends at no edge port
+pub record IsLevelled (topo : Topology) (tag : ℕ) (old : Held) (states : List ℕ) (new : Held) (ss : List (List ℕ)) (levels : List (List (ℕ × ℕ))) (broken : Bool) : Type 0 where
   pub first : Held
   pub grew : Grows old first
   pub grows : Grows first new
@@ -29,25 +29,25 @@ pub record IsLevelled (topo : Topology) (tag : ℕ) (old : Held) (rows : List �
   pub bad : List ℕ → List ℕ → List Out
   pub set_is : slice_index_or ss set [] ≡ 0 ∷ []
   pub start_is : IsSetInRange first start (is_start topo tag)
-  pub wrong : AreWrongEnds first rows (is_no_edge topo) bad
-  pub are : AreLevels first new ss rows set start bad levels broken
+  pub wrong : AreWrongEnds first states (is_no_edge topo) bad
+  pub are : AreLevels first new ss states set start bad levels broken
 
--- the least history from the start packets along these rows that ends at no edge port
-pub record IsLeastOff (topo : Topology) (tag : ℕ) (old : Held) (rows : List ℕ) (f : Found) : Type 0 where
+-- the least history from the start packets along these states that ends at no edge port
+pub record IsLeastOff (topo : Topology) (tag : ℕ) (old : Held) (states : List ℕ) (f : Found) : Type 0 where
   pub first : Held
   pub grew : Grows old first
   pub tidy : AreTidy first
   pub start : ℕ
   pub bad : List ℕ → List ℕ → List Out
   pub start_is : IsSetInRange first start (is_start topo tag)
-  pub wrong : AreWrongEnds first rows (is_no_edge topo) bad
-  pub least : IsLeast (Breaks first rows (0 ∷ []) start bad) f
+  pub wrong : AreWrongEnds first states (is_no_edge topo) bad
+  pub least : IsLeast (Breaks first states (0 ∷ []) start bad) f
 
 -- why there are no levels without such an end: memory ran out, or the least history with one is told
 abbrev pub IsOffFault : Topology → ℕ → Held → List ℕ → CompileError → Type 0
-IsOffFault topo tag old rows compile.NoMemory = Unit {0}
-IsOffFault topo tag old rows (compile.Refused (refusal.OffEdge start history)) = IsLeastOff topo tag old rows (found_from start history)
-IsOffFault topo tag old rows (compile.Refused r) = ⊥
+IsOffFault topo tag old states compile.NoMemory = Unit {0}
+IsOffFault topo tag old states (compile.Refused (refusal.OffEdge start history)) = IsLeastOff topo tag old states (found_from start history)
+IsOffFault topo tag old states (compile.Refused r) = ⊥
 
 -- the fault of numbers as one of compilation
 abbrev pub fault_of : NumberError → CompileError

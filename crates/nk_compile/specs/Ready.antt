@@ -26,19 +26,19 @@ pub record IsClear (fields : FieldTable) (topo : Topology) (tag : ℕ) (p : Poli
 abbrev pub sets_of : List (List ℕ) → List ℕ → List (List ℕ)
 sets_of ss tags = map (λ s. slice_index_or ss s []) tags
 
--- the automaton's rows in a store over the fields, and the numbers of the tag sets in order
-pub record IsReady (fields : FieldTable) (topo : Topology) (p : Policy) (st : Held) (ss : List (List ℕ)) (rows tags : List ℕ) : Type 0 where
+-- the automaton's states in a store over the fields, and the numbers of the tag sets in order
+pub record IsReady (fields : FieldTable) (topo : Topology) (p : Policy) (st : Held) (ss : List (List ℕ)) (states tags : List ℕ) : Type 0 where
   pub over : IsOver fields st
   pub has : HasFields st
-  pub automaton : IsAutomaton st rows 1 p
+  pub automaton : IsAutomaton st states 1 p
   pub ascend : Ascend ss
   pub known : All (λ s. s < length ss) tags
   pub in_order : AreTags p (IsStart fields topo) (sets_of ss tags)
 
--- a clear policy of which nothing is seen, with its automaton's rows in a store over the fields
-pub record IsBegun (fields : FieldTable) (topo : Topology) (tag : ℕ) (p : Policy) (st : Held) (rows : List ℕ) : Type 0 where
+-- a clear policy of which nothing is seen, with its automaton's states in a store over the fields
+pub record IsBegun (fields : FieldTable) (topo : Topology) (tag : ℕ) (p : Policy) (st : Held) (states : List ℕ) : Type 0 where
   pub clear : IsClear fields topo tag p
   pub seen : seen_with tag topo p ≡ None
   pub over : IsOver fields st
-  pub automaton : IsAutomaton st rows 1 p
+  pub automaton : IsAutomaton st states 1 p
   pub room : slice_index fields.maxima tag + 1 < 18446744073709551616

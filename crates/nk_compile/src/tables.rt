@@ -6,7 +6,7 @@ ghost use Rattle.nk_policy.specs.Ranges.{IsInRange};
 ghost use Rattle.nk_names.specs.Complements.{NegatesPredicates};
 ghost use Rattle.nk_store.specs.Held.{Grows};
 ghost use Rattle.nk_determ.specs.Sets.{SetsGrow};
-ghost use Rattle.nk_reach.specs.Pairs.{AreRows};
+ghost use Rattle.nk_reach.specs.Pairs.{AreStates};
 ghost use Rattle.nk_tag.specs.Numbers.{AreEntries, AreNumbers};
 ghost use Rattle.nk_field.specs.Packet.{FieldTable};
 ghost use Rattle.nk_compile.specs.Ready.{IsBegun};
@@ -34,34 +34,34 @@ use nk_tag::{NumberError, number};
 use nk_topo::Topo;
 use std::alloc::{AllocError, Global};
 
-/// The levels of an automaton's rows from the located untagged packets. Where an end at no edge port is met, the least history
+/// The levels of an automaton's states from the located untagged packets. Where an end at no edge port is met, the least history
 /// with such an end is the refusal.
 fn levels_from(
     st: &mut Store,
     ss: &mut Sets,
     topo: &Topo,
     tag: Fid,
-    rows: &[Id],
+    states: &[Id],
 ) -> Result<Levels, CompileError>
     requires switch { 65535 ≤ slice_index st.old.maxes 0 }
     requires port { 65535 ≤ slice_index st.old.maxes 1 }
-    requires rows { AreRows st.old rows.now }
-    requires start { 0 < length rows.now }
+    requires states { AreStates st.old states.now }
+    requires start { 0 < length states.now }
     ensures grows { Grows st.old st.new }
     ensures sets { SetsGrow ss.old ss.new }
-    ensures ok { IfOk result (λ l. IsLevelled topo.now tag st.old rows.now st.new ss.new l.levels l.broken) }
+    ensures ok { IfOk result (λ l. IsLevelled topo.now tag st.old states.now st.new ss.new l.levels l.broken) }
     ensures whole { IfOk result (λ l. l.broken ≡ false) }
-    ensures err { IfErr result (IsOffFault topo.now tag st.old rows.now) }
+    ensures err { IfErr result (IsOffFault topo.now tag st.old states.now) }
 {
     let off = off_edges(st, topo)?;
     let from = starts(st, topo, tag)?;
-    let mut goal = wrong_ends(st, rows, off)?;
+    let mut goal = wrong_ends(st, states, off)?;
     let s = ss.intern(start_alone(st.alloc())?)?;
     st.laws();
-    let lv = levels(st, ss, rows, s, from, &mut goal)?;
+    let lv = levels(st, ss, states, s, from, &mut goal)?;
     if lv.broken() {
         st.laws();
-        let found = least_history(st, ss, rows, &lv, &mut goal)?;
+        let found = least_history(st, ss, states, &lv, &mut goal)?;
         return Err(off_edge(found));
     }
     Ok(lv)
@@ -110,29 +110,29 @@ fn fault(e: NumberError) -> CompileError
     }
 }
 
-/// The tables of all switches for a policy of which nothing is seen that stands against it, by its automaton's rows, and the
+/// The tables of all switches for a policy of which nothing is seen that stands against it, by its automaton's states, and the
 /// number of its tag sets.
 fn tables_from(
     st: &mut Store,
     topo: &Topo,
     tag: Fid,
     p: &Pol,
-    rows: &[Id],
+    states: &[Id],
 ) -> Result<(List<Table>, u64), CompileError>
-    requires begun { (fields : FieldTable) × IsBegun fields topo.now tag (tree_of p.now) st.old rows.now }
-    ensures made { IfOk result (λ r. (fields : FieldTable) → IsBegun fields topo.now tag (tree_of p.now) st.old rows.now
+    requires begun { (fields : FieldTable) × IsBegun fields topo.now tag (tree_of p.now) st.old states.now }
+    ensures made { IfOk result (λ r. (fields : FieldTable) → IsBegun fields topo.now tag (tree_of p.now) st.old states.now
         → AreMade fields topo.now (tree_of p.now) r.0) }
-    ensures counted { IfOk result (λ r. (fields : FieldTable) → IsBegun fields topo.now tag (tree_of p.now) st.old rows.now
+    ensures counted { IfOk result (λ r. (fields : FieldTable) → IsBegun fields topo.now tag (tree_of p.now) st.old states.now
         → HasTagSets fields topo.now (tree_of p.now) r.1) }
-    ensures error { IfErr result (λ e. (fields : FieldTable) → IsBegun fields topo.now tag (tree_of p.now) st.old rows.now
+    ensures error { IfErr result (λ e. (fields : FieldTable) → IsBegun fields topo.now tag (tree_of p.now) st.old states.now
         → IsError fields topo.now (tree_of p.now) e) }
 {
     let mut ss = Sets::new(st.alloc());
-    let lv = levels_from(st, &mut ss, topo, tag, rows)?;
+    let lv = levels_from(st, &mut ss, topo, tag, states)?;
     ss.differ();
     st.laws();
     let tags = numbers(&ss, &lv, st.max(tag))?;
-    let tables = tag_tables(st, &mut ss, topo, p, rows, tags.as_slice())?;
+    let tables = tag_tables(st, &mut ss, topo, p, states, tags.as_slice())?;
     Ok((tables, tags.len() as u64))
 }
 
@@ -158,8 +158,8 @@ fn tables_of(
     let _few = fields.declared();
     let _switches = topo.switches();
     let mut st = Store::new(alloc, fields)?;
-    let rows = policy_automaton(&mut st, p, 1)?;
-    tables_from(&mut st, topo, tag, p, rows.as_slice())
+    let states = policy_automaton(&mut st, p, 1)?;
+    tables_from(&mut st, topo, tag, p, states.as_slice())
 }
 
 /// The printed tables of a policy and the number of its tag sets, or the first reason to refuse it.

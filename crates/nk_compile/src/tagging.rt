@@ -1,4 +1,4 @@
-//! The tables of all switches, by a policy's rows and tag sets.
+//! The tables of all switches, by a policy's states and tag sets.
 ghost use Rattle.std.specs.Prelude.{◌≡◌, ℕ, IfOk};
 ghost use Rattle.nk_field.specs.Packet.{FieldTable};
 ghost use Rattle.nk_policy.specs.Tree.{tree_of};
@@ -18,23 +18,23 @@ use nk_table::Table;
 use nk_topo::Topo;
 use std::alloc::AllocError;
 
-/// The printed tables of all switches for a policy, by its automaton's rows and the numbers of its tag sets.
+/// The printed tables of all switches for a policy, by its automaton's states and the numbers of its tag sets.
 pub fn tag_tables(
     st: &mut Store,
     ss: &mut Sets,
     topo: &Topo,
     p: &Pol,
-    rows: &[Id],
+    states: &[Id],
     tags: &[SetId],
 ) -> Result<List<Table>, AllocError>
     requires ready { (fields : FieldTable) × (tag : ℕ) × IsClear fields topo.now tag (tree_of p.now)
-        × IsReady fields topo.now (tree_of p.now) st.old ss.old rows.now tags.now }
+        × IsReady fields topo.now (tree_of p.now) st.old ss.old states.now tags.now }
     ensures { IfOk result (λ ts. (fields : FieldTable) (tag : ℕ) → IsClear fields topo.now tag (tree_of p.now)
-        → IsReady fields topo.now (tree_of p.now) st.old ss.old rows.now tags.now
+        → IsReady fields topo.now (tree_of p.now) st.old ss.old states.now tags.now
         → (t : Tables) → t.fields ≡ fields → t.topo ≡ topo.now → t.tables ≡ ts
         → IsTableOf fields topo.now (IsStart fields topo.now) (tree_of p.now) t) }
 {
-    let ends = link_ends(st.alloc(), p, rows.len())?;
+    let ends = link_ends(st.alloc(), p, states.len())?;
     let stops = stops(st.alloc(), topo, ends.as_slice(), ss, tags)?;
-    switch_tables(st, ss, rows, tags, stops.as_slice())
+    switch_tables(st, ss, states, tags, stops.as_slice())
 }

@@ -15,34 +15,34 @@ use nk_store::{Id, Store};
 use std::alloc::{AllocError, Global};
 use std::collections::HashMap;
 
-/// For each row of an automaton the ends that are not to be: those in a set of packets.
+/// For each state of an automaton the ends that are not to be: those in a set of packets.
 #[derive(Drop)]
 pub struct WrongEnds {
-    /// The rows.
-    pub rows: List<Id>,
+    /// The states.
+    pub states: List<Id>,
     /// The set of packets.
     pub set: Id,
-    /// The diagrams of these ends, by the places of the rows.
+    /// The diagrams of these ends, by the places of the states.
     pub ends: List<Id>,
 }
 
 impl Goal for WrongEnds {
-    ghost fits = { λ g st. HaveEndsOf st g.set g.rows g.ends };
+    ghost fits = { λ g st. HaveEndsOf st g.set g.states g.ends };
 
-    ghost labels = { λ g. length g.rows };
+    ghost labels = { λ g. length g.states };
 
-    ghost bad_of = { λ g st set pk. wrong_leaf st g.set g.rows set pk };
+    ghost bad_of = { λ g st set pk. wrong_leaf st g.set g.states set pk };
 
     fn bad(&mut self, st: &mut Store, ss: &Sets, s: SetId) -> Result<Id, AllocError> {
         let picked = picked(st.alloc(), self.ends.as_slice(), ss.members(s))?;
         union_all(st, picked.as_slice())
     }
 
-    ghost fits_on = { λ g old new fits grown. ends_on old new g.set g.rows g.ends fits grown };
+    ghost fits_on = { λ g old new fits grown. ends_on old new g.set g.states g.ends fits grown };
 
-    ghost bad_on = { λ g old new set pk fits grown places. wrong_on old new g.set g.rows g.ends set pk fits grown places };
+    ghost bad_on = { λ g old new set pk fits grown places. wrong_on old new g.set g.states g.ends set pk fits grown places };
 
-    ghost sided = { λ g st set pk o fits whole among. wrong_sided st g.set g.rows g.ends set pk o fits whole among };
+    ghost sided = { λ g st set pk o fits whole among. wrong_sided st g.set g.states g.ends set pk o fits whole among };
 }
 
 /// The diagrams at these places.
@@ -65,81 +65,86 @@ fn end_at(ends: &[Id], place: u64) -> Id
     ends[place as usize]
 }
 
-/// For each of the rows its ends in the set.
-pub fn wrong_ends(st: &mut Store, rows: &[Id], set: Id) -> Result<WrongEnds, AllocError>
-    requires rows { AreIds st.old rows.now }
+/// For each of the states its ends in the set.
+pub fn wrong_ends(st: &mut Store, states: &[Id], set: Id) -> Result<WrongEnds, AllocError>
+    requires states { AreIds st.old states.now }
     requires set { IsSet st.old set }
     ensures grows { Grows st.old st.new }
-    ensures rows { IfOk result (λ g. g.rows ≡ rows.now) }
+    ensures states { IfOk result (λ g. g.states ≡ states.now) }
     ensures set { IfOk result (λ g. g.set ≡ set) }
-    ensures ends { IfOk result (λ g. HaveEndsOf st.new set rows.now g.ends) }
+    ensures ends { IfOk result (λ g. HaveEndsOf st.new set states.now g.ends) }
 {
-    let ends = ends_of(st, rows, set)?;
-    let rows = Vec::from_slice(st.alloc(), rows)?;
+    let ends = ends_of(st, states, set)?;
+    let states = Vec::from_slice(st.alloc(), states)?;
     Ok(WrongEnds {
-        rows: List::from_vec(rows),
+        states: List::from_vec(states),
         set,
         ends,
     })
 }
 
-/// The diagram of each row's ends in the set.
+/// The diagram of each state's ends in the set.
 #[tactic(auto, using(nk_sets::proofs::SetLemmas::set_grows))]
-fn ends_of(st: &mut Store, rows: &[Id], set: Id) -> Result<List<Id>, AllocError>
-    requires rows { AreIds st.old rows.now }
+fn ends_of(st: &mut Store, states: &[Id], set: Id) -> Result<List<Id>, AllocError>
+    requires states { AreIds st.old states.now }
     requires set { IsSet st.old set }
     ensures grows { Grows st.old st.new }
-    ensures ends { IfOk result (HaveEndsOf st.new set rows.now) }
+    ensures ends { IfOk result (HaveEndsOf st.new set states.now) }
 {
     let mut seen = HashMap::new(st.alloc());
     let mut ends = List::new(st.alloc());
-    for row in rows {
-        let d = end_once(st, &mut seen, *row, set)?;
+    for state in states {
+        let d = end_once(st, &mut seen, *state, set)?;
         ends.push(d)?;
     }
     Ok(ends)
 }
 
-/// A row's ends in the set, which are looked up where they were made before.
-fn end_once(st: &mut Store, seen: &mut HashMap<Id, Id>, row: Id, set: Id) -> Result<Id, AllocError>
-    requires row { IsId st.old row }
+/// A state's ends in the set, which are looked up where they were made before.
+fn end_once(
+    st: &mut Store,
+    seen: &mut HashMap<Id, Id>,
+    state: Id,
+    set: Id,
+) -> Result<Id, AllocError>
+    requires state { IsId st.old state }
     requires set { IsId st.old set }
     requires seen { AreEndsOf st.old set seen.old.entries }
     ensures grows { Grows st.old st.new }
-    ensures end { IfOk result (IsEndOf st.new set row) }
+    ensures end { IfOk result (IsEndOf st.new set state) }
     ensures seen { OnOk result (AreEndsOf st.new set seen.new.entries) }
 {
-    if let Some(r) = known(seen, row) {
+    if let Some(r) = known(seen, state) {
         return Ok(r);
     }
-    let r = end_in(st, row, set)?;
-    seen.insert(row, r)?;
+    let r = end_in(st, state, set)?;
+    seen.insert(state, r)?;
     Ok(r)
 }
 
-/// What the table has for a row.
-fn known(seen: &HashMap<Id, Id>, row: Id) -> Option<Id>
-    ensures { result ≡ lookup (eqb row) seen.now.entries }
+/// What the table has for a state.
+fn known(seen: &HashMap<Id, Id>, state: Id) -> Option<Id>
+    ensures { result ≡ lookup (eqb state) seen.now.entries }
 {
-    seen.get(&row).copied()
+    seen.get(&state).copied()
 }
 
-/// A row's ends in the set.
-fn end_in(st: &mut Store, row: Id, set: Id) -> Result<Id, AllocError>
-    requires row { IsId st.old row }
+/// A state's ends in the set.
+fn end_in(st: &mut Store, state: Id, set: Id) -> Result<Id, AllocError>
+    requires state { IsId st.old state }
     requires set { IsId st.old set }
     ensures grows { Grows st.old st.new }
-    ensures end { IfOk result (IsEndOf st.new set row) }
+    ensures end { IfOk result (IsEndOf st.new set state) }
 {
-    let finals = finals_of(st, row)?;
+    let finals = finals_of(st, state)?;
     seq(st, finals, set)
 }
 
-/// A row's ends.
-fn finals_of(st: &mut Store, row: Id) -> Result<Id, AllocError>
-    requires row { IsId st.old row }
+/// A state's ends.
+fn finals_of(st: &mut Store, state: Id) -> Result<Id, AllocError>
+    requires state { IsId st.old state }
     ensures grows { Grows st.old st.new }
-    ensures ok { IfOk result (λ r. HasLeaves st.new r (λ pk. retargeted (Some 0 ∷ []) (look st.old row pk))) }
+    ensures ok { IfOk result (λ r. HasLeaves st.new r (λ pk. retargeted (Some 0 ∷ []) (look st.old state pk))) }
 {
-    retarget(st, row, &[Some(0)])
+    retarget(st, state, &[Some(0)])
 }

@@ -16,11 +16,11 @@ use Rattle.nk_policy.proofs.Trees.{tree_of_sum, tree_of_seq}
 use Rattle.nk_policy.proofs.Tests.{both_true, or_left, or_right, same_number}
 use Rattle.nk_policy.proofs.Steps.{left_is}
 use Rattle.nk_deriv.specs.declared.values.Part.{Part}
-use Rattle.nk_deriv.specs.Part.{NegatesPredicates, AllNegatePredicates, IsDupFree, AllDupFree, IsMadeOf, IsRowOf, IsWithin, RowsGive, IsPart}
+use Rattle.nk_deriv.specs.Part.{NegatesPredicates, AllNegatePredicates, IsDupFree, AllDupFree, IsMadeOf, IsLegOf, IsWithin, LegsGive, IsPart}
 use Rattle.nk_deriv.specs.Turns.{IsIn, IsEither, IsRounds, ArePutBehind, AllEnd, AllRecord, AreInTurn, IsCollected, ArePartsOf}
 use Rattle.nk_deriv.proofs.Silent.{seq_ends, seq_records, none_ends, star_records, star_as, dup_third_ends, dup_third_records}
 use Rattle.nk_deriv.proofs.Steps.{made_drop, made_id}
-use Rattle.nk_deriv.proofs.Rows.{rows_push}
+use Rattle.nk_deriv.proofs.Legs.{legs_push}
 
 -- a predicate has no dup, and its complements are of predicates
 mutual
@@ -64,26 +64,26 @@ in_tail s p ps i = record {
 pub made_in : (s p q : Policy) → IsIn s p → IsMadeOf p q → IsMadeOf s q
 made_in s p q i m = record { dup_free = m.dup_free; over = λ fields h. m.over fields (i.over fields h) }
 
--- so are rows
-rows_in : (s p : Policy) (rows : List (Pol × ℕ)) → IsIn s p → All (IsRowOf p) rows → All (IsRowOf s) rows
-rows_in s p rows i h =
-    All-weaker (IsRowOf p) (IsRowOf s) (λ row r. (made_in s p (tree_of row.0) i r.0, i.dups row.1 r.1)) rows h
+-- so are legs
+legs_in : (s p : Policy) (legs : List (Pol × ℕ)) → IsIn s p → All (IsLegOf p) legs → All (IsLegOf s) legs
+legs_in s p legs i h =
+    All-weaker (IsLegOf p) (IsLegOf s) (λ leg r. (made_in s p (tree_of leg.0) i r.0, i.dups leg.1 r.1)) legs h
 
 -- and parts
 pub within_in : (s p : Policy) (r : Part) → IsIn s p → IsWithin p r → IsWithin s r
-within_in s p r i w = record { free = made_in s p (tree_of r.free) i w.free; rows = rows_in s p r.rows i w.rows }
+within_in s p r i w = record { free = made_in s p (tree_of r.free) i w.free; legs = legs_in s p r.legs i w.legs }
 
 -- what is collected from nothing is the part
-pub part_is : (r : Part) (p : Policy) → IsCollected [] r.rows (tree_of r.free) p → IsPart r p
+pub part_is : (r : Part) (p : Policy) → IsCollected [] r.legs (tree_of r.free) p → IsPart r p
 part_is r p c =
-    let w = c.within p (in_itself p) (All-nil (IsRowOf p)) in
+    let w = c.within p (in_itself p) (All-nil (IsLegOf p)) in
     record {
       ends = c.ends;
       records = λ pk y l. (
         λ g. ⊎_elim (λ a. absurd a) (λ b. b) ((c.records pk y l).0 g),
         λ g. (c.records pk y l).1 (inr g),
       );
-      within = record { free = w.0; rows = w.1 };
+      within = record { free = w.0; legs = w.1 };
     }
 
 -- a policy without a dup is its own free policy
@@ -155,9 +155,9 @@ collected_seq old new free states ps h turns = record {
 }
 
 -- a star
-pub collected_star : (old new rows : List (Pol × ℕ)) (free f p : Policy) → IsCollected [] rows f p
-    → IsRounds free f → ArePutBehind old new free rows → IsCollected old new free (star_of p)
-collected_star old new rows free f p c rounds put = record {
+pub collected_star : (old new legs : List (Pol × ℕ)) (free f p : Policy) → IsCollected [] legs f p
+    → IsRounds free f → ArePutBehind old new free legs → IsCollected old new free (star_of p)
+collected_star old new legs free f p c rounds put = record {
   ends = λ pk x. (
     λ g. star_as f p (λ a b r. (c.ends a b).0 r) pk x ((rounds.ends pk x).0 g),
     λ g. (rounds.ends pk x).1 (star_as p f (λ a b r. (c.ends a b).1 r) pk x g),
@@ -183,7 +183,7 @@ collected_star old new rows free f p c rounds put = record {
         g),
   );
   within = λ s i o.
-      let within_round = c.within s record { over = i.over; dups = i.dups } (All-nil (IsRowOf s)) in
+      let within_round = c.within s record { over = i.over; dups = i.dups } (All-nil (IsLegOf s)) in
       let here = rounds.within s within_round.0 in
       (here, put.within s o here within_round.1);
 }
@@ -199,10 +199,10 @@ collected_one old new free p ways l e f none first made held =
     let here : IsCollected old (old ++ (ways, l) ∷ []) drop_policy p = record {
       ends = λ pk x. (λ g. absurd g, λ g. absurd (none pk x g));
       records = λ pk y k. (
-        λ g. ⊎_elim (λ a. inl a) (λ b. inr ((first pk y k).0 b)) ((rows_push old (ways, l) pk y k).0 g),
-        λ g. (rows_push old (ways, l) pk y k).1 (⊎_elim (λ a. inl a) (λ b. inr ((first pk y k).1 b)) g),
+        λ g. ⊎_elim (λ a. inl a) (λ b. inr ((first pk y k).0 b)) ((legs_push old (ways, l) pk y k).0 g),
+        λ g. (legs_push old (ways, l) pk y k).1 (⊎_elim (λ a. inl a) (λ b. inr ((first pk y k).1 b)) g),
       );
-      within = λ s i o. (made_drop s, All-push (IsRowOf s) old (ways, l) o (made_in s p (tree_of ways) i made, i.dups l held));
+      within = λ s i o. (made_drop s, All-push (IsLegOf s) old (ways, l) o (made_in s p (tree_of ways) i made, i.dups l held));
     } in
     subst (λ n. IsCollected old n free p) (sym e) (subst (λ q. IsCollected old (old ++ (ways, l) ∷ []) q p) (sym f) here)
 
@@ -234,13 +234,13 @@ collected_link old new free ways a m b n l w e f =
     (subst (IsMadeOf (link a m b n l)) (sym w) record { dup_free = (tt, (tt, tt)); over = λ fields h. (h.0, (h.1, tt)) })
     (or_left (l == l) (l == (l + 1)) (same_number l))
 
--- the terms and rows so far, and then the parts that are left, come to the whole sum
-pub record IsSumming (old rows : List (Pol × ℕ)) (terms : Policy) (left all : Policies) : Type 0 where
+-- the terms and legs so far, and then the parts that are left, come to the whole sum
+pub record IsSumming (old legs : List (Pol × ℕ)) (terms : Policy) (left all : Policies) : Type 0 where
   pub ends : (pk x : Packet) → (Gives terms pk [] x ⊎ Gives (sum_of left) pk [] x) ↔ Gives (sum_of all) pk [] x
   pub records : (pk y : Packet) (l : ℕ)
-      → (RowsGive rows pk y l ⊎ RecordsAt (sum_of left) pk [] y l) ↔ (RowsGive old pk y l ⊎ RecordsAt (sum_of all) pk [] y l)
-  pub within : (s : Policy) → IsIn s (sum_of all) → All (IsRowOf s) old
-      → IsMadeOf s terms × All (IsRowOf s) rows × IsIn s (sum_of left)
+      → (LegsGive legs pk y l ⊎ RecordsAt (sum_of left) pk [] y l) ↔ (LegsGive old pk y l ⊎ RecordsAt (sum_of all) pk [] y l)
+  pub within : (s : Policy) → IsIn s (sum_of all) → All (IsLegOf s) old
+      → IsMadeOf s terms × All (IsLegOf s) legs × IsIn s (sum_of left)
   pub complements : AllNegatePredicates left
 
 -- at first all parts are left
@@ -255,10 +255,10 @@ summing_none old terms all e n =
     }
 
 -- one more part
-summing_one : (old rows rows' : List (Pol × ℕ)) (terms terms' free p : Policy) (left all : Policies)
-    → IsCollected rows rows' free p → IsEither terms' terms free
-    → IsSumming old rows terms (part p left) all → IsSumming old rows' terms' left all
-summing_one old rows rows' terms terms' free p left all c e inv = record {
+summing_one : (old legs legs' : List (Pol × ℕ)) (terms terms' free p : Policy) (left all : Policies)
+    → IsCollected legs legs' free p → IsEither terms' terms free
+    → IsSumming old legs terms (part p left) all → IsSumming old legs' terms' left all
+summing_one old legs legs' terms terms' free p left all c e inv = record {
   ends = λ pk x. (
     λ g.
         (inv.ends pk x).0
@@ -295,14 +295,14 @@ summing_one old rows rows' terms terms' free p left all c e inv = record {
 }
 
 -- by its place in the list
-pub summing_more : (old rows rows' : List (Pol × ℕ)) (terms terms' free : Policy) (q : Pol) (xs : List Pol) (i : ℕ)
+pub summing_more : (old legs legs' : List (Pol × ℕ)) (terms terms' free : Policy) (q : Pol) (xs : List Pol) (i : ℕ)
     → i < length xs → q ≡ get_or xs i q
-    → IsCollected rows rows' free (tree_of q) → IsEither terms' terms free
-    → IsSumming old rows terms (trees_of (drop i xs)) (trees_of xs)
-    → IsSumming old rows' terms' (trees_of (drop (i + 1) xs)) (trees_of xs)
-summing_more old rows rows' terms terms' free q xs i lt is c e inv =
-    summing_one old rows rows' terms terms' free (tree_of q) (trees_of (drop (i + 1) xs)) (trees_of xs) c e
-    (subst (λ l. IsSumming old rows terms (trees_of l) (trees_of xs)) (left_is xs i q lt is) inv)
+    → IsCollected legs legs' free (tree_of q) → IsEither terms' terms free
+    → IsSumming old legs terms (trees_of (drop i xs)) (trees_of xs)
+    → IsSumming old legs' terms' (trees_of (drop (i + 1) xs)) (trees_of xs)
+summing_more old legs legs' terms terms' free q xs i lt is c e inv =
+    summing_one old legs legs' terms terms' free (tree_of q) (trees_of (drop (i + 1) xs)) (trees_of xs) c e
+    (subst (λ l. IsSumming old legs terms (trees_of l) (trees_of xs)) (left_is xs i q lt is) inv)
 
 -- the part at the place negates predicates
 pub complements_at : (q : Pol) (xs : List Pol) (i : ℕ) → i < length xs → q ≡ get_or xs i q
@@ -313,11 +313,11 @@ complements_at q xs i lt is h =
     (t.0, t.1)
 
 -- where no part is left
-pub summing_done : (old rows : List (Pol × ℕ)) (terms : Policy) (xs : List Pol) (i : ℕ) → length xs ≤ i
-    → IsSumming old rows terms (trees_of (drop i xs)) (trees_of xs)
-    → IsCollected old rows terms (sum_of (trees_of xs))
-summing_done old rows terms xs i le h =
-    let inv : IsSumming old rows terms no_part (trees_of xs) = subst (λ l. IsSumming old rows terms (trees_of l) (trees_of xs)) (drop_all i xs le) h in
+pub summing_done : (old legs : List (Pol × ℕ)) (terms : Policy) (xs : List Pol) (i : ℕ) → length xs ≤ i
+    → IsSumming old legs terms (trees_of (drop i xs)) (trees_of xs)
+    → IsCollected old legs terms (sum_of (trees_of xs))
+summing_done old legs terms xs i le h =
+    let inv : IsSumming old legs terms no_part (trees_of xs) = subst (λ l. IsSumming old legs terms (trees_of l) (trees_of xs)) (drop_all i xs le) h in
     record {
       ends = λ pk x. (
         λ g. (inv.ends pk x).0 (inl g),
@@ -351,23 +351,23 @@ pub collected_as : (old new : List (Pol × ℕ)) (free p q : Policy) → p ≡ q
 collected_as old new free p q e c = subst (IsCollected old new free) e c
 
 -- a range
-pub collected_range : (rows : List (Pol × ℕ)) (f lo hi : ℕ) → IsCollected rows rows (range f lo hi) (range f lo hi)
-collected_range rows f lo hi = collected_same rows rows (range f lo hi) (range f lo hi) refl refl tt (λ pk y l r. r)
+pub collected_range : (legs : List (Pol × ℕ)) (f lo hi : ℕ) → IsCollected legs legs (range f lo hi) (range f lo hi)
+collected_range legs f lo hi = collected_same legs legs (range f lo hi) (range f lo hi) refl refl tt (λ pk y l r. r)
 
 -- a test
-pub collected_test : (rows : List (Pol × ℕ)) (f n : ℕ) → IsCollected rows rows (test f n) (test f n)
-collected_test rows f n = collected_same rows rows (test f n) (test f n) refl refl tt (λ pk y l r. r)
+pub collected_test : (legs : List (Pol × ℕ)) (f n : ℕ) → IsCollected legs legs (test f n) (test f n)
+collected_test legs f n = collected_same legs legs (test f n) (test f n) refl refl tt (λ pk y l r. r)
 
 -- an assignment
-pub collected_assign : (rows : List (Pol × ℕ)) (f n : ℕ) → IsCollected rows rows (assign f n) (assign f n)
-collected_assign rows f n = collected_same rows rows (assign f n) (assign f n) refl refl tt (λ pk y l r. r)
+pub collected_assign : (legs : List (Pol × ℕ)) (f n : ℕ) → IsCollected legs legs (assign f n) (assign f n)
+collected_assign legs f n = collected_same legs legs (assign f n) (assign f n) refl refl tt (λ pk y l r. r)
 
 -- a complement
-pub collected_not : (rows : List (Pol × ℕ)) (free p q : Policy) → not_of q ≡ p → free ≡ p → NegatesPredicates p
-    → IsCollected rows rows free p
-collected_not rows free p q e f h =
+pub collected_not : (legs : List (Pol × ℕ)) (free p q : Policy) → not_of q ≡ p → free ≡ p → NegatesPredicates p
+    → IsCollected legs legs free p
+collected_not legs free p q e f h =
     let n : NegatesPredicates (not_of q) = subst NegatesPredicates (sym e) h in
-    collected_as rows rows free (not_of q) p e (collected_same rows rows free (not_of q) refl (f ∙ sym e) (n.0, predicate_dup_free q n.0) (λ pk y l r. r))
+    collected_as legs legs free (not_of q) p e (collected_same legs legs free (not_of q) refl (f ∙ sym e) (n.0, predicate_dup_free q n.0) (λ pk y l r. r))
 
 -- the policies so far have their parts, and one more has
 pub parts_next : (xs : List Pol) (i : ℕ) (q : Pol) (states new : List Part) (s : Part)

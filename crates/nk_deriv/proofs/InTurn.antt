@@ -9,19 +9,19 @@ use Rattle.nk_policy.specs.Tree.{tree_of}
 use Rattle.nk_policy.specs.Meaning.{Gives}
 use Rattle.nk_policy.specs.After.{id_policy}
 use Rattle.nk_deriv.specs.declared.values.Part.{Part}
-use Rattle.nk_deriv.specs.Part.{IsMadeOf, IsRowOf, IsWithin, RowsGive}
+use Rattle.nk_deriv.specs.Part.{IsMadeOf, IsLegOf, IsWithin, LegsGive}
 use Rattle.nk_deriv.specs.Turns.{is_drop, IsTurn, ArePutBehind, AllEnd, AllRecord, AreInTurn, IsContinued}
 use Rattle.nk_deriv.proofs.Silent.{none_ends}
 use Rattle.nk_deriv.proofs.Steps.{drop_ends, made_id}
 
 -- the free policy so far, and then the states that are left, come to all states
-pub record IsTurning (old rows : List (Pol × ℕ)) (free : Policy) (left all : List Part) : Type 0 where
+pub record IsTurning (old legs : List (Pol × ℕ)) (free : Policy) (left all : List Part) : Type 0 where
   pub ends : (pk x : Packet) → ((z : Packet) × Gives free pk [] z × AllEnd left z x) ↔ AllEnd all pk x
   pub records : (pk y : Packet) (l : ℕ)
-      → (RowsGive rows pk y l ⊎ ((z : Packet) × Gives free pk [] z × AllRecord left z y l))
-      ↔ (RowsGive old pk y l ⊎ AllRecord all pk y l)
-  pub within : (s : Policy) → All (IsRowOf s) old → All (IsWithin s) all
-      → IsMadeOf s free × All (IsRowOf s) rows × All (IsWithin s) left
+      → (LegsGive legs pk y l ⊎ ((z : Packet) × Gives free pk [] z × AllRecord left z y l))
+      ↔ (LegsGive old pk y l ⊎ AllRecord all pk y l)
+  pub within : (s : Policy) → All (IsLegOf s) old → All (IsWithin s) all
+      → IsMadeOf s free × All (IsLegOf s) legs × All (IsWithin s) left
 
 -- at first all states are left
 pub turning_none : (old : List (Pol × ℕ)) (free : Policy) (all : List Part) → free ≡ id_policy
@@ -41,10 +41,10 @@ turning_none old free all e =
     subst (λ f. IsTurning old old f all all) (sym e) here
 
 -- one more state
-pub turning_more : (old rows rows' : List (Pol × ℕ)) (free free' : Policy) (state : Part) (left all : List Part)
-    → ArePutBehind rows rows' free state.rows → IsTurn free' free (tree_of state.free)
-    → IsTurning old rows free (state ∷ left) all → IsTurning old rows' free' left all
-turning_more old rows rows' free free' state left all put turn inv = record {
+pub turning_more : (old legs legs' : List (Pol × ℕ)) (free free' : Policy) (state : Part) (left all : List Part)
+    → ArePutBehind legs legs' free state.legs → IsTurn free' free (tree_of state.free)
+    → IsTurning old legs free (state ∷ left) all → IsTurning old legs' free' left all
+turning_more old legs legs' free free' state left all put turn inv = record {
   ends = λ pk x. (
     λ g.
         let t = (turn.ends pk g.0).0 g.1 in
@@ -80,7 +80,7 @@ turning_more old rows rows' free free' state left all put turn inv = record {
   within = λ s o w.
       let h = inv.within s o w in
       let here = All-head (IsWithin s) state left h.2 in
-      (turn.within s h.0 here.free, put.within s h.1 h.0 here.rows, All-tail (IsWithin s) state left h.2);
+      (turn.within s h.0 here.free, put.within s h.1 h.0 here.legs, All-tail (IsWithin s) state left h.2);
 }
 
 -- what is left begins with the state at the place
@@ -89,19 +89,19 @@ pub state_is : (xs : List Part) (i : ℕ) (q : Part) → i < length xs → q ≡
 state_is xs i q lt is = rw add-one (drop-cons xs i q lt ∙ ap (λ x. x ∷ drop (suc i) xs) (sym is))
 
 -- the same by the place in the list
-pub turning_next : (old rows rows' : List (Pol × ℕ)) (free free' : Policy) (state : Part) (all : List Part) (i : ℕ)
+pub turning_next : (old legs legs' : List (Pol × ℕ)) (free free' : Policy) (state : Part) (all : List Part) (i : ℕ)
     → i < length all → state ≡ get_or all i state
-    → ArePutBehind rows rows' free state.rows → IsTurn free' free (tree_of state.free)
-    → IsTurning old rows free (drop i all) all → IsTurning old rows' free' (drop (i + 1) all) all
-turning_next old rows rows' free free' state all i lt is put turn inv =
-    turning_more old rows rows' free free' state (drop (i + 1) all) all put turn
-    (subst (λ left. IsTurning old rows free left all) (state_is all i state lt is) inv)
+    → ArePutBehind legs legs' free state.legs → IsTurn free' free (tree_of state.free)
+    → IsTurning old legs free (drop i all) all → IsTurning old legs' free' (drop (i + 1) all) all
+turning_next old legs legs' free free' state all i lt is put turn inv =
+    turning_more old legs legs' free free' state (drop (i + 1) all) all put turn
+    (subst (λ left. IsTurning old legs free left all) (state_is all i state lt is) inv)
 
 -- where no state is left
-pub turning_done : (old rows : List (Pol × ℕ)) (free : Policy) (all : List Part) (i : ℕ) → length all ≤ i
-    → IsTurning old rows free (drop i all) all → AreInTurn old rows free all
-turning_done old rows free all i le h =
-    let inv : IsTurning old rows free [] all = subst (λ left. IsTurning old rows free left all) (drop_all i all le) h in
+pub turning_done : (old legs : List (Pol × ℕ)) (free : Policy) (all : List Part) (i : ℕ) → length all ≤ i
+    → IsTurning old legs free (drop i all) all → AreInTurn old legs free all
+turning_done old legs free all i le h =
+    let inv : IsTurning old legs free [] all = subst (λ left. IsTurning old legs free left all) (drop_all i all le) h in
     record {
       ends = λ pk x. (
         λ g. (inv.ends pk x).0 (x, g, refl),
@@ -117,9 +117,9 @@ turning_done old rows free all i le h =
     }
 
 -- where the free policy drops each packet
-pub turning_drop : (old rows : List (Pol × ℕ)) (free : Policy) (left all : List Part) → is_drop free ≡ true
-    → IsTurning old rows free left all → AreInTurn old rows free all
-turning_drop old rows free left all h inv = record {
+pub turning_drop : (old legs : List (Pol × ℕ)) (free : Policy) (left all : List Part) → is_drop free ≡ true
+    → IsTurning old legs free left all → AreInTurn old legs free all
+turning_drop old legs free left all h inv = record {
   ends = λ pk x. (
     λ g. absurd (drop_ends free h pk x g),
     λ g. let t = (inv.ends pk x).1 g in absurd (drop_ends free h pk t.0 t.1),
@@ -132,10 +132,10 @@ turning_drop old rows free left all h inv = record {
 }
 
 -- states in turn, and then the next part
-pub continued_is : (r next : Part) (states : List Part) (rows : List (Pol × ℕ)) (free : Policy)
-    → AreInTurn [] rows free states → ArePutBehind rows r.rows free next.rows
+pub continued_is : (r next : Part) (states : List Part) (legs : List (Pol × ℕ)) (free : Policy)
+    → AreInTurn [] legs free states → ArePutBehind legs r.legs free next.legs
     → IsTurn (tree_of r.free) free (tree_of next.free) → IsContinued r states next
-continued_is r next states rows free turns put turn = record {
+continued_is r next states legs free turns put turn = record {
   ends = λ pk x. (
     λ g.
         let t = (turn.ends pk x).0 g in
@@ -156,6 +156,6 @@ continued_is r next states rows free turns put turn = record {
         g),
   );
   within = λ s w n.
-      let t = turns.within s (All-nil (IsRowOf s)) w in
-      record { free = turn.within s t.0 n.free; rows = put.within s t.1 t.0 n.rows };
+      let t = turns.within s (All-nil (IsLegOf s)) w in
+      record { free = turn.within s t.0 n.free; legs = put.within s t.1 t.0 n.legs };
 }

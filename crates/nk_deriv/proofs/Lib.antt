@@ -1,6 +1,6 @@
 pub mod Silent
 pub mod Steps
-pub mod Rows
+pub mod Legs
 pub mod InTurn
 pub mod Collected
 pub mod Rests

@@ -16,7 +16,7 @@ use Rattle.nk_policy.proofs.Remade.{numbers_are}
 use Rattle.nk_policy.proofs.DupsOfRuns.{rest_dups}
 use Rattle.nk_policy.proofs.Uses.{rest_uses}
 use Rattle.nk_deriv.specs.declared.values.Part.{Part}
-use Rattle.nk_deriv.specs.Part.{AllNegatePredicates, IsMadeOf, IsRowOf, IsWithin, RowsGive, IsPart}
+use Rattle.nk_deriv.specs.Part.{AllNegatePredicates, IsMadeOf, IsLegOf, IsWithin, LegsGive, IsPart}
 use Rattle.nk_deriv.specs.Turns.{IsIn, ArePartsOf, IsContinued, IsFollowed, AreRests}
 use Rattle.nk_deriv.proofs.Silent.{none_ends}
 use Rattle.nk_deriv.proofs.Steps.{made_id}
@@ -161,7 +161,7 @@ resting_done old out next rest xs i le h =
     subst (λ ls. AreRests old out (rest (trees_of xs)) ls next) (sym (append-nil inv.done) ∙ inv.labels) inv.rests
 
 -- followed by the end alone
-pub part_of_rest : (r end : Part) (s : Policy) → tree_of end.free ≡ id_policy → end.rows ≡ [] → IsFollowed r s end → IsPart r s
+pub part_of_rest : (r end : Part) (s : Policy) → tree_of end.free ≡ id_policy → end.legs ≡ [] → IsFollowed r s end → IsPart r s
 part_of_rest r end s e f h = record {
   ends = λ pk x. (
     λ g.
@@ -174,13 +174,13 @@ part_of_rest r end s e f h = record {
     λ g.
         ⊎_elim
         (λ a. a)
-        (λ a. absurd (subst (λ rows. RowsGive rows a.0 y l) f a.2))
+        (λ a. absurd (subst (λ legs. LegsGive legs a.0 y l) f a.2))
         ((h.records pk y l).0 g),
     λ g. (h.records pk y l).1 (inl g),
   );
   within = h.within s (in_itself s) record {
     free = subst (IsMadeOf s) (sym e) (made_id s);
-    rows = subst (All (IsRowOf s)) (sym f) (All-nil (IsRowOf s));
+    legs = subst (All (IsLegOf s)) (sym f) (All-nil (IsLegOf s));
   };
 }
 
@@ -189,7 +189,7 @@ pub in_rest : (p : Policy) (l : ℕ) → IsIn p (after p l)
 in_rest p l = record { over = λ fields h. rest_uses (IsValue fields) p l h; dups = λ k h. rest_dups p l k h }
 
 -- the entries are the parts of what is left
-pub parts_of_rests : (out : List (ℕ × Part)) (end : Part) (p : Policy) → tree_of end.free ≡ id_policy → end.rows ≡ []
+pub parts_of_rests : (out : List (ℕ × Part)) (end : Part) (p : Policy) → tree_of end.free ≡ id_policy → end.legs ≡ []
     → AreRests [] out (after p) (numbers_of p) end
     → (map (λ e. e.0) out ≡ numbers_of p) × All (λ e. IsPart e.1 (after p e.0)) out × All (λ e. IsWithin p e.1) out
 parts_of_rests out end p e f h =

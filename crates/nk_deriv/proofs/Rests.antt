@@ -13,7 +13,7 @@ use Rattle.nk_policy.specs.Progress.{RecordsAt}
 use Rattle.nk_policy.specs.After.{id_policy, drop_policy, after}
 use Rattle.nk_policy.proofs.Tests.{both_true, or_left, same_number, next_number}
 use Rattle.nk_deriv.specs.declared.values.Part.{Part}
-use Rattle.nk_deriv.specs.Part.{NegatesPredicates, IsMadeOf, IsRowOf, IsWithin, RowsGive, IsPart}
+use Rattle.nk_deriv.specs.Part.{NegatesPredicates, IsMadeOf, IsLegOf, IsWithin, LegsGive, IsPart}
 use Rattle.nk_deriv.specs.Turns.{ArePartsOf, IsContinued, IsFollowed, AreRests}
 use Rattle.nk_deriv.proofs.Silent.{seq_ends, seq_records, none_ends, dup_third_ends, dup_third_records, id_first_ends, id_first_records}
 use Rattle.nk_deriv.proofs.Steps.{made_drop}
@@ -154,7 +154,7 @@ followed_second r next f =
       ends = λ pk x. (λ g. (pk, refl, g), λ g. subst (λ z. Gives (tree_of next.free) z [] x) g.1 g.2);
       records = λ pk y l. (
         λ g. inr (pk, refl, g),
-        λ g. ⊎_elim (λ a. absurd a) (λ a. subst (λ z. RowsGive next.rows z y l) a.1 a.2) g,
+        λ g. ⊎_elim (λ a. absurd a) (λ a. subst (λ z. LegsGive next.legs z y l) a.1 a.2) g,
       );
       within = λ p w n. n;
     } in
@@ -179,7 +179,7 @@ first_records b n l pk y k =
     (λ g. u.0 (t.0 g), λ g. t.1 (u.1 g))
 
 -- the part that sets the packet to the target and records it there
-followed_first : (r next : Part) (moved : Pol) (b n l : ℕ) → tree_of r.free ≡ drop_policy → r.rows ≡ (moved, l + 1) ∷ []
+followed_first : (r next : Part) (moved : Pol) (b n l : ℕ) → tree_of r.free ≡ drop_policy → r.legs ≡ (moved, l + 1) ∷ []
     → tree_of moved ≡ seq_of (part (assign 0 b) (part (assign 1 n) no_part)) → IsFollowed r (first_rest b n l) next
 followed_first r next moved b n l f e w = record {
   ends = λ pk x. (
@@ -191,9 +191,9 @@ followed_first r next moved b n l f e w = record {
         ⊎_elim
         (λ a. inl ((first_records b n l pk y k).0 (a.0, subst (λ t. Gives t pk [] y) w a.1)))
         (λ a. absurd a)
-        (subst (λ t. RowsGive t pk y k) e g),
+        (subst (λ t. LegsGive t pk y k) e g),
     λ g.
-        subst (λ t. RowsGive t pk y k) (sym e)
+        subst (λ t. LegsGive t pk y k) (sym e)
         (⊎_elim
         (λ a. let t = (first_records b n l pk y k).1 a in inl (t.0, subst (λ q. Gives q pk [] y) (sym w) t.1))
         (λ a. absurd (first_silent b n l pk a.0 a.1))
@@ -201,16 +201,16 @@ followed_first r next moved b n l f e w = record {
   );
   within = λ p i n. record {
     free = subst (IsMadeOf p) (sym f) (made_drop p);
-    rows = subst (All (IsRowOf p)) (sym e) (All-cons (IsRowOf p) (moved, l + 1) []
+    legs = subst (All (IsLegOf p)) (sym e) (All-cons (IsLegOf p) (moved, l + 1) []
         (subst (IsMadeOf p) (sym w) record { dup_free = (tt, (tt, tt)); over = λ fields h. let t = i.over fields h in (t.1.0, (t.1.1.0, tt)) }, i.dups (l + 1) (or_left ((l + 1) == (l + 1)) false (same_number (l + 1))))
-        (All-nil (IsRowOf p)));
+        (All-nil (IsLegOf p)));
   };
 }
 
 -- what is left of a link literal
 pub rests_link : (old mid new : List (ℕ × Part)) (next r r' : Part) (moved : Pol) (a m b n l : ℕ)
     → mid ≡ old ++ (l, r) ∷ [] → new ≡ mid ++ (l + 1, r') ∷ []
-    → tree_of r.free ≡ drop_policy → r.rows ≡ (moved, l + 1) ∷ []
+    → tree_of r.free ≡ drop_policy → r.legs ≡ (moved, l + 1) ∷ []
     → tree_of moved ≡ seq_of (part (assign 0 b) (part (assign 1 n) no_part))
     → IsContinued r' [] next
     → AreRests old new (after (link a m b n l)) (l ∷ (l + 1) ∷ []) next

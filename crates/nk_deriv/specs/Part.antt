@@ -36,23 +36,23 @@ pub record IsMadeOf (p q : Policy) : Type 0 where
   pub dup_free : IsDupFree q
   pub over : (fields : FieldTable) → IsOver fields p → IsOver fields q
 
--- the policy of the row is made of p, and its label is one of p's dups
-abbrev pub IsRowOf : Policy → Pol × ℕ → Type 0
-IsRowOf p row = IsMadeOf p (tree_of row.0) × (has_dup p row.1 ≡ true)
+-- the policy of the leg is made of p, and its label is one of p's dups
+abbrev pub IsLegOf : Policy → Pol × ℕ → Type 0
+IsLegOf p leg = IsMadeOf p (tree_of leg.0) × (has_dup p leg.1 ≡ true)
 
 -- all that a part has is made of p
 pub record IsWithin (p : Policy) (part : Part) : Type 0 where
   pub free : IsMadeOf p (tree_of part.free)
-  pub rows : All (IsRowOf p) part.rows
+  pub legs : All (IsLegOf p) part.legs
 
--- some row of label l ends at y
-abbrev pub RowsGive : List (Pol × ℕ) → Packet → Packet → ℕ → Type 0
-RowsGive [] pk y l = ⊥
-RowsGive (row ∷ rows) pk y l = ((row.1 ≡ l) × Gives (tree_of row.0) pk [] y) ⊎ RowsGive rows pk y l
+-- some leg of label l ends at y
+abbrev pub LegsGive : List (Pol × ℕ) → Packet → Packet → ℕ → Type 0
+LegsGive [] pk y l = ⊥
+LegsGive (leg ∷ legs) pk y l = ((leg.1 ≡ l) × Gives (tree_of leg.0) pk [] y) ⊎ LegsGive legs pk y l
 
 -- The part is that of the state s: the policy s ends at x without a record exactly where the part's free policy does,
--- and it records next, first of all, y at its dup l exactly where some row of label l ends at y.
+-- and it records next, first of all, y at its dup l exactly where some leg of label l ends at y.
 pub record IsPart (part : Part) (s : Policy) : Type 0 where
   pub ends : (pk x : Packet) → Gives (tree_of part.free) pk [] x ↔ Gives s pk [] x
-  pub records : (pk y : Packet) (l : ℕ) → RowsGive part.rows pk y l ↔ RecordsAt s pk [] y l
+  pub records : (pk y : Packet) (l : ℕ) → LegsGive part.legs pk y l ↔ RecordsAt s pk [] y l
   pub within : IsWithin s part

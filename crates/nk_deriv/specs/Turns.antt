@@ -10,7 +10,7 @@ use Rattle.nk_policy.specs.Progress.{RecordsAt}
 use Rattle.nk_policy.specs.After.{has_dup}
 use Rattle.nk_policy.specs.Ranges.{IsOver}
 use Rattle.nk_deriv.specs.declared.values.Part.{Part}
-use Rattle.nk_deriv.specs.Part.{IsMadeOf, IsRowOf, IsWithin, RowsGive, IsPart}
+use Rattle.nk_deriv.specs.Part.{IsMadeOf, IsLegOf, IsWithin, LegsGive, IsPart}
 
 -- the policy that drops each packet, written as the empty sum
 abbrev pub is_drop : Policy → Bool
@@ -42,11 +42,11 @@ pub record IsEither (r p q : Policy) : Type 0 where
   pub ends : (pk x : Packet) → Gives r pk [] x ↔ (Gives p pk [] x ⊎ Gives q pk [] x)
   pub within : (s : Policy) → IsMadeOf s p → IsMadeOf s q → IsMadeOf s r
 
--- the rows record what the rows before do, and what a free policy and then the rows behind it do
-pub record ArePutBehind (old new : List (Pol × ℕ)) (free : Policy) (rows : List (Pol × ℕ)) : Type 0 where
+-- the legs record what the legs before do, and what a free policy and then the legs behind it do
+pub record ArePutBehind (old new : List (Pol × ℕ)) (free : Policy) (legs : List (Pol × ℕ)) : Type 0 where
   pub records : (pk y : Packet) (l : ℕ)
-      → RowsGive new pk y l ↔ (RowsGive old pk y l ⊎ ((z : Packet) × Gives free pk [] z × RowsGive rows z y l))
-  pub within : (s : Policy) → All (IsRowOf s) old → IsMadeOf s free → All (IsRowOf s) rows → All (IsRowOf s) new
+      → LegsGive new pk y l ↔ (LegsGive old pk y l ⊎ ((z : Packet) × Gives free pk [] z × LegsGive legs z y l))
+  pub within : (s : Policy) → All (IsLegOf s) old → IsMadeOf s free → All (IsLegOf s) legs → All (IsLegOf s) new
 
 -- from pk, the states of these parts in turn end at x without a record
 abbrev pub AllEnd : List Part → Packet → Packet → Type 0
@@ -57,20 +57,20 @@ AllEnd (s ∷ states) pk x = (z : Packet) × Gives (tree_of s.free) pk [] z × A
 abbrev pub AllRecord : List Part → Packet → Packet → ℕ → Type 0
 AllRecord [] pk y l = ⊥
 AllRecord (s ∷ states) pk y l =
-    RowsGive s.rows pk y l ⊎ ((z : Packet) × Gives (tree_of s.free) pk [] z × AllRecord states z y l)
+    LegsGive s.legs pk y l ⊎ ((z : Packet) × Gives (tree_of s.free) pk [] z × AllRecord states z y l)
 
--- the free policy is that of the states in turn, and their rows are put behind those before
+-- the free policy is that of the states in turn, and their legs are put behind those before
 pub record AreInTurn (old new : List (Pol × ℕ)) (free : Policy) (states : List Part) : Type 0 where
   pub ends : (pk x : Packet) → Gives free pk [] x ↔ AllEnd states pk x
-  pub records : (pk y : Packet) (l : ℕ) → RowsGive new pk y l ↔ (RowsGive old pk y l ⊎ AllRecord states pk y l)
-  pub within : (s : Policy) → All (IsRowOf s) old → All (IsWithin s) states
-      → IsMadeOf s free × All (IsRowOf s) new
+  pub records : (pk y : Packet) (l : ℕ) → LegsGive new pk y l ↔ (LegsGive old pk y l ⊎ AllRecord states pk y l)
+  pub within : (s : Policy) → All (IsLegOf s) old → All (IsWithin s) states
+      → IsMadeOf s free × All (IsLegOf s) new
 
--- the free policy is that of the state p, and its rows are put behind those before
+-- the free policy is that of the state p, and its legs are put behind those before
 pub record IsCollected (old new : List (Pol × ℕ)) (free p : Policy) : Type 0 where
   pub ends : (pk x : Packet) → Gives free pk [] x ↔ Gives p pk [] x
-  pub records : (pk y : Packet) (l : ℕ) → RowsGive new pk y l ↔ (RowsGive old pk y l ⊎ RecordsAt p pk [] y l)
-  pub within : (s : Policy) → IsIn s p → All (IsRowOf s) old → IsMadeOf s free × All (IsRowOf s) new
+  pub records : (pk y : Packet) (l : ℕ) → LegsGive new pk y l ↔ (LegsGive old pk y l ⊎ RecordsAt p pk [] y l)
+  pub within : (s : Policy) → IsIn s p → All (IsLegOf s) old → IsMadeOf s free × All (IsLegOf s) new
 
 -- the parts are those of the policies, one by one
 abbrev pub ArePartsOf : List Part → Policies → Type 0
@@ -84,7 +84,7 @@ pub record IsContinued (r : Part) (states : List Part) (next : Part) : Type 0 wh
   pub ends : (pk x : Packet)
       → Gives (tree_of r.free) pk [] x ↔ ((z : Packet) × AllEnd states pk z × Gives (tree_of next.free) z [] x)
   pub records : (pk y : Packet) (l : ℕ)
-      → RowsGive r.rows pk y l ↔ (AllRecord states pk y l ⊎ ((z : Packet) × AllEnd states pk z × RowsGive next.rows z y l))
+      → LegsGive r.legs pk y l ↔ (AllRecord states pk y l ⊎ ((z : Packet) × AllEnd states pk z × LegsGive next.legs z y l))
   pub within : (s : Policy) → All (IsWithin s) states → IsWithin s next → IsWithin s r
 
 -- the part is that of the state s, and then of the next one
@@ -92,7 +92,7 @@ pub record IsFollowed (r : Part) (s : Policy) (next : Part) : Type 0 where
   pub ends : (pk x : Packet)
       → Gives (tree_of r.free) pk [] x ↔ ((z : Packet) × Gives s pk [] z × Gives (tree_of next.free) z [] x)
   pub records : (pk y : Packet) (l : ℕ)
-      → RowsGive r.rows pk y l ↔ (RecordsAt s pk [] y l ⊎ ((z : Packet) × Gives s pk [] z × RowsGive next.rows z y l))
+      → LegsGive r.legs pk y l ↔ (RecordsAt s pk [] y l ⊎ ((z : Packet) × Gives s pk [] z × LegsGive next.legs z y l))
   pub within : (p : Policy) → IsIn p s → IsWithin p next → IsWithin p r
 
 -- behind the entries before stand new ones with these labels, each the part of what is left after its label, and then of

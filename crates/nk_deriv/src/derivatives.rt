@@ -14,7 +14,7 @@ use nk_policy::Pol;
 use std::alloc::{AllocError, Global};
 
 /// The part of the policy, and the parts of what is left of it after each of its dups, in text order. All policies in
-/// them are in the fields and ranges of the policy, and rows have labels of its dups. Its dups are numbered in text order
+/// them are in the fields and ranges of the policy, and legs have labels of its dups. Its dups are numbered in text order
 /// and each complement is of a predicate. The only error is that memory ran out.
 pub fn parts(alloc: Global, p: &Pol) -> Result<Parts, AllocError>
     requires numbered { (f : ℕ) × (f + dups_of (tree_of p.now) ≤ 2 ^ 32)
@@ -26,8 +26,8 @@ pub fn parts(alloc: Global, p: &Pol) -> Result<Parts, AllocError>
     ensures within { IfOk result (λ r. All (λ e. IsWithin (tree_of p.now) e.1) r.after) }
 {
     let free = keeping(alloc);
-    let rows = List::new(alloc);
-    let end = Part { free, rows };
+    let legs = List::new(alloc);
+    let end = Part { free, legs };
     let first = part_of(alloc, p)?;
     let mut after = List::new(alloc);
     rests(alloc, p, &end, &mut after)?;

@@ -16,17 +16,17 @@ pub fn part_of(alloc: Global, p: &Pol) -> Result<Part, AllocError>
     requires complements { NegatesPredicates (tree_of p.now) }
     ensures { IfOk result (λ r. IsPart r (tree_of p.now)) }
 {
-    let mut rows = List::new(alloc);
-    let free = collected(alloc, p, &mut rows)?;
-    Ok(Part { free, rows })
+    let mut legs = List::new(alloc);
+    let free = collected(alloc, p, &mut legs)?;
+    Ok(Part { free, legs })
 }
 
-/// The free policy of a policy; puts its rows behind those before.
+/// The free policy of a policy; puts its legs behind those before.
 #[cycle(first)]
 #[tactic(auto, using(nk_policy::proofs::Trees::tree_of_sum, nk_policy::proofs::Trees::tree_of_seq))]
-fn collected(alloc: Global, p: &Pol, rows: &mut List<(Pol, u32)>) -> Result<Pol, AllocError>
+fn collected(alloc: Global, p: &Pol, legs: &mut List<(Pol, u32)>) -> Result<Pol, AllocError>
     requires complements { NegatesPredicates (tree_of p.now) }
-    ensures { IfOk result (λ r. IsCollected rows.old rows.new (tree_of r) (tree_of p.now)) }
+    ensures { IfOk result (λ r. IsCollected legs.old legs.new (tree_of r) (tree_of p.now)) }
 {
     match p {
         Pol::Test(f, n) => Ok(Pol::Test(*f, *n)),
@@ -38,14 +38,14 @@ fn collected(alloc: Global, p: &Pol, rows: &mut List<(Pol, u32)>) -> Result<Pol,
         }
         Pol::Sum(ps) => {
             let terms = ps.as_slice();
-            let any = collected_any(alloc, terms, rows)?;
+            let any = collected_any(alloc, terms, legs)?;
             Ok(any)
         }
         Pol::Seq(ps) => {
             let members = ps.as_slice();
             let states = parts_of_all(alloc, members)?;
             let turns = states.as_slice();
-            let all = in_turn(alloc, turns, rows)?;
+            let all = in_turn(alloc, turns, legs)?;
             Ok(all)
         }
         Pol::Star(q) => {
@@ -53,33 +53,33 @@ fn collected(alloc: Global, p: &Pol, rows: &mut List<(Pol, u32)>) -> Result<Pol,
             let round = collected(alloc, q, &mut firsts)?;
             let star = repeated(alloc, round)?;
             let behind = firsts.as_slice();
-            put_behind(alloc, rows, &star, behind)?;
+            put_behind(alloc, legs, &star, behind)?;
             Ok(star)
         }
         Pol::Dup(l) => {
             let here = keeping(alloc);
-            rows.push((here, *l))?;
+            legs.push((here, *l))?;
             let none = dropping(alloc);
             Ok(none)
         }
         Pol::Link(a, m, _, _, l) => {
             let source = at_port(alloc, *a, *m)?;
-            rows.push((source, *l))?;
+            legs.push((source, *l))?;
             let nothing = dropping(alloc);
             Ok(nothing)
         }
     }
 }
 
-/// The free policy of a sum; puts its rows behind those before.
+/// The free policy of a sum; puts its legs behind those before.
 #[cycle(first)]
-fn collected_any(alloc: Global, ps: &[Pol], rows: &mut List<(Pol, u32)>) -> Result<Pol, AllocError>
+fn collected_any(alloc: Global, ps: &[Pol], legs: &mut List<(Pol, u32)>) -> Result<Pol, AllocError>
     requires complements { AllNegatePredicates (trees_of ps.now) }
-    ensures { IfOk result (λ r. IsCollected rows.old rows.new (tree_of r) (sum_of (trees_of ps.now))) }
+    ensures { IfOk result (λ r. IsCollected legs.old legs.new (tree_of r) (sum_of (trees_of ps.now))) }
 {
     let mut frees = Vec::new(alloc);
     for q in ps {
-        let free = collected(alloc, q, rows)?;
+        let free = collected(alloc, q, legs)?;
         push_term(&mut frees, free)?;
     }
     let sum = Pols::new(frees);
@@ -94,9 +94,9 @@ pub fn parts_of_all(alloc: Global, ps: &[Pol]) -> Result<List<Part>, AllocError>
 {
     let mut states = List::new(alloc);
     for q in ps {
-        let mut rows = List::new(alloc);
-        let free = collected(alloc, q, &mut rows)?;
-        states.push(Part { free, rows })?;
+        let mut legs = List::new(alloc);
+        let free = collected(alloc, q, &mut legs)?;
+        states.push(Part { free, legs })?;
     }
     Ok(states)
 }

@@ -138,14 +138,14 @@ fn push_next(
 /// The rest of a link after its first dup: the packet is set to the target and recorded at the second one.
 fn arriving(alloc: Global, switch: u16, port: u16, label: u32) -> Result<Part, AllocError>
     ensures free { IfOk result (λ r. tree_of r.free ≡ drop_policy) }
-    ensures rows { IfOk result (λ r. (moved : PolValue) × (r.rows ≡ (moved, label) ∷ [])
+    ensures legs { IfOk result (λ r. (moved : PolValue) × (r.legs ≡ (moved, label) ∷ [])
         × (tree_of moved ≡ seq_of (part (assign 0 switch) (part (assign 1 port) no_part)))) }
 {
     let moved = set_port(alloc, switch, port)?;
-    let mut rows = List::new(alloc);
-    rows.push((moved, label))?;
+    let mut legs = List::new(alloc);
+    legs.push((moved, label))?;
     let free = dropping(alloc);
-    Ok(Part { free, rows })
+    Ok(Part { free, legs })
 }
 
 /// The assignments of a port.

@@ -113,34 +113,34 @@ fn star(alloc: Global, p: Pol) -> Result<Pol, AllocError>
     Ok(Pol::Star(Box::new(alloc, p)?))
 }
 
-/// Puts the rows behind those before, the free policy before each; none where that is the empty sum.
+/// Puts the legs behind those before, the free policy before each; none where that is the empty sum.
 pub fn put_behind(
     alloc: Global,
     out: &mut List<(Pol, u32)>,
     free: &Pol,
-    rows: &[(Pol, u32)],
+    legs: &[(Pol, u32)],
 ) -> Result<(), AllocError>
-    ensures { OnOk result (ArePutBehind out.old out.new (tree_of free.now) rows.now) }
+    ensures { OnOk result (ArePutBehind out.old out.new (tree_of free.now) legs.now) }
 {
     let none = is_drop(free);
     if none {
         return Ok(());
     }
-    for row in rows {
+    for leg in legs {
         let front = free.copy(alloc)?;
-        let ways = followed_by(alloc, front, &row.0)?;
-        out.push((ways, row.1))?;
+        let ways = followed_by(alloc, front, &leg.0)?;
+        out.push((ways, leg.1))?;
     }
     Ok(())
 }
 
-/// The free policy of these states in turn; puts their rows behind those before.
+/// The free policy of these states in turn; puts their legs behind those before.
 pub fn in_turn(
     alloc: Global,
     states: &[Part],
-    rows: &mut List<(Pol, u32)>,
+    legs: &mut List<(Pol, u32)>,
 ) -> Result<Pol, AllocError>
-    ensures { IfOk result (λ r. AreInTurn rows.old rows.new (tree_of r) states.now) }
+    ensures { IfOk result (λ r. AreInTurn legs.old legs.new (tree_of r) states.now) }
 {
     let mut free = keeping(alloc);
     for state in states {
@@ -148,7 +148,7 @@ pub fn in_turn(
         if none {
             return Ok(free);
         }
-        put_behind(alloc, rows, &free, state.rows.as_slice())?;
+        put_behind(alloc, legs, &free, state.legs.as_slice())?;
         free = followed_by(alloc, free, &state.free)?;
     }
     Ok(free)
@@ -158,9 +158,9 @@ pub fn in_turn(
 pub fn continued(alloc: Global, states: &[Part], next: &Part) -> Result<Part, AllocError>
     ensures { IfOk result (λ r. IsContinued r states.now next.now) }
 {
-    let mut rows = List::new(alloc);
-    let free = in_turn(alloc, states, &mut rows)?;
-    put_behind(alloc, &mut rows, &free, next.rows.as_slice())?;
+    let mut legs = List::new(alloc);
+    let free = in_turn(alloc, states, &mut legs)?;
+    put_behind(alloc, &mut legs, &free, next.legs.as_slice())?;
     let whole = followed_by(alloc, free, &next.free)?;
-    Ok(Part { free: whole, rows })
+    Ok(Part { free: whole, legs })
 }

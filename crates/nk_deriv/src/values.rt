@@ -8,7 +8,7 @@ pub struct Part {
     /// Ends where the policy ends without a record.
     pub free: Pol,
     /// Each ends at the packets that the policy records first at the dup with this label.
-    pub rows: List<(Pol, u32)>,
+    pub legs: List<(Pol, u32)>,
 }
 
 /// A policy's part, and those of what is left of it after each of its dups.

@@ -6,7 +6,7 @@ pub mod Runs
 pub mod Interned
 pub mod HaveSets
 pub mod Together
-pub mod Rows
+pub mod StatesAt
 pub mod Regrouped
 pub mod Followed
 pub mod Below

@@ -38,11 +38,11 @@ all_entries P Q f [] e = All-nil Q
 all_entries P Q f (p ∷ ps) e = All-cons Q p ps (f p e.0) (all_entries P Q f ps e.1)
 
 -- levels of pairs are levels of entries
-pub pairs_are_entries : (st : Held) (ss : List (List ℕ)) (rows : ℕ) (ls : List (List (ℕ × ℕ)))
-    → ((i : ℕ) → i < length ls → ArePairs st ss rows (slice_index_or ls i [])) → AreEntries ss ls
-pairs_are_entries st ss rows ls pairs i lt =
+pub pairs_are_entries : (st : Held) (ss : List (List ℕ)) (states : ℕ) (ls : List (List (ℕ × ℕ)))
+    → ((i : ℕ) → i < length ls → ArePairs st ss states (slice_index_or ls i [])) → AreEntries ss ls
+pairs_are_entries st ss states ls pairs i lt =
     let h = pairs i lt in
-    (all_entries (IsPair st ss rows) (λ p. p.0 < length ss) (λ p e. e.known) (slice_index_or ls i []) h.each, h.once)
+    (all_entries (IsPair st ss states) (λ p. p.0 < length ss) (λ p e. e.known) (slice_index_or ls i []) h.each, h.once)
 
 -- images in order
 pub pairs_mapped : {X Y : Type 0} (R : X → X → Type 0) (S : Y → Y → Type 0) (f : X → Y) → ((x y : X) → R x y → S (f x) (f y))

@@ -16,10 +16,10 @@ pub record IsState (st : Held) (d : ℕ) (p : Policy) : Type 0 where
 
 -- the start stands at place 0, and what is left after the dup first + i at place 1 + i; the policy has these dups and no
 -- others, and each target is 0 or one of them
-pub record IsAutomaton (st : Held) (rows : List ℕ) (first : ℕ) (p : Policy) : Type 0 where
-  pub count : length rows ≡ 1 + dups_of p
+pub record IsAutomaton (st : Held) (states : List ℕ) (first : ℕ) (p : Policy) : Type 0 where
+  pub count : length states ≡ 1 + dups_of p
   pub labels : (i : ℕ) → i < dups_of p → has_dup p (first + i) ≡ true
-  pub start : IsState st (slice_index rows 0) p
-  pub rest : (i : ℕ) → i < dups_of p → IsState st (slice_index rows (1 + i)) (after p (first + i))
-  pub targets : (i : ℕ) (pk y : List ℕ) (t : ℕ) → i < length rows → IsPacket st pk → Sends st (slice_index rows i) pk y t →
+  pub start : IsState st (slice_index states 0) p
+  pub rest : (i : ℕ) → i < dups_of p → IsState st (slice_index states (1 + i)) (after p (first + i))
+  pub targets : (i : ℕ) (pk y : List ℕ) (t : ℕ) → i < length states → IsPacket st pk → Sends st (slice_index states i) pk y t →
       (t ≡ 0) ⊎ ((first ≤ t) × (t < first + dups_of p))

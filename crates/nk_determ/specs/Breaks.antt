@@ -15,14 +15,14 @@ abbrev pub Walks : (Node → Node → Type 0) → Node → List (List ℕ) → N
 Walks Step m [] n = m ≡ n
 Walks Step m (y ∷ u) n = (set : List ℕ) × Step m (set, y) × Walks Step (set, y) u n
 
--- the history starts at a packet that starts, its records follow the rows' set states from the start set on, and its last
+-- the history starts at a packet that starts, its records follow the states' set states from the start set on, and its last
 -- packet is made by a bad final with that target of the set where the records end
-pub record IsBreak (st : Held) (rows set : List ℕ) (start : ℕ) (bad : List ℕ → List ℕ → List Out) (target : ℕ) (f : Found) : Type 0 where
+pub record IsBreak (st : Held) (states set : List ℕ) (start : ℕ) (bad : List ℕ → List ℕ → List Out) (target : ℕ) (f : Found) : Type 0 where
   pub starts : IsStart st set start (set, f.start)
   pub end : Node
-  pub walk : Walks (IsStep st rows) (set, f.start) f.records end
+  pub walk : Walks (IsStep st states) (set, f.start) f.records end
   pub makes : Makes (bad end.0 end.1) end.1 f.last target
 
 -- the same by a bad final with any target
 abbrev pub Breaks : Held → List ℕ → List ℕ → ℕ → (List ℕ → List ℕ → List Out) → Found → Type 0
-Breaks st rows set start bad f = (target : ℕ) × IsBreak st rows set start bad target f
+Breaks st states set start bad f = (target : ℕ) × IsBreak st states set start bad target f

@@ -1,4 +1,4 @@
--- What the levels of rows are: every set state at every packet by the least number of records with which it comes.
+-- What the levels of states are: every set state at every packet by the least number of records with which it comes.
 use Rattle.std.specs.Prelude.{◌≡◌, ℕ, ◌+◌, ◌-◌, ◌<◌, ◌≤◌, Bool, true, false, List, [], ◌∷◌, length, slice_index_or}
 use Rattle.nk_store.specs.declared.node.Out.{Out}
 use Rattle.nk_store.specs.Held.{Held, IsPacket}
@@ -8,7 +8,7 @@ use Rattle.nk_determ.specs.Pairs.{Node, Within, EachPair, ArePairs, IsStart, IsS
 
 -- a set is reached at a packet in exactly so many records
 abbrev pub At : Held → List ℕ → List ℕ → ℕ → ℕ → Node → Type 0
-At st rows set start i n = Reach (IsStart st set start) (IsStep st rows) i n
+At st states set start i n = Reach (IsStart st set start) (IsStep st states) i n
 
 -- level i has the set at the packet
 abbrev pub InLevel : Held → List (List ℕ) → List (List (ℕ × ℕ)) → ℕ → Node → Type 0
@@ -27,15 +27,15 @@ pub record IsLater (st : Held) (l : List (ℕ × ℕ)) : Type 0 where
 abbrev pub Bad : (List ℕ → List ℕ → List Out) → Node → Type 0
 Bad bad n = bad n.0 n.1 ≡ [] → ⊥
 
--- The levels of these rows from this set at these packets, with these bad finals; starts and steps are said in the store
+-- The levels of these states from this set at these packets, with these bad finals; starts and steps are said in the store
 -- of the beginning. They end with the first level that has a bad final, which is broken, or where nothing new comes.
-pub record AreLevels (old : Held) (st : Held) (ss : List (List ℕ)) (rows : List ℕ) (set start : ℕ) (bad : List ℕ → List ℕ → List Out) (ls : List (List (ℕ × ℕ))) (broken : Bool) : Type 0 where
-  pub exact : Exact (IsStart old (slice_index_or ss set []) start) (IsStep old rows) (IsGood old) (InLevel st ss ls) (length ls)
+pub record AreLevels (old : Held) (st : Held) (ss : List (List ℕ)) (states : List ℕ) (set start : ℕ) (bad : List ℕ → List ℕ → List Out) (ls : List (List (ℕ × ℕ))) (broken : Bool) : Type 0 where
+  pub exact : Exact (IsStart old (slice_index_or ss set []) start) (IsStep old states) (IsGood old) (InLevel st ss ls) (length ls)
   pub some : 0 < length ls
   pub start_is : slice_index_or ls 0 [] ≡ (set, start) ∷ []
-  pub pairs : (i : ℕ) → i < length ls → ArePairs st ss (length rows) (slice_index_or ls i [])
+  pub pairs : (i : ℕ) → i < length ls → ArePairs st ss (length states) (slice_index_or ls i [])
   pub shape : (i : ℕ) → 1 ≤ i → i < length ls → IsLater st (slice_index_or ls i [])
   pub goal : (i : ℕ) (n : Node) → i + 1 < length ls → IsGood old n → InLevel st ss ls i n → Bad bad n → ⊥
   pub broken_at : broken ≡ true → (n : Node) × IsGood old n × InLevel st ss ls (length ls - 1) n × Bad bad n
   pub not_broken : broken ≡ false → (n : Node) → IsGood old n → InLevel st ss ls (length ls - 1) n → Bad bad n → ⊥
-  pub complete : broken ≡ false → (i : ℕ) (n : Node) → At old rows (slice_index_or ss set []) start i n → (j : ℕ) × (j ≤ i) × (j < length ls) × InLevel st ss ls j n
+  pub complete : broken ≡ false → (i : ℕ) (n : Node) → At old states (slice_index_or ss set []) start i n → (j : ℕ) × (j ≤ i) × (j < length ls) × InLevel st ss ls j n

@@ -6,20 +6,20 @@ use Rattle.nk_store.specs.Held.{Held, IsPacket}
 use Rattle.nk_algebra.specs.PacketSets.{is_in, IsSet}
 use Rattle.nk_algebra.specs.Unions.{AreIds}
 use Rattle.nk_determ.specs.Exact.{Sends}
-use Rattle.nk_determ.specs.States.{RowLeads}
+use Rattle.nk_determ.specs.States.{StateLeads}
 
 -- a set of labels at a packet
 abbrev pub Node : Type 0
 Node = List ℕ × List ℕ
 
--- each label is a place among so many rows
+-- each label is a place among so many states
 abbrev pub HavePlaces : ℕ → List ℕ → Type 0
-HavePlaces rows set = All (λ l. l < rows) set
+HavePlaces states set = All (λ l. l < states) set
 
--- each row is a diagram of the store, and what it sends packets in range to are places among the rows
-pub record AreRows (st : Held) (rows : List ℕ) : Type 0 where
-  pub ids : AreIds st rows
-  pub targets : (l : ℕ) (pk y : List ℕ) (t : ℕ) → l < length rows → IsPacket st pk → Sends st (slice_index rows l) pk y t → t < length rows
+-- each state is a diagram of the store, and what it sends packets in range to are places among the states
+pub record AreStates (st : Held) (states : List ℕ) : Type 0 where
+  pub ids : AreIds st states
+  pub targets : (l : ℕ) (pk y : List ℕ) (t : ℕ) → l < length states → IsPacket st pk → Sends st (slice_index states l) pk y t → t < length states
 
 -- the packet stands under the set of this number
 abbrev pub Under : Held → List (ℕ × ℕ) → ℕ → List ℕ → Type 0
@@ -45,15 +45,15 @@ EachPair P (p ∷ ps) = P p × EachPair P ps
 abbrev pub Within : Held → List (List ℕ) → List (ℕ × ℕ) → Node → Type 0
 Within st ss ps n = (i : ℕ) × (slice_index_or ss i [] ≡ n.0) × Under st ps i n.1
 
--- an entry over so many rows
-pub record IsPair (st : Held) (ss : List (List ℕ)) (rows : ℕ) (p : ℕ × ℕ) : Type 0 where
+-- an entry over so many states
+pub record IsPair (st : Held) (ss : List (List ℕ)) (states : ℕ) (p : ℕ × ℕ) : Type 0 where
   pub known : p.0 < length ss
-  pub places : HavePlaces rows (slice_index_or ss p.0 [])
+  pub places : HavePlaces states (slice_index_or ss p.0 [])
   pub packets : IsSet st p.1
 
--- entries over so many rows, a set once
-pub record ArePairs (st : Held) (ss : List (List ℕ)) (rows : ℕ) (ps : List (ℕ × ℕ)) : Type 0 where
-  pub each : EachPair (IsPair st ss rows) ps
+-- entries over so many states, a set once
+pub record ArePairs (st : Held) (ss : List (List ℕ)) (states : ℕ) (ps : List (ℕ × ℕ)) : Type 0 where
+  pub each : EachPair (IsPair st ss states) ps
   pub once : Once ps
 
 -- the packets that start
@@ -63,11 +63,11 @@ pub record IsStart (st : Held) (set : List ℕ) (packets : ℕ) (n : Node) : Typ
   pub has : is_in st packets n.1 ≡ true
 
 -- the set at the packet records the next packet, and the labels that do so, all of them, are the next set
-pub record IsStep (st : Held) (rows : List ℕ) (m n : Node) : Type 0 where
+pub record IsStep (st : Held) (states : List ℕ) (m n : Node) : Type 0 where
   pub packet : IsPacket st n.1
   pub some : n.0 ≡ [] → ⊥
   pub ascend : IsStrictlyIncreasing n.0
-  pub every : (l : ℕ) → Contains n.0 l ↔ ((0 < l) × RowLeads st rows m.0 m.1 n.1 l)
+  pub every : (l : ℕ) → Contains n.0 l ↔ ((0 < l) × StateLeads st states m.0 m.1 n.1 l)
 
 -- the packet is one of the store's
 abbrev pub IsGood : Held → Node → Type 0

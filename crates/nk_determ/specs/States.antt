@@ -18,13 +18,13 @@ SomeSends st ds pk g target = (d : ℕ) × Contains ds d × Contains (split_leaf
 abbrev pub SomeLeads : Held → List ℕ → List ℕ → List ℕ → ℕ → Type 0
 SomeLeads st ds pk y target = (d : ℕ) × Contains ds d × Sends st d pk y target
 
--- the same of the rows at these labels, split
-abbrev pub RowSends : Held → List ℕ → List ℕ → List ℕ → List (ℕ × ℕ) → ℕ → Type 0
-RowSends st rows labels pk g target = (l : ℕ) × Contains labels l × Contains (split_leaf st.maxes pk (look st (slice_index rows l) pk)) (record { act = g; target = target })
+-- the same of the states at these labels, split
+abbrev pub StateSends : Held → List ℕ → List ℕ → List ℕ → List (ℕ × ℕ) → ℕ → Type 0
+StateSends st states labels pk g target = (l : ℕ) × Contains labels l × Contains (split_leaf st.maxes pk (look st (slice_index states l) pk)) (record { act = g; target = target })
 
--- and of these rows as they are
-abbrev pub RowLeads : Held → List ℕ → List ℕ → List ℕ → List ℕ → ℕ → Type 0
-RowLeads st rows labels pk y target = (l : ℕ) × Contains labels l × Sends st (slice_index rows l) pk y target
+-- and of these states as they are
+abbrev pub StateLeads : Held → List ℕ → List ℕ → List ℕ → List ℕ → ℕ → Type 0
+StateLeads st states labels pk y target = (l : ℕ) × Contains labels l × Sends st (slice_index states l) pk y target
 
 -- the set of that number has exactly the labels, 0 being none, that are met, and there are some
 pub record IsSetOfMet (sets : List (List ℕ)) (i : ℕ) (Met : ℕ → Type 0) : Type 0 where
@@ -40,13 +40,13 @@ AreFollowed sets st ds pk g i = IsSetOfMet sets i (λ l. SomeSends st ds pk g l)
 abbrev pub AreLedTo : List (List ℕ) → Held → List ℕ → List ℕ → List ℕ → ℕ → Type 0
 AreLedTo sets st ds pk y i = IsSetOfMet sets i (λ l. SomeLeads st ds pk y l)
 
--- those labels are all with which some row records what the act makes of the packet
+-- those labels are all with which some state records what the act makes of the packet
 abbrev pub IsFollowed : List (List ℕ) → Held → List ℕ → List ℕ → List ℕ → List (ℕ × ℕ) → ℕ → Type 0
-IsFollowed sets st rows labels pk g i = IsSetOfMet sets i (λ l. RowSends st rows labels pk g l)
+IsFollowed sets st states labels pk g i = IsSetOfMet sets i (λ l. StateSends st states labels pk g l)
 
--- those labels are all with which some row records the packet, made y
+-- those labels are all with which some state records the packet, made y
 abbrev pub IsLedTo : List (List ℕ) → Held → List ℕ → List ℕ → List ℕ → List ℕ → ℕ → Type 0
-IsLedTo sets st rows labels pk y i = IsSetOfMet sets i (λ l. RowLeads st rows labels pk y l)
+IsLedTo sets st states labels pk y i = IsSetOfMet sets i (λ l. StateLeads st states labels pk y l)
 
 -- the first n of these diagrams have the leaves that the function gives for their places
 abbrev pub HaveEach : Held → List ℕ → (ℕ → List ℕ → List Out) → ℕ → Type 0

@@ -1,4 +1,4 @@
-//! The diagram of a set state: of diagrams together, and of the rows at a set of labels.
+//! The diagram of a set state: of diagrams together, and of the states at a set of labels.
 ghost use Rattle.std.specs.Prelude.{◌≡◌, ◌↔◌, ℕ, ◌+◌, ◌<◌, [], ◌++◌, All, List as Items, IfOk, OnOk, length, flat_map, map, slice_index, slice_index_or};
 ghost use Rattle.std.specs.List.{Contains};
 ghost use Rattle.std.specs.List.Sorted.{IsStrictlyIncreasing};
@@ -8,7 +8,7 @@ ghost use Rattle.nk_algebra.specs.Unions.{AreIds};
 ghost use Rattle.nk_determ.specs.Exact.{split_leaf, AreExact, Sends};
 ghost use Rattle.nk_determ.specs.Sets.{SetsGrow};
 ghost use Rattle.nk_determ.specs.Branches.{branches, labels};
-ghost use Rattle.nk_determ.specs.States.{SomeSends, SomeLeads, AreFollowed, AreLedTo, RowSends, RowLeads, IsFollowed, IsLedTo, HaveEach, IsTogether, IsStateOf, IsThere, HasAll, HasSets, AllHaveSets, final_of, out_to_set, branch_outs, regrouped};
+ghost use Rattle.nk_determ.specs.States.{SomeSends, SomeLeads, AreFollowed, AreLedTo, StateSends, StateLeads, IsFollowed, IsLedTo, HaveEach, IsTogether, IsStateOf, IsThere, HasAll, HasSets, AllHaveSets, final_of, out_to_set, branch_outs, regrouped};
 
 use crate::branches::{Branch, branches_of, labels_in};
 use crate::sets::{SetId, Sets};
@@ -19,59 +19,59 @@ use nk_store::{Id, Node, Out, Store};
 use std::alloc::{AllocError, Global};
 use std::collections::HashSet;
 
-/// The diagram of a set of labels, each of which is a place among the rows: a final act with target 0 for each packet that
+/// The diagram of a set of labels, each of which is a place among the states: a final act with target 0 for each packet that
 /// some member ends at, and for each packet that some member records next one act with target 1 + the number of the set of
 /// all labels that record it. Sets that aren't there yet are put in. The only error is that memory ran out.
-pub fn state(st: &mut Store, ss: &mut Sets, rows: &[Id], s: SetId) -> Result<Id, AllocError>
-    requires rows { AreIds st.old rows.now }
+pub fn state(st: &mut Store, ss: &mut Sets, states: &[Id], s: SetId) -> Result<Id, AllocError>
+    requires states { AreIds st.old states.now }
     requires set { s < length ss.old }
-    requires places { All (λ l. l < length rows.now) (slice_index_or ss.old s []) }
+    requires places { All (λ l. l < length states.now) (slice_index_or ss.old s []) }
     ensures grows { Grows st.old st.new }
     ensures sets { SetsGrow ss.old ss.new }
     ensures id { IfOk result (λ r. IsId st.new r) }
     ensures exact { IfOk result (λ r. AreExact st.new r) }
     ensures finals { IfOk result (λ r. (pk : Items ℕ) (g : Items (ℕ × ℕ)) → IsWhole pk →
         Contains (look st.new r pk) (record { act = g; target = 0 })
-        ↔ RowSends st.old rows.now (slice_index_or ss.old s []) pk g 0) }
+        ↔ StateSends st.old states.now (slice_index_or ss.old s []) pk g 0) }
     ensures next { IfOk result (λ r. (pk : Items ℕ) (g : Items (ℕ × ℕ)) (i : ℕ) → IsWhole pk →
         Contains (look st.new r pk) (record { act = g; target = i + 1 }) →
-        IsFollowed ss.new st.old rows.now (slice_index_or ss.old s []) pk g i) }
+        IsFollowed ss.new st.old states.now (slice_index_or ss.old s []) pk g i) }
     ensures recorded { IfOk result (λ r. (pk : Items ℕ) (g : Items (ℕ × ℕ)) (l : ℕ) → IsWhole pk → 0 < l →
-        RowSends st.old rows.now (slice_index_or ss.old s []) pk g l →
+        StateSends st.old states.now (slice_index_or ss.old s []) pk g l →
         (i : ℕ) × Contains (look st.new r pk) (record { act = g; target = i + 1 })) }
     ensures once { IfOk result (λ r. (pk : Items ℕ) (g : Items (ℕ × ℕ)) (i j : ℕ) → IsWhole pk →
         Contains (look st.new r pk) (record { act = g; target = i + 1 }) →
         Contains (look st.new r pk) (record { act = g; target = j + 1 }) → i ≡ j) }
     ensures ends { IfOk result (λ r. (pk y : Items ℕ) → IsPacket st.old pk →
-        Sends st.new r pk y 0 ↔ RowLeads st.old rows.now (slice_index_or ss.old s []) pk y 0) }
+        Sends st.new r pk y 0 ↔ StateLeads st.old states.now (slice_index_or ss.old s []) pk y 0) }
     ensures leads { IfOk result (λ r. (pk y : Items ℕ) (i : ℕ) → IsPacket st.old pk → Sends st.new r pk y (i + 1) →
-        IsLedTo ss.new st.old rows.now (slice_index_or ss.old s []) pk y i) }
+        IsLedTo ss.new st.old states.now (slice_index_or ss.old s []) pk y i) }
     ensures led { IfOk result (λ r. (pk y : Items ℕ) (l : ℕ) → IsPacket st.old pk → 0 < l →
-        RowLeads st.old rows.now (slice_index_or ss.old s []) pk y l → (i : ℕ) × Sends st.new r pk y (i + 1)) }
+        StateLeads st.old states.now (slice_index_or ss.old s []) pk y l → (i : ℕ) × Sends st.new r pk y (i + 1)) }
 {
-    let diagrams = rows_at(st.alloc(), rows, ss.members(s))?;
+    let diagrams = states_at(st.alloc(), states, ss.members(s))?;
     let r = state_of(st, ss, diagrams.as_slice())?;
     Ok(r)
 }
 
-/// The rows at these labels.
-fn rows_at(alloc: Global, rows: &[Id], labels: &[u64]) -> Result<List<Id>, AllocError>
-    requires { All (λ l. l < length rows.now) labels.now }
-    ensures { IfOk result (λ ds. ds ≡ map (λ l. slice_index rows.now l) labels.now) }
+/// The states at these labels.
+fn states_at(alloc: Global, states: &[Id], labels: &[u64]) -> Result<List<Id>, AllocError>
+    requires { All (λ l. l < length states.now) labels.now }
+    ensures { IfOk result (λ ds. ds ≡ map (λ l. slice_index states.now l) labels.now) }
 {
     let mut ds = List::new(alloc);
     for l in labels {
-        ds.push(row_at(rows, *l))?;
+        ds.push(state_at(states, *l))?;
     }
     Ok(ds)
 }
 
-/// The row at a place.
-fn row_at(rows: &[Id], place: u64) -> Id
-    requires { place < length rows.now }
-    ensures { result ≡ slice_index rows.now place }
+/// The state at a place.
+fn state_at(states: &[Id], place: u64) -> Id
+    requires { place < length states.now }
+    ensures { result ≡ slice_index states.now place }
 {
-    rows[place as usize]
+    states[place as usize]
 }
 
 /// What these diagrams do together, as the diagram of a set state: a final act with target 0 for each packet that some

@@ -28,7 +28,7 @@ enum Case {
     RangesTogether,
     /// At `dst` 1 both acts of `id + dst:=1` are one that assigns nothing, at `dst` 0 they are two.
     UnchangedGoes,
-    /// What two rows record is one out, to the set of both labels.
+    /// What two states record is one out, to the set of both labels.
     BothLabelsFollow,
     /// The packets whose `dst` is neither 0 nor 2 are printed by their values.
     OddIsPrinted,

@@ -1,4 +1,4 @@
-//! Acts without what is there already, and what two rows record together.
+//! Acts without what is there already, and what two states record together.
 ghost use Rattle.std.specs.Prelude.{◌≡◌, ◌<◌, [], ◌∷◌, IfOk};
 ghost use Rattle.std.specs.List.Sorted.{IsStrictlyIncreasing};
 ghost use Rattle.nk_store.specs.Held.{IsId, Grows};
@@ -46,7 +46,7 @@ fn two_labels(alloc: Global, a: u64, b: u64) -> Result<List<u64>, AllocError>
     Ok(all)
 }
 
-/// The state of the labels 0 and 1 over two rows.
+/// The state of the labels 0 and 1 over two states.
 fn state_of_two(st: &mut Store, ss: &mut Sets, a: Id, b: Id, s: SetId) -> Result<Id, AllocError>
     requires first { IsId st.old a }
     requires second { IsId st.old b }
@@ -56,7 +56,7 @@ fn state_of_two(st: &mut Store, ss: &mut Sets, a: Id, b: Id, s: SetId) -> Result
     state(st, ss, &[a, b], s)
 }
 
-/// The state of two rows that record each packet as it is, as label 1 and as label 2.
+/// The state of two states that record each packet as it is, as label 1 and as label 2.
 fn both_record(alloc: Global, st: &mut Store, ss: &mut Sets) -> Result<Id, AllocError>
     ensures id { IfOk result (IsId st.new) }
 {
@@ -67,7 +67,7 @@ fn both_record(alloc: Global, st: &mut Store, ss: &mut Sets) -> Result<Id, Alloc
     state_of_two(st, ss, first, second, s)
 }
 
-/// Whether what two rows record is one out, to the set of both labels.
+/// Whether what two states record is one out, to the set of both labels.
 pub fn both_labels_follow(st: &mut Store, ss: &mut Sets) -> Result<bool, AllocError> {
     let alloc = st.alloc();
     let d = both_record(alloc, st, ss)?;

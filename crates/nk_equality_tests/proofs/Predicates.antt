@@ -5,7 +5,7 @@ use Rattle.std.proofs.lemmas.List.Elements.{All-contains, All-map}
 use Rattle.nk_field.proofs.Lists.{in_from_contains, contains_from_in}
 use Rattle.nk_policy.specs.Policy.{is_predicate}
 use Rattle.nk_policy.specs.Tree.{tree_of}
-use Rattle.nk_cert.specs.declared.shape.Certificate.{Certificate}
+use Rattle.nk_cert.specs.declared.certificate.Certificate.{Certificate}
 use Rattle.nk_cert.specs.Certificates.{RowValue, CertRow, rows_of, later_row}
 use Rattle.nk_cert.specs.Values.{row_value, row_values, certificate_value}
 use Rattle.nk_cert.specs.Verdicts.{HasPredicates}

@@ -8,7 +8,7 @@ ghost use Rattle.nk_sets.specs.PacketSets.{IsSet};
 ghost use Rattle.nk_auto.specs.Continued.{IsFit, AreFit};
 ghost use Rattle.nk_deriv.specs.Part.{NegatesPredicates, AllNegatePredicates};
 ghost use Rattle.nk_determ.specs.Sets.{IsSetOf};
-ghost use Rattle.nk_reach.specs.Pairs.{AreRows};
+ghost use Rattle.nk_reach.specs.Pairs.{AreStates};
 ghost use Rattle.nk_tag.specs.Numbers.{AreEntries};
 
 use nk_algebra::empty;
@@ -56,23 +56,23 @@ fn all_fit(st: &Store, ps: &[Pol]) -> bool
 }
 
 /// The automaton of a policy.
-#[tactic(auto, using(nk_runs::proofs::Stands::are_rows))]
+#[tactic(auto, using(nk_runs::proofs::Stands::are_states))]
 fn drawn(st: &mut Store, p: &Pol) -> Result<List<Id>, AllocError>
     requires fit { IsFit st.old.maxes (tree_of p.now) }
     requires numbered { marked_from (tree_of p.now) 1 ≡ tree_of p.now }
     requires few { 1 + dups_of (tree_of p.now) ≤ 2 ^ 32 }
     ensures grows { Grows st.old st.new }
-    ensures rows { IfOk result (λ rows. AreRows st.new rows) }
+    ensures states { IfOk result (λ states. AreStates st.new states) }
 {
-    let rows = policy_automaton(st, p, 1)?;
-    Ok(rows)
+    let states = policy_automaton(st, p, 1)?;
+    Ok(states)
 }
 
-/// The rows of the automaton of a policy, its dups numbered from 1 on; no rows where the policy has none.
-#[tactic(auto, using(crate::proofs::Rows::no_rows))]
-pub fn rows_of(st: &mut Store, raw: &Pol) -> Result<List<Id>, AllocError>
+/// The states of the automaton of a policy, its dups numbered from 1 on; no states where the policy has none.
+#[tactic(auto, using(crate::proofs::NoStates::no_states))]
+pub fn states_of(st: &mut Store, raw: &Pol) -> Result<List<Id>, AllocError>
     ensures grows { Grows st.old st.new }
-    ensures rows { IfOk result (λ rows. AreRows st.new rows) }
+    ensures states { IfOk result (λ states. AreStates st.new states) }
 {
     let alloc = st.alloc();
     let Some(p) = numbered(alloc, raw)? else {
@@ -93,24 +93,24 @@ pub fn start_set(alloc: Global, ss: &mut Sets) -> Result<SetId, AllocError>
     ss.intern(labels)
 }
 
-/// The levels of some rows from the start at some packets.
+/// The levels of some states from the start at some packets.
 pub fn from_start<G: Goal>(
     st: &mut Store,
     ss: &mut Sets,
-    rows: &[Id],
+    states: &[Id],
     start: Id,
     g: &mut G,
 ) -> Result<Levels, AllocError>
     requires fits { G.fits g.old st.old }
-    requires labels { length rows.now ≤ G.labels g.old }
-    requires rows { AreRows st.old rows.now }
-    requires some { 0 < length rows.now }
+    requires labels { length states.now ≤ G.labels g.old }
+    requires states { AreStates st.old states.now }
+    requires some { 0 < length states.now }
     requires packets { IsSet st.old start }
     ensures grows { Grows st.old st.new }
     ensures entries { IfOk result (λ l. AreEntries ss.new l.levels) }
 {
     let s = start_set(st.alloc(), ss)?;
-    levels(st, ss, rows, s, start, g)
+    levels(st, ss, states, s, start, g)
 }
 
 /// The goal for which nothing is bad.
@@ -138,16 +138,18 @@ impl Goal for NothingBad {
     }
 }
 
-/// The levels of some rows from the start at some packets, all of them: nothing is bad.
-fn levels_of(st: &mut Store, ss: &mut Sets, rows: &[Id], start: Id) -> Result<Levels, AllocError>
-    requires rows { AreRows st.old rows.now }
-    requires some { 0 < length rows.now }
+/// The levels of some states from the start at some packets, all of them: nothing is bad.
+fn levels_of(st: &mut Store, ss: &mut Sets, states: &[Id], start: Id) -> Result<Levels, AllocError>
+    requires states { AreStates st.old states.now }
+    requires some { 0 < length states.now }
     requires packets { IsSet st.old start }
     ensures grows { Grows st.old st.new }
     ensures entries { IfOk result (λ l. AreEntries ss.new l.levels) }
 {
-    let mut g = NothingBad { labels: rows.len() };
-    from_start(st, ss, rows, start, &mut g)
+    let mut g = NothingBad {
+        labels: states.len(),
+    };
+    from_start(st, ss, states, start, &mut g)
 }
 
 /// The levels of a policy's automaton from its start at some packets, all of them; none where the policy has no automaton.
@@ -161,10 +163,10 @@ pub fn levels_of_policy(
     requires packets { IsSet st.old start }
     ensures entries { IfOk result (λ o. IfSome o (λ l. AreEntries ss.new l.levels)) }
 {
-    let rows = rows_of(st, raw)?;
-    if rows.is_empty() {
+    let states = states_of(st, raw)?;
+    if states.is_empty() {
         return Ok(None);
     }
-    let lv = levels_of(st, ss, rows.as_slice(), start)?;
+    let lv = levels_of(st, ss, states.as_slice(), start)?;
     Ok(Some(lv))
 }

@@ -1,9 +1,9 @@
 //! The least history of one side alone.
 ghost use Rattle.std.specs.Prelude.{◌<◌, [], length, slice_index_or};
-ghost use Rattle.nk_reach.specs.Pairs.{AreRows, HavePlaces};
+ghost use Rattle.nk_reach.specs.Pairs.{AreStates, HavePlaces};
 ghost use Rattle.nk_sets.specs.PacketSets.{IsSet};
 
-use crate::automata::{rows_of, start_set};
+use crate::automata::{start_set, states_of};
 use crate::cases::{Case, holds};
 use crate::packets::each;
 use nk_determ::{SetId, Sets};
@@ -49,27 +49,27 @@ fn side(alloc: Global) -> Result<Pol, AllocError> {
 }
 
 /// The least history of one side alone, if there is one. Labels from the bound on are of the right side; neither side ends
-/// without a record, so the row of the start stands for that of each.
+/// without a record, so the state of the start stands for that of each.
 fn least_of(
     st: &mut Store,
     ss: &mut Sets,
-    rows: &[Id],
+    states: &[Id],
     s: SetId,
     start: Id,
     bound: usize,
 ) -> Result<Option<Found>, AllocError>
-    requires rows { AreRows st.old rows.now }
-    requires some { 0 < length rows.now }
+    requires states { AreStates st.old states.now }
+    requires some { 0 < length states.now }
     requires set { s < length ss.old }
-    requires places { HavePlaces (length rows.now) (slice_index_or ss.old s []) }
+    requires places { HavePlaces (length states.now) (slice_index_or ss.old s []) }
     requires packets { IsSet st.old start }
 {
-    let mut g = OneSide::new(st, rows, rows[0], rows[0], bound)?;
-    let lv = levels(st, ss, rows, s, start, &mut g)?;
+    let mut g = OneSide::new(st, states, states[0], states[0], bound)?;
+    let lv = levels(st, ss, states, s, start, &mut g)?;
     if !lv.broken() {
         return Ok(None);
     }
-    let f = least_history(st, ss, rows, &lv, &mut g)?;
+    let f = least_history(st, ss, states, &lv, &mut g)?;
     Ok(Some(f))
 }
 
@@ -82,13 +82,13 @@ fn found(
     right: bool,
 ) -> Result<Option<Found>, AllocError> {
     let all = each(st)?;
-    let rows = rows_of(st, &side(alloc)?)?;
-    if rows.len() != 3 {
+    let states = states_of(st, &side(alloc)?)?;
+    if states.len() != 3 {
         return Ok(None);
     }
     let s = start_set(alloc, ss)?;
     let bound = if right { 1 } else { 3 };
-    least_of(st, ss, rows.as_slice(), s, all, bound)
+    least_of(st, ss, states.as_slice(), s, all, bound)
 }
 
 /// The packet at a port with a value of `a`.

@@ -1,9 +1,9 @@
 //! The levels of two policies beside each other, up to an end of one side alone.
 ghost use Rattle.std.specs.Prelude.{◌<◌, length};
-ghost use Rattle.nk_reach.specs.Pairs.{AreRows};
+ghost use Rattle.nk_reach.specs.Pairs.{AreStates};
 ghost use Rattle.nk_sets.specs.PacketSets.{IsSet};
 
-use crate::automata::{from_start, rows_of};
+use crate::automata::{from_start, states_of};
 use crate::cases::{Case, holds};
 use crate::packets::{each, narrowed};
 use crate::reads::is_level_of;
@@ -27,18 +27,18 @@ fn both_sides(alloc: Global, n: u64) -> Result<Pol, AllocError> {
     either(alloc, left, right)
 }
 
-/// The levels of the rows of both from their start at some packets, up to an end of one side alone. Neither side ends
-/// without a record, so the row of both starts stands for each of them.
-fn compared(st: &mut Store, ss: &mut Sets, rows: &[Id], start: Id) -> Result<Levels, AllocError>
-    requires rows { AreRows st.old rows.now }
-    requires some { 0 < length rows.now }
+/// The levels of the states of both from their start at some packets, up to an end of one side alone. Neither side ends
+/// without a record, so the state of both starts stands for each of them.
+fn compared(st: &mut Store, ss: &mut Sets, states: &[Id], start: Id) -> Result<Levels, AllocError>
+    requires states { AreStates st.old states.now }
+    requires some { 0 < length states.now }
     requires packets { IsSet st.old start }
 {
-    let mut g = OneSide::new(st, rows, rows[0], rows[0], 3)?;
-    from_start(st, ss, rows, start, &mut g)
+    let mut g = OneSide::new(st, states, states[0], states[0], 3)?;
+    from_start(st, ss, states, start, &mut g)
 }
 
-/// The levels of both policies from their start at each packet; none unless they have five rows.
+/// The levels of both policies from their start at each packet; none unless they have five states.
 #[tactic(auto, using(nk_sets::proofs::SetLemmas::set_grows))]
 fn levels_of_both(
     alloc: Global,
@@ -47,11 +47,11 @@ fn levels_of_both(
     n: u64,
 ) -> Result<Option<Levels>, AllocError> {
     let all = each(st)?;
-    let rows = rows_of(st, &both_sides(alloc, n)?)?;
-    if rows.len() != 5 {
+    let states = states_of(st, &both_sides(alloc, n)?)?;
+    if states.len() != 5 {
         return Ok(None);
     }
-    let lv = compared(st, ss, rows.as_slice(), all)?;
+    let lv = compared(st, ss, states.as_slice(), all)?;
     Ok(Some(lv))
 }
 

@@ -13,13 +13,13 @@ use Rattle.nk_cert.specs.Certificates.{CertificateValue}
 use Rattle.nk_cert.specs.Equality.{on_left}
 use Rattle.nk_cert.specs.Verdicts.{Finding, valid, IsFinding}
 use Rattle.nk_cert.specs.Values.{certificate_value, finding_of}
-use Rattle.nk_cert.specs.declared.shape.Verdict.{Verdict}
+use Rattle.nk_cert.specs.declared.certificate.Verdict.{Verdict}
 use Rattle.nk_cert.specs.Comparison.{whose, IsRelated}
 use Rattle.nk_query.specs.Asked.{Asked, apart, waypoint, Question, NamesQuestion, LacksName, are_predicates, question_policy, NoneBreaks, IsLeastBreak}
-use Rattle.nk_query.specs.declared.shape.Query.{Query}
-use Rattle.nk_query.specs.declared.shape.Query.TheVariants.{Apart, Waypoint}
-use Rattle.nk_query.specs.declared.shape.Answer.{Answer}
-use Rattle.nk_query.specs.declared.shape.Answer.TheVariants.{Holds, Breaks}
+use Rattle.nk_query.specs.declared.query.Query.{Query}
+use Rattle.nk_query.specs.declared.query.Query.TheVariants.{Apart, Waypoint}
+use Rattle.nk_query.specs.declared.query.Answer.{Answer}
+use Rattle.nk_query.specs.declared.query.Answer.TheVariants.{Holds, Breaks}
 use Rattle.nk_query.specs.declared.error.QueryError.{QueryError}
 use Rattle.nk_query.specs.declared.error.QueryError.TheVariants.{NoMemory, NoPolicy, NotAPredicate, TooLarge}
 

@@ -7,7 +7,7 @@ ghost use Rattle.nk_query.specs.Answers.{asked_of, asked_policy, IsFitFor, IsAns
 
 use crate::error::QueryError;
 use crate::naming::question;
-use crate::shape::{Answer, Query};
+use crate::query::{Answer, Query};
 use nk_cert::{Compared, compare_policies};
 use nk_field::Fields;
 use nk_names::Program;

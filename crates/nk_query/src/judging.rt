@@ -9,7 +9,7 @@ ghost use Rattle.nk_query.specs.Answers.{asked_of, asked_policy, IsFitFor, IsJud
 use crate::asking::dropping;
 use crate::error::QueryError;
 use crate::naming::question;
-use crate::shape::Query;
+use crate::query::Query;
 use nk_cert::{Certificate, Verdict, check_policies};
 use nk_field::Fields;
 use nk_names::Program;

@@ -10,10 +10,10 @@ mod judging;
 pub mod laws;
 mod measure;
 mod naming;
-mod shape;
+mod query;
 
 pub use asking::ask;
 pub use error::QueryError;
 pub use judging::check_query;
 pub use naming::question;
-pub use shape::{Answer, Query};
+pub use query::{Answer, Query};

@@ -6,7 +6,7 @@ ghost use Rattle.nk_query.specs.Answers.{asked_of, IsQuestion, IsFitFor};
 
 use crate::building::{apart, waypoint};
 use crate::error::QueryError;
-use crate::shape::Query;
+use crate::query::Query;
 use nk_names::Program;
 use nk_policy::Pol;
 use std::alloc::Global;

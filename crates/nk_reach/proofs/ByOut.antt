@@ -31,13 +31,13 @@ by_out_on a b d es g k = record {
 }
 
 -- and so does a table of them
-pub rows_on : (a b : Held) (rows : List (ℕ × List Given)) → Grows a b → AreByOut a rows → AreByOut b rows
-rows_on a b rows g k d es e = by_out_on a b d es g (k d es e)
+pub kept_on : (a b : Held) (kept : List (ℕ × List Given)) → Grows a b → AreByOut a kept → AreByOut b kept
+kept_on a b kept g k d es e = by_out_on a b d es g (k d es e)
 
--- a table with one more row
-pub rows_put : (st : Held) (d : ℕ) (es : List Given) (old new : List (ℕ × List Given)) → AreByOut st old → IsByOut st d es →
+-- a table with one diagram more
+pub kept_put : (st : Held) (d : ℕ) (es : List Given) (old new : List (ℕ × List Given)) → AreByOut st old → IsByOut st d es →
     ((q : ℕ) → lookup (eqb q) new ≡ cond (eqb d q) (Some es) (lookup (eqb q) old)) → AreByOut st new
-rows_put st d es old new are one put q fs e =
+kept_put st d es old new are one put q fs e =
     elim (eqb_tells d q) [
       | inl same ↦
           let is : Some es ≡ Some fs = sym (put q ∙ ap (λ b. cond b (Some es) (lookup (eqb q) old)) same.0) ∙ e in
@@ -116,11 +116,11 @@ up_to_push a st new d f from p es all id split ga part g by_one m =
     }
 
 -- those of one part more, whose entries the table has
-pub up_to_found : (a st new : Held) (d f from : ℕ) (p : ℕ × ℕ) (rows : List (ℕ × List Given)) (all : List Stretch) → IsId a d → IsSplit a f d → Grows a st → IsPart st f d from p → Grows st new →
-    AreByOut new rows → IsSome (lookup (eqb p.1) rows) → IsUpTo a d f from st all → IsUpTo a d f (p.0 + 1) new (all ++ stretches from p.0 (lookup (eqb p.1) rows))
-up_to_found a st new d f from p rows all id split ga part g are some m = by (lookup (eqb p.1) rows) refl some
+pub up_to_found : (a st new : Held) (d f from : ℕ) (p : ℕ × ℕ) (kept : List (ℕ × List Given)) (all : List Stretch) → IsId a d → IsSplit a f d → Grows a st → IsPart st f d from p → Grows st new →
+    AreByOut new kept → IsSome (lookup (eqb p.1) kept) → IsUpTo a d f from st all → IsUpTo a d f (p.0 + 1) new (all ++ stretches from p.0 (lookup (eqb p.1) kept))
+up_to_found a st new d f from p kept all id split ga part g are some m = by (lookup (eqb p.1) kept) refl some
   where
-    by : (r : Option (List Given)) → lookup (eqb p.1) rows ≡ r → IsSome r → IsUpTo a d f (p.0 + 1) new (all ++ stretches from p.0 r)
+    by : (r : Option (List Given)) → lookup (eqb p.1) kept ≡ r → IsSome r → IsUpTo a d f (p.0 + 1) new (all ++ stretches from p.0 r)
     by None e s = absurd cc
     by (Some es) e s = up_to_push a st new d f from p es all id split ga part g (are p.1 es e) m
 

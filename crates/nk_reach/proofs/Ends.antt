@@ -4,7 +4,7 @@ use Rattle.nk_store.specs.declared.node.Out.{Out}
 use Rattle.nk_store.specs.Held.{Held, Grows}
 use Rattle.nk_determ.specs.Sets.{SetsGrow}
 use Rattle.nk_reach.specs.Reach.{Exact}
-use Rattle.nk_reach.specs.Pairs.{Node, Within, AreRows, HavePlaces, IsPair, ArePairs, IsStart, IsStep, IsGood}
+use Rattle.nk_reach.specs.Pairs.{Node, Within, AreStates, HavePlaces, IsPair, ArePairs, IsStart, IsStep, IsGood}
 use Rattle.nk_reach.specs.Levels.{At, InLevel, Bad, AreLevels}
 use Rattle.nk_reach.specs.Goals.{MeetsBad, MeetsNone}
 use Rattle.nk_reach.specs.Rounds.{IsNextLevel, IsMerged}
@@ -15,13 +15,13 @@ use Rattle.nk_reach.proofs.Going.{Going, level_on, level_back, going_on}
 use Rattle.nk_reach.proofs.Round.{going_next}
 
 -- the parts of AreLevels that both ends share, once the two parts on the last level and the completeness are given
-pub levels_of : (old : Held) (oss : List (List ℕ)) (st : Held) (ss : List (List ℕ)) (rows : List ℕ) (set start : ℕ) (bad : List ℕ → List ℕ → List Out) (met : List (ℕ × ℕ)) (ls : List (List (ℕ × ℕ))) (h : ℕ) (broken : Bool) → (set < length oss) → Going old oss st ss rows set start bad met ls h → (broken ≡ true → (n : Node) × IsGood old n × InLevel st ss ls h n × Bad bad n) → (broken ≡ false → (n : Node) → IsGood old n → InLevel st ss ls h n → Bad bad n → ⊥) → (broken ≡ false → (i : ℕ) (n : Node) → At old rows (get_or oss set []) start i n → (j : ℕ) × (j ≤ i) × (j < h + 1) × InLevel st ss ls j n) → AreLevels old st ss rows set start bad ls broken
-levels_of old oss st ss rows set start bad met ls h broken known go met_one met_none all =
+pub levels_of : (old : Held) (oss : List (List ℕ)) (st : Held) (ss : List (List ℕ)) (states : List ℕ) (set start : ℕ) (bad : List ℕ → List ℕ → List Out) (met : List (ℕ × ℕ)) (ls : List (List (ℕ × ℕ))) (h : ℕ) (broken : Bool) → (set < length oss) → Going old oss st ss states set start bad met ls h → (broken ≡ true → (n : Node) × IsGood old n × InLevel st ss ls h n × Bad bad n) → (broken ≡ false → (n : Node) → IsGood old n → InLevel st ss ls h n → Bad bad n → ⊥) → (broken ≡ false → (i : ℕ) (n : Node) → At old states (get_or oss set []) start i n → (j : ℕ) × (j ≤ i) × (j < h + 1) × InLevel st ss ls j n) → AreLevels old st ss states set start bad ls broken
+levels_of old oss st ss states set start bad met ls h broken known go met_one met_none all =
     let m : get_or ss set [] ≡ get_or oss set [] = sets_same oss ss set go.sets known in
     let last : length ls - 1 ≡ h = omega (arith, go.count) in
     record {
-      exact = subst (λ k. Exact (IsStart old (get_or ss set []) start) (IsStep old rows) (IsGood old) (InLevel st ss ls) k) (sym go.count)
-          (subst (λ s. Exact (IsStart old s start) (IsStep old rows) (IsGood old) (InLevel st ss ls) (h + 1)) (sym m) go.exact);
+      exact = subst (λ k. Exact (IsStart old (get_or ss set []) start) (IsStep old states) (IsGood old) (InLevel st ss ls) k) (sym go.count)
+          (subst (λ s. Exact (IsStart old s start) (IsStep old states) (IsGood old) (InLevel st ss ls) (h + 1)) (sym m) go.exact);
       some = omega (arith, go.count);
       start_is = go.start_is;
       pairs = λ i l. go.pairs i (omega (arith, l, go.count));
@@ -30,43 +30,43 @@ levels_of old oss st ss rows set start bad met ls h broken known go met_one met_
       broken_at = λ e. subst (λ k. (n : Node) × IsGood old n × InLevel st ss ls k n × Bad bad n) (sym last) (met_one e);
       not_broken = λ e n p v. met_none e n p (subst (λ k. InLevel st ss ls k n) last v);
       complete = λ e i n a.
-          let w = all e i n (subst (λ s. At old rows s start i n) m a) in
+          let w = all e i n (subst (λ s. At old states s start i n) m a) in
           (w.0, w.1, omega (arith, w.2, go.count), w.3);
     }
 
 -- the levels end at a bad final
-pub levels_broken : (old : Held) (oss : List (List ℕ)) (st new : Held) (ss : List (List ℕ)) (rows : List ℕ) (set start : ℕ) (bad now : List ℕ → List ℕ → List Out) (met : List (ℕ × ℕ)) (ls : List (List (ℕ × ℕ))) (h : ℕ) → (set < length oss) → Going old oss st ss rows set start bad met ls h → Grows st new → ((n : Node) → HavePlaces (length rows) n.0 → now n.0 n.1 ≡ bad n.0 n.1) → MeetsBad st ss (get_or ls h []) now → AreLevels old new ss rows set start bad ls true
-levels_broken old oss st new ss rows set start bad now met ls h known go g same found =
+pub levels_broken : (old : Held) (oss : List (List ℕ)) (st new : Held) (ss : List (List ℕ)) (states : List ℕ) (set start : ℕ) (bad now : List ℕ → List ℕ → List Out) (met : List (ℕ × ℕ)) (ls : List (List (ℕ × ℕ))) (h : ℕ) → (set < length oss) → Going old oss st ss states set start bad met ls h → Grows st new → ((n : Node) → HavePlaces (length states) n.0 → now n.0 n.1 ≡ bad n.0 n.1) → MeetsBad st ss (get_or ls h []) now → AreLevels old new ss states set start bad ls true
+levels_broken old oss st new ss states set start bad now met ls h known go g same found =
     let n : Node = found.0 in
-    let p : HavePlaces (length rows) n.0 = within_places st ss (length rows) (get_or ls h []) n (go.pairs h (omega arith)) found.2 in
-    levels_of old oss new ss rows set start bad met ls h true known (going_on old oss st new ss ss rows set start bad met ls h g (sets_refl ss) go)
-    (λ e. (n, packet_back old st n.1 go.grows found.1, level_on old oss st new ss ss rows set start bad met ls h h n go g (sets_refl ss) (omega arith) found.2, λ z. found.3 (same n p ∙ z)))
+    let p : HavePlaces (length states) n.0 = within_places st ss (length states) (get_or ls h []) n (go.pairs h (omega arith)) found.2 in
+    levels_of old oss new ss states set start bad met ls h true known (going_on old oss st new ss ss states set start bad met ls h g (sets_refl ss) go)
+    (λ e. (n, packet_back old st n.1 go.grows found.1, level_on old oss st new ss ss states set start bad met ls h h n go g (sets_refl ss) (omega arith) found.2, λ z. found.3 (same n p ∙ z)))
     (λ e. cc) (λ e. cc)
 
 -- no bad final in the last level, as nodes
-pub none_last : (old : Held) (oss : List (List ℕ)) (st : Held) (ss : List (List ℕ)) (rows : List ℕ) (set start : ℕ) (bad now : List ℕ → List ℕ → List Out) (met : List (ℕ × ℕ)) (ls : List (List (ℕ × ℕ))) (h : ℕ) → Going old oss st ss rows set start bad met ls h → ((n : Node) → HavePlaces (length rows) n.0 → now n.0 n.1 ≡ bad n.0 n.1) → MeetsNone st ss (get_or ls h []) now → (n : Node) → IsGood old n → InLevel st ss ls h n → Bad bad n → ⊥
-none_last old oss st ss rows set start bad now met ls h go same none n p v b =
-    let q : HavePlaces (length rows) n.0 = within_places st ss (length rows) (get_or ls h []) n (go.pairs h (omega arith)) v in
+pub none_last : (old : Held) (oss : List (List ℕ)) (st : Held) (ss : List (List ℕ)) (states : List ℕ) (set start : ℕ) (bad now : List ℕ → List ℕ → List Out) (met : List (ℕ × ℕ)) (ls : List (List (ℕ × ℕ))) (h : ℕ) → Going old oss st ss states set start bad met ls h → ((n : Node) → HavePlaces (length states) n.0 → now n.0 n.1 ≡ bad n.0 n.1) → MeetsNone st ss (get_or ls h []) now → (n : Node) → IsGood old n → InLevel st ss ls h n → Bad bad n → ⊥
+none_last old oss st ss states set start bad now met ls h go same none n p v b =
+    let q : HavePlaces (length states) n.0 = within_places st ss (length states) (get_or ls h []) n (go.pairs h (omega arith)) v in
     b (sym (same n q) ∙ none n (packet_on old st n.1 go.grows p) v)
 
 -- the levels end where nothing new follows
-pub levels_ended : (old : Held) (oss : List (List ℕ)) (st new : Held) (ss nss : List (List ℕ)) (rows : List ℕ) (set start : ℕ) (bad : List ℕ → List ℕ → List Out) (met : List (ℕ × ℕ)) (ls : List (List (ℕ × ℕ))) (level : List (ℕ × ℕ)) (h : ℕ) → (set < length oss) → AreRows old rows → Going old oss st ss rows set start bad met ls h → ((n : Node) → IsGood old n → InLevel st ss ls h n → Bad bad n → ⊥) → IsNextLevel st ss rows met (get_or ls h []) new nss level → Grows st new → SetsGrow ss nss → length level ≡ 0 → AreLevels old new nss rows set start bad ls false
-levels_ended old oss st new ss nss rows set start bad met ls [] h known rows_ok go none next g s empty =
-    let gn : Going old oss new nss rows set start bad met ls h = going_on old oss st new ss nss rows set start bad met ls h g s go in
-    let r = length rows in
+pub levels_ended : (old : Held) (oss : List (List ℕ)) (st new : Held) (ss nss : List (List ℕ)) (states : List ℕ) (set start : ℕ) (bad : List ℕ → List ℕ → List Out) (met : List (ℕ × ℕ)) (ls : List (List (ℕ × ℕ))) (level : List (ℕ × ℕ)) (h : ℕ) → (set < length oss) → AreStates old states → Going old oss st ss states set start bad met ls h → ((n : Node) → IsGood old n → InLevel st ss ls h n → Bad bad n → ⊥) → IsNextLevel st ss states met (get_or ls h []) new nss level → Grows st new → SetsGrow ss nss → length level ≡ 0 → AreLevels old new nss states set start bad ls false
+levels_ended old oss st new ss nss states set start bad met ls [] h known states_ok go none next g s empty =
+    let gn : Going old oss new nss states set start bad met ls h = going_on old oss st new ss nss states set start bad met ls h g s go in
+    let r = length states in
     let h_in : h < h + 1 = omega arith in
-    levels_of old oss new nss rows set start bad met ls h false known gn
+    levels_of old oss new nss states set start bad met ls h false known gn
     (λ e. cc)
-    (λ e n p v. none n p (level_back old oss st new ss nss rows set start bad met ls h h n go g s h_in v))
-    (λ e. complete (IsStart old (get_or oss set []) start) (IsStep old rows) (IsGood old) (InLevel new nss ls) h (λ n q. q.packet) (λ m n q. q.packet) gn.exact
+    (λ e n p v. none n p (level_back old oss st new ss nss states set start bad met ls h h n go g s h_in v))
+    (λ e. complete (IsStart old (get_or oss set []) start) (IsStep old states) (IsGood old) (InLevel new nss ls) h (λ n q. q.packet) (λ m n q. q.packet) gn.exact
     (λ j n l p. within_or_not new nss (get_or ls j []) n)
     (λ m n p lev step not.
-    let was : Within st ss (get_or ls h []) m = level_back old oss st new ss nss rows set start bad met ls h h m go g s h_in lev in
+    let was : Within st ss (get_or ls h []) m = level_back old oss st new ss nss states set start bad met ls h h m go g s h_in lev in
     let places : HavePlaces r m.0 = within_places st ss r (get_or ls h []) m (go.pairs h h_in) was in
-    let made = next.every m n (packet_on old st m.1 go.grows p) was (step_on old st rows m n go.grows rows_ok places step)
-    (λ w. let q = go.met_in n step.packet w in not q.0 q.1 (level_on old oss st new ss nss rows set start bad met ls h q.0 n go g s q.1 q.2)) in
+    let made = next.every m n (packet_on old st m.1 go.grows p) was (step_on old st states m n go.grows states_ok places step)
+    (λ w. let q = go.met_in n step.packet w in not q.0 q.1 (level_on old oss st new ss nss states set start bad met ls h q.0 n go g s q.1 q.2)) in
     made.2))
-levels_ended old oss st new ss nss rows set start bad met ls (p ∷ ps) h known rows_ok go none next g s empty = absurd (omega (arith, empty))
+levels_ended old oss st new ss nss states set start bad met ls (p ∷ ps) h known states_ok go none next g s empty = absurd (omega (arith, empty))
 
 -- the last level, by its place
 pub last_is : (ls : List (List (ℕ × ℕ))) (h x : ℕ) (a : List (ℕ × ℕ)) → length ls ≡ h + 1 → x ≡ length ls → a ≡ get_or ls (x - 1) a → get_or ls h [] ≡ a
@@ -74,7 +74,7 @@ last_is ls h x a count is at =
     let k : x - 1 ≡ h = omega (arith, count, is) in
     get_or_same ls h [] a (omega (arith, count)) ∙ ap (λ j. get_or ls j a) (sym k) ∙ sym at
 
--- entries over fewer rows are entries over more
+-- entries over fewer states are entries over more
 pub pairs_more : (st : Held) (ss : List (List ℕ)) (r k : ℕ) (ps : List (ℕ × ℕ)) → r ≤ k → ArePairs st ss r ps → ArePairs st ss k ps
 pairs_more st ss r k ps l q = record {
   each = each_weaker (IsPair st ss r) (IsPair st ss k) ps (λ p e. record { known = e.known; packets = e.packets; places = λ j d m. omega (arith, l, e.places j d m) }) q.each;
@@ -82,26 +82,26 @@ pairs_more st ss r k ps l q = record {
 }
 
 -- what holds after the last level was found to have no bad final
-pub after_bad : (old : Held) (oss : List (List ℕ)) (st new : Held) (ss : List (List ℕ)) (rows : List ℕ) (set start : ℕ) (bad now : List ℕ → List ℕ → List Out) (met last : List (ℕ × ℕ)) (ls : List (List (ℕ × ℕ))) (h : ℕ) → Going old oss st ss rows set start bad met ls h → Grows st new → ((n : Node) → HavePlaces (length rows) n.0 → now n.0 n.1 ≡ bad n.0 n.1) → get_or ls h [] ≡ last → MeetsNone st ss last now → Going old oss new ss rows set start bad met ls h × ((n : Node) → IsGood old n → InLevel new ss ls h n → Bad bad n → ⊥)
-after_bad old oss st new ss rows set start bad now met last ls h go g same is none = (
-  going_on old oss st new ss ss rows set start bad met ls h g (sets_refl ss) go,
-  λ n p v b. none_last old oss st ss rows set start bad now met ls h go same (subst (λ (q : List (ℕ × ℕ)). MeetsNone st ss q now) (sym is) none) n p
-      (level_back old oss st new ss ss rows set start bad met ls h h n go g (sets_refl ss) (omega arith) v) b,
+pub after_bad : (old : Held) (oss : List (List ℕ)) (st new : Held) (ss : List (List ℕ)) (states : List ℕ) (set start : ℕ) (bad now : List ℕ → List ℕ → List Out) (met last : List (ℕ × ℕ)) (ls : List (List (ℕ × ℕ))) (h : ℕ) → Going old oss st ss states set start bad met ls h → Grows st new → ((n : Node) → HavePlaces (length states) n.0 → now n.0 n.1 ≡ bad n.0 n.1) → get_or ls h [] ≡ last → MeetsNone st ss last now → Going old oss new ss states set start bad met ls h × ((n : Node) → IsGood old n → InLevel new ss ls h n → Bad bad n → ⊥)
+after_bad old oss st new ss states set start bad now met last ls h go g same is none = (
+  going_on old oss st new ss ss states set start bad met ls h g (sets_refl ss) go,
+  λ n p v b. none_last old oss st ss states set start bad now met ls h go same (subst (λ (q : List (ℕ × ℕ)). MeetsNone st ss q now) (sym is) none) n p
+      (level_back old oss st new ss ss states set start bad met ls h h n go g (sets_refl ss) (omega arith) v) b,
 )
 
 -- a whole round
-pub round_done : (old : Held) (oss : List (List ℕ)) (st st1 st2 st3 : Held) (ss nss : List (List ℕ)) (rows : List ℕ) (set start : ℕ) (bad now : List ℕ → List ℕ → List Out) (met all last again : List (ℕ × ℕ)) (ls : List (List (ℕ × ℕ))) (level : List (ℕ × ℕ)) (h : ℕ) → AreRows old rows → Going old oss st ss rows set start bad met ls h → Grows st st1 → ((n : Node) → HavePlaces (length rows) n.0 → now n.0 n.1 ≡ bad n.0 n.1) → get_or ls h [] ≡ last → MeetsNone st ss last now → get_or ls h [] ≡ again → IsNextLevel st1 ss rows met again st2 nss level → Grows st1 st2 → SetsGrow ss nss → IsMerged st2 met level st3 all → Grows st2 st3 → 0 < length level → Going old oss st3 nss rows set start bad all (ls ++ level ∷ []) (h + 1)
-round_done old oss st st1 st2 st3 ss nss rows set start bad now met all last again ls level h rows_ok go g1 same is none is_again next g2 s merged g3 some =
-    let a = after_bad old oss st st1 ss rows set start bad now met last ls h go g1 same is none in
-    going_next old oss st1 st2 st3 ss nss rows set start bad met all ls level h rows_ok a.0 a.1
-    (subst (λ (q : List (ℕ × ℕ)). IsNextLevel st1 ss rows met q st2 nss level) (sym is_again) next) g2 s merged g3 some
+pub round_done : (old : Held) (oss : List (List ℕ)) (st st1 st2 st3 : Held) (ss nss : List (List ℕ)) (states : List ℕ) (set start : ℕ) (bad now : List ℕ → List ℕ → List Out) (met all last again : List (ℕ × ℕ)) (ls : List (List (ℕ × ℕ))) (level : List (ℕ × ℕ)) (h : ℕ) → AreStates old states → Going old oss st ss states set start bad met ls h → Grows st st1 → ((n : Node) → HavePlaces (length states) n.0 → now n.0 n.1 ≡ bad n.0 n.1) → get_or ls h [] ≡ last → MeetsNone st ss last now → get_or ls h [] ≡ again → IsNextLevel st1 ss states met again st2 nss level → Grows st1 st2 → SetsGrow ss nss → IsMerged st2 met level st3 all → Grows st2 st3 → 0 < length level → Going old oss st3 nss states set start bad all (ls ++ level ∷ []) (h + 1)
+round_done old oss st st1 st2 st3 ss nss states set start bad now met all last again ls level h states_ok go g1 same is none is_again next g2 s merged g3 some =
+    let a = after_bad old oss st st1 ss states set start bad now met last ls h go g1 same is none in
+    going_next old oss st1 st2 st3 ss nss states set start bad met all ls level h states_ok a.0 a.1
+    (subst (λ (q : List (ℕ × ℕ)). IsNextLevel st1 ss states met q st2 nss level) (sym is_again) next) g2 s merged g3 some
 
 -- the levels end after a whole round
-pub round_last : (old : Held) (oss : List (List ℕ)) (st st1 st2 : Held) (ss nss : List (List ℕ)) (rows : List ℕ) (set start : ℕ) (bad now : List ℕ → List ℕ → List Out) (met last again : List (ℕ × ℕ)) (ls : List (List (ℕ × ℕ))) (level : List (ℕ × ℕ)) (h : ℕ) → (set < length oss) → AreRows old rows → Going old oss st ss rows set start bad met ls h → Grows st st1 → ((n : Node) → HavePlaces (length rows) n.0 → now n.0 n.1 ≡ bad n.0 n.1) → get_or ls h [] ≡ last → MeetsNone st ss last now → get_or ls h [] ≡ again → IsNextLevel st1 ss rows met again st2 nss level → Grows st1 st2 → SetsGrow ss nss → length level ≡ 0 → AreLevels old st2 nss rows set start bad ls false
-round_last old oss st st1 st2 ss nss rows set start bad now met last again ls level h known rows_ok go g1 same is none is_again next g2 s empty =
-    let a = after_bad old oss st st1 ss rows set start bad now met last ls h go g1 same is none in
-    levels_ended old oss st1 st2 ss nss rows set start bad met ls level h known rows_ok a.0 a.1
-    (subst (λ (q : List (ℕ × ℕ)). IsNextLevel st1 ss rows met q st2 nss level) (sym is_again) next) g2 s empty
+pub round_last : (old : Held) (oss : List (List ℕ)) (st st1 st2 : Held) (ss nss : List (List ℕ)) (states : List ℕ) (set start : ℕ) (bad now : List ℕ → List ℕ → List Out) (met last again : List (ℕ × ℕ)) (ls : List (List (ℕ × ℕ))) (level : List (ℕ × ℕ)) (h : ℕ) → (set < length oss) → AreStates old states → Going old oss st ss states set start bad met ls h → Grows st st1 → ((n : Node) → HavePlaces (length states) n.0 → now n.0 n.1 ≡ bad n.0 n.1) → get_or ls h [] ≡ last → MeetsNone st ss last now → get_or ls h [] ≡ again → IsNextLevel st1 ss states met again st2 nss level → Grows st1 st2 → SetsGrow ss nss → length level ≡ 0 → AreLevels old st2 nss states set start bad ls false
+round_last old oss st st1 st2 ss nss states set start bad now met last again ls level h known states_ok go g1 same is none is_again next g2 s empty =
+    let a = after_bad old oss st st1 ss states set start bad now met last ls h go g1 same is none in
+    levels_ended old oss st1 st2 ss nss states set start bad met ls level h known states_ok a.0 a.1
+    (subst (λ (q : List (ℕ × ℕ)). IsNextLevel st1 ss states met q st2 nss level) (sym is_again) next) g2 s empty
 
 -- the rounds end
 pub falls : (n h a b : ℕ) → a ≡ h + 1 → b ≡ a + 1 → h + 1 ≤ n → n + 1 - b < n + 1 - a
@@ -109,8 +109,8 @@ falls n h a b e f l = omega arith
 
 -- levels that are those made, and broken as was said
 pub levels_said :
-    (old new : Held) (ss : List (List ℕ)) (rows : List ℕ) (set start : ℕ) (bad : List ℕ → List ℕ → List Out)
+    (old new : Held) (ss : List (List ℕ)) (states : List ℕ) (set start : ℕ) (bad : List ℕ → List ℕ → List Out)
     (ls all : List (List (ℕ × ℕ))) (b said : Bool) → ls ≡ all → b ≡ said
-    → AreLevels old new ss rows set start bad all said → AreLevels old new ss rows set start bad ls b
-levels_said old new ss rows set start bad ls all b said e f k =
-    subst (λ l. AreLevels old new ss rows set start bad l b) (sym e) (subst (λ x. AreLevels old new ss rows set start bad all x) (sym f) k)
+    → AreLevels old new ss states set start bad all said → AreLevels old new ss states set start bad ls b
+levels_said old new ss states set start bad ls all b said e f k =
+    subst (λ l. AreLevels old new ss states set start bad l b) (sym e) (subst (λ x. AreLevels old new ss states set start bad all x) (sym f) k)

@@ -8,8 +8,8 @@ use Rattle.nk_sets.specs.PacketSets.{is_in, IsSet}
 use Rattle.nk_sets.proofs.SetLemmas.{set_grows}
 use Rattle.nk_determ.specs.Sets.{SetsGrow}
 use Rattle.nk_determ.specs.Exact.{Sends}
-use Rattle.nk_determ.specs.States.{RowLeads}
-use Rattle.nk_reach.specs.Pairs.{Node, Under, Named, EachPair, Within, AreRows, HavePlaces, IsPair, ArePairs, IsStep}
+use Rattle.nk_determ.specs.States.{StateLeads}
+use Rattle.nk_reach.specs.Pairs.{Node, Under, Named, EachPair, Within, AreStates, HavePlaces, IsPair, ArePairs, IsStep}
 use Rattle.nk_reach.specs.Levels.{IsFilled}
 use Rattle.nk_reach.specs.Rounds.{HaveSets}
 use Rattle.nk_reach.proofs.Kept.{packet_on, packet_back, has_on, has_back}
@@ -105,11 +105,11 @@ within_back a b ss nss r ps n g h q w =
 pub within_places : (st : Held) (ss : List (List ℕ)) (r : ℕ) (ps : List (ℕ × ℕ)) (n : Node) → ArePairs st ss r ps → Within st ss ps n → HavePlaces r n.0
 within_places st ss r ps n q w = subst (HavePlaces r) w.1 (named_known st ss r ps w.0 q.each (under_named st ps w.0 n.1 w.2)).1
 
--- what a row sends it sends as the store grows
+-- what a state sends it sends as the store grows
 pub sends_on : (a b : Held) (d : ℕ) (x y : List ℕ) (t : ℕ) → Grows a b → IsId a d → Sends a d x y t → Sends b d x y t
 sends_on a b d x y t g i s = (s.0, subst (λ (os : List Out). Contains os (record { act = s.0; target = t })) (sym (g.leaves d x i)) s.1, s.2)
 
--- what a row sends in the grown store it sent before
+-- what a state sends in the grown store it sent before
 pub sends_back : (a b : Held) (d : ℕ) (x y : List ℕ) (t : ℕ) → Grows a b → IsId a d → Sends b d x y t → Sends a d x y t
 sends_back a b d x y t g i s = (s.0, subst (λ (os : List Out). Contains os (record { act = s.0; target = t })) (g.leaves d x i) s.1, s.2)
 
@@ -117,52 +117,52 @@ sends_back a b d x y t g i s = (s.0, subst (λ (os : List Out). Contains os (rec
 pub place_of : (n : ℕ) (set : List ℕ) (l : ℕ) → HavePlaces n set → Contains set l → l < n
 place_of n set l p c = subst (λ k. k < n) c.2 (p c.0 l c.1)
 
--- rows that lead do so as the store grows
-pub leads_on : (a b : Held) (rows set x y : List ℕ) (t : ℕ) → Grows a b → AreRows a rows → HavePlaces (length rows) set → RowLeads a rows set x y t → RowLeads b rows set x y t
-leads_on a b rows set x y t g r p q =
-    (q.0, q.1, sends_on a b (get_or rows q.0 0) x y t g (r.ids q.0 (place_of (length rows) set q.0 p q.1)) q.2)
+-- states that lead do so as the store grows
+pub leads_on : (a b : Held) (states set x y : List ℕ) (t : ℕ) → Grows a b → AreStates a states → HavePlaces (length states) set → StateLeads a states set x y t → StateLeads b states set x y t
+leads_on a b states set x y t g r p q =
+    (q.0, q.1, sends_on a b (get_or states q.0 0) x y t g (r.ids q.0 (place_of (length states) set q.0 p q.1)) q.2)
 
--- rows that lead in the grown store did so before
-pub leads_back : (a b : Held) (rows set x y : List ℕ) (t : ℕ) → Grows a b → AreRows a rows → HavePlaces (length rows) set → RowLeads b rows set x y t → RowLeads a rows set x y t
-leads_back a b rows set x y t g r p q =
-    (q.0, q.1, sends_back a b (get_or rows q.0 0) x y t g (r.ids q.0 (place_of (length rows) set q.0 p q.1)) q.2)
+-- states that lead in the grown store did so before
+pub leads_back : (a b : Held) (states set x y : List ℕ) (t : ℕ) → Grows a b → AreStates a states → HavePlaces (length states) set → StateLeads b states set x y t → StateLeads a states set x y t
+leads_back a b states set x y t g r p q =
+    (q.0, q.1, sends_back a b (get_or states q.0 0) x y t g (r.ids q.0 (place_of (length states) set q.0 p q.1)) q.2)
 
--- rows stay rows as the store grows
-pub rows_grow : (a b : Held) (rows : List ℕ) → Grows a b → AreRows a rows → AreRows b rows
-rows_grow a b rows g r = record {
-  ids = λ k l. g.ids (get_or rows k 0) (r.ids k l);
-  targets = λ l pk y t m p s. r.targets l pk y t m (packet_back a b pk g p) (sends_back a b (get_or rows l 0) pk y t g (r.ids l m) s);
+-- states stay states as the store grows
+pub states_grow : (a b : Held) (states : List ℕ) → Grows a b → AreStates a states → AreStates b states
+states_grow a b states g r = record {
+  ids = λ k l. g.ids (get_or states k 0) (r.ids k l);
+  targets = λ l pk y t m p s. r.targets l pk y t m (packet_back a b pk g p) (sends_back a b (get_or states l 0) pk y t g (r.ids l m) s);
 }
 
 -- a step stays one as the store grows
-pub step_on : (a b : Held) (rows : List ℕ) (m n : Node) → Grows a b → AreRows a rows → HavePlaces (length rows) m.0 → IsStep a rows m n → IsStep b rows m n
-step_on a b rows m n g r p s = record {
+pub step_on : (a b : Held) (states : List ℕ) (m n : Node) → Grows a b → AreStates a states → HavePlaces (length states) m.0 → IsStep a states m n → IsStep b states m n
+step_on a b states m n g r p s = record {
   packet = packet_on a b n.1 g s.packet;
   some = s.some;
   ascend = s.ascend;
   every = λ l. (
-    λ c. let q = (s.every l).0 c in (q.0, leads_on a b rows m.0 m.1 n.1 l g r p q.1),
-    λ q. (s.every l).1 (q.0, leads_back a b rows m.0 m.1 n.1 l g r p q.1),
+    λ c. let q = (s.every l).0 c in (q.0, leads_on a b states m.0 m.1 n.1 l g r p q.1),
+    λ q. (s.every l).1 (q.0, leads_back a b states m.0 m.1 n.1 l g r p q.1),
   );
 }
 
 -- a step of the grown store was one before
-pub step_back : (a b : Held) (rows : List ℕ) (m n : Node) → Grows a b → AreRows a rows → HavePlaces (length rows) m.0 → IsStep b rows m n → IsStep a rows m n
-step_back a b rows m n g r p s = record {
+pub step_back : (a b : Held) (states : List ℕ) (m n : Node) → Grows a b → AreStates a states → HavePlaces (length states) m.0 → IsStep b states m n → IsStep a states m n
+step_back a b states m n g r p s = record {
   packet = packet_back a b n.1 g s.packet;
   some = s.some;
   ascend = s.ascend;
   every = λ l. (
-    λ c. let q = (s.every l).0 c in (q.0, leads_back a b rows m.0 m.1 n.1 l g r p q.1),
-    λ q. (s.every l).1 (q.0, leads_on a b rows m.0 m.1 n.1 l g r p q.1),
+    λ c. let q = (s.every l).0 c in (q.0, leads_back a b states m.0 m.1 n.1 l g r p q.1),
+    λ q. (s.every l).1 (q.0, leads_on a b states m.0 m.1 n.1 l g r p q.1),
   );
 }
 
 -- the members of a set that is recorded next have places
-pub step_places : (st : Held) (rows : List ℕ) (m n : Node) → AreRows st rows → HavePlaces (length rows) m.0 → IsPacket st m.1 → IsStep st rows m n → HavePlaces (length rows) n.0
-step_places st rows m n r p w s k d l =
+pub step_places : (st : Held) (states : List ℕ) (m n : Node) → AreStates st states → HavePlaces (length states) m.0 → IsPacket st m.1 → IsStep st states m n → HavePlaces (length states) n.0
+step_places st states m n r p w s k d l =
     let q = (s.every (get_or n.0 k d)).0 (k, l, get_or_default n.0 k (get_or n.0 k d) d l) in
-    r.targets q.1.0 m.1 n.1 (get_or n.0 k d) (place_of (length rows) m.0 q.1.0 p q.1.1) w q.1.2
+    r.targets q.1.0 m.1 n.1 (get_or n.0 k d) (place_of (length states) m.0 q.1.0 p q.1.1) w q.1.2
 
 -- lists of numbers are equal or not
 pub lists_differ : (xs ys : List ℕ) → (xs ≡ ys) ⊎ (xs ≡ ys → ⊥)

@@ -153,14 +153,14 @@ alone_has os p m n = gathered_has (alone_out os) os p (to p.act (cond (eqb p.tar
     by true e = absurd (n (any_has os (twin p) e))
     by false e = subst (λ b. Has (cond b [] (to p.act (cond (eqb p.target 1) 0 1) ∷ [])) (to p.act (cond (eqb p.target 1) 0 1))) (sym e) (inl refl)
 
-module _ (a new : Held) (rows : List ℕ) (left right bound : ℕ) (ends set pk : List ℕ) (tidy : AreTidy a) (marks : AreMarked a rows left right bound (length rows) new ends) (places : HavePlaces (length rows) set) (p : IsPacket a pk) where
+module _ (a new : Held) (states : List ℕ) (left right bound : ℕ) (ends set pk : List ℕ) (tidy : AreTidy a) (marks : AreMarked a states left right bound (length states) new ends) (places : HavePlaces (length states) set) (p : IsPacket a pk) where
   -- what is known of an end of the set
   record IsEnd (o : Out) : Type 0 where
     act : IsActFrom a.maxes 0 o.act
     exact_act : IsExact pk o.act
     side :
-        ((o.target ≡ 1) × EndsAt a rows left bound 1 set pk (applied o.act pk))
-        ⊎ ((o.target ≡ 2) × EndsAt a rows right bound 2 set pk (applied o.act pk))
+        ((o.target ≡ 1) × EndsAt a states left bound 1 set pk (applied o.act pk))
+        ⊎ ((o.target ≡ 2) × EndsAt a states right bound 2 set pk (applied o.act pk))
 
   mark_either : (l : ℕ) → (mark_of bound l ≡ 1) ⊎ (mark_of bound l ≡ 2)
   mark_either l = by (nat_lt l bound)
@@ -174,7 +174,7 @@ module _ (a new : Held) (rows : List ℕ) (left right bound : ℕ) (ends set pk 
       let w = has_ends new ends set pk o h in
       let l : ℕ = w.0 in
       let c : Contains set l = has_contains set l w.1 in
-      let within : l < length rows = place_of (length rows) set l places c in
+      let within : l < length states = place_of (length states) set l places c in
       elim (eqb_tells l 0) [
         | inl none ↦
             let at : Has (merged (marked a left 1 pk) (marked a right 2 pk)) o = subst (λ os. Has os o) ((marks.start (omega (arith, within))).leaf pk p.0) (subst (λ j. Has (look new (get_or ends j 0) pk) o) none.1 w.2) in
@@ -185,7 +185,7 @@ module _ (a new : Held) (rows : List ℕ) (left right bound : ℕ) (ends set pk 
             ]
         | inr some ↦
             let pos : 0 < l = omega (arith, some.1) in
-            let e = end_of a (get_or rows l 0) (mark_of bound l) pk o tidy p (subst (λ os. Has os o) ((marks.rest l pos within).leaf pk p.0) w.2) in
+            let e = end_of a (get_or states l 0) (mark_of bound l) pk o tidy p (subst (λ os. Has os o) ((marks.rest l pos within).leaf pk p.0) w.2) in
             record {
               act = e.1.act;
               exact_act = e.1.exact_act;
@@ -196,40 +196,40 @@ module _ (a new : Held) (rows : List ℕ) (left right bound : ℕ) (ends set pk 
             }
       ]
 
-  -- what a row ends with is an end with its mark
-  row_in : (m : ℕ) (y : List ℕ) → ((l : ℕ) × Contains set l × (0 < l) × (mark_of bound l ≡ m) × Sends a (get_or rows l 0) pk y 0) → (g : List (ℕ × ℕ)) × Has (ends_of new ends set pk) (to g m) × (y ≡ applied g pk)
-  row_in m y z =
+  -- what a state ends with is an end with its mark
+  state_among : (m : ℕ) (y : List ℕ) → ((l : ℕ) × Contains set l × (0 < l) × (mark_of bound l ≡ m) × Sends a (get_or states l 0) pk y 0) → (g : List (ℕ × ℕ)) × Has (ends_of new ends set pk) (to g m) × (y ≡ applied g pk)
+  state_among m y z =
       let l : ℕ = z.0 in
-      let s = end_in a (get_or rows l 0) m pk y tidy p z.4 in
-      let within : l < length rows = place_of (length rows) set l places z.1 in
-      let at : Has (marked a (get_or rows l 0) (mark_of bound l) pk) (to s.0 m) = subst (λ k. Has (marked a (get_or rows l 0) k pk) (to s.0 m)) (sym z.3) s.1 in
+      let s = end_in a (get_or states l 0) m pk y tidy p z.4 in
+      let within : l < length states = place_of (length states) set l places z.1 in
+      let at : Has (marked a (get_or states l 0) (mark_of bound l) pk) (to s.0 m) = subst (λ k. Has (marked a (get_or states l 0) k pk) (to s.0 m)) (sym z.3) s.1 in
       (s.0, ends_has new ends set pk (to s.0 m) l (contains_has set l z.1) (subst (λ os. Has os (to s.0 m)) (sym ((marks.rest l z.2 within).leaf pk p.0)) at), s.2)
 
   -- what the left side ends with is an end with mark 1
-  left_in : (y : List ℕ) → EndsAt a rows left bound 1 set pk y → (g : List (ℕ × ℕ)) × Has (ends_of new ends set pk) (to g 1) × (y ≡ applied g pk)
+  left_in : (y : List ℕ) → EndsAt a states left bound 1 set pk y → (g : List (ℕ × ℕ)) × Has (ends_of new ends set pk) (to g 1) × (y ≡ applied g pk)
   left_in y e = elim e [
     | inl z ↦
         let s = end_in a left 1 pk y tidy p z.1 in
-        let some : 0 < length rows = omega (arith, place_of (length rows) set 0 places z.0) in
+        let some : 0 < length states = omega (arith, place_of (length states) set 0 places z.0) in
         (s.0, ends_has new ends set pk (to s.0 1) 0 (contains_has set 0 z.0) (subst (λ os. Has os (to s.0 1)) (sym ((marks.start some).leaf pk p.0)) (merged_left (to s.0 1) (marked a left 1 pk) (marked a right 2 pk) s.1)), s.2)
-    | inr z ↦ row_in 1 y z
+    | inr z ↦ state_among 1 y z
   ]
 
   -- what the right side ends with is an end with mark 2
-  right_in : (y : List ℕ) → EndsAt a rows right bound 2 set pk y → (g : List (ℕ × ℕ)) × Has (ends_of new ends set pk) (to g 2) × (y ≡ applied g pk)
+  right_in : (y : List ℕ) → EndsAt a states right bound 2 set pk y → (g : List (ℕ × ℕ)) × Has (ends_of new ends set pk) (to g 2) × (y ≡ applied g pk)
   right_in y e = elim e [
     | inl z ↦
         let s = end_in a right 2 pk y tidy p z.1 in
-        let some : 0 < length rows = omega (arith, place_of (length rows) set 0 places z.0) in
+        let some : 0 < length states = omega (arith, place_of (length states) set 0 places z.0) in
         (s.0, ends_has new ends set pk (to s.0 2) 0 (contains_has set 0 z.0) (subst (λ os. Has os (to s.0 2)) (sym ((marks.start some).leaf pk p.0)) (merged_right (to s.0 2) (marked a left 1 pk) (marked a right 2 pk) s.1)), s.2)
-    | inr z ↦ row_in 2 y z
+    | inr z ↦ state_among 2 y z
   ]
 
   -- the side of an end by its mark
-  left_side : (g : List (ℕ × ℕ)) → Has (ends_of new ends set pk) (to g 1) → EndsAt a rows left bound 1 set pk (applied g pk)
+  left_side : (g : List (ℕ × ℕ)) → Has (ends_of new ends set pk) (to g 1) → EndsAt a states left bound 1 set pk (applied g pk)
   left_side g h = elim (is_end (to g 1) h).side [ inl s ↦ s.1 | inr s ↦ absurd (omega (arith, s.0)) ]
 
-  right_side : (g : List (ℕ × ℕ)) → Has (ends_of new ends set pk) (to g 2) → EndsAt a rows right bound 2 set pk (applied g pk)
+  right_side : (g : List (ℕ × ℕ)) → Has (ends_of new ends set pk) (to g 2) → EndsAt a states right bound 2 set pk (applied g pk)
   right_side g h = elim (is_end (to g 2) h).side [ inl s ↦ absurd (omega (arith, s.0)) | inr s ↦ s.1 ]
 
   -- ends that make one packet have one act
@@ -240,7 +240,7 @@ module _ (a new : Held) (rows : List ℕ) (left right bound : ℕ) (ends set pk 
       exact_one a.maxes pk 0 g h p.0 m.act n.act m.exact_act n.exact_act e
 
   -- the ends of one side alone are what that side alone ends with
-  pub one_sided : AreOneSided a rows left right bound set pk (alone (ends_of new ends set pk))
+  pub one_sided : AreOneSided a states left right bound set pk (alone (ends_of new ends set pk))
   one_sided = record {
     left_alone = λ y. (
       λ m.
@@ -250,10 +250,10 @@ module _ (a new : Held) (rows : List ℕ) (left right bound : ℕ) (ends set pk 
           let mark : q.target ≡ 1 = first q.target (ap (λ (x : Out). x.target) w.3) in
           let here : Has (ends_of new ends set pk) (to m.0 1) = subst (λ (x : Out). Has (ends_of new ends set pk) x) (ap (λ t. to q.act t) mark ∙ ap (λ g. to g 1) act) w.1 in
           let not_there : Has (ends_of new ends set pk) (to m.0 2) → ⊥ = λ t. w.2 (subst (λ (x : Out). Has (ends_of new ends set pk) x) (sym (ap (λ k. to q.act (cond (eqb k 1) 2 1)) mark ∙ ap (λ g. to g 2) act)) t) in
-          (subst (EndsAt a rows left bound 1 set pk) (sym m.2) (left_side m.0 here), λ r. let s = right_in y r in not_there (subst (λ g. Has (ends_of new ends set pk) (to g 2)) (sym (same_act m.0 s.0 1 2 here s.1 (sym m.2 ∙ s.2))) s.1)),
+          (subst (EndsAt a states left bound 1 set pk) (sym m.2) (left_side m.0 here), λ r. let s = right_in y r in not_there (subst (λ g. Has (ends_of new ends set pk) (to g 2)) (sym (same_act m.0 s.0 1 2 here s.1 (sym m.2 ∙ s.2))) s.1)),
       λ e.
           let s = left_in y e.0 in
-          let c : Has (alone (ends_of new ends set pk)) (to s.0 0) = alone_has (ends_of new ends set pk) (to s.0 1) s.1 (λ t. e.1 (subst (EndsAt a rows right bound 2 set pk) (sym s.2) (right_side s.0 t))) in
+          let c : Has (alone (ends_of new ends set pk)) (to s.0 0) = alone_has (ends_of new ends set pk) (to s.0 1) s.1 (λ t. e.1 (subst (EndsAt a states right bound 2 set pk) (sym s.2) (right_side s.0 t))) in
           (s.0, has_contains (alone (ends_of new ends set pk)) (to s.0 0) c, s.2),
     );
     right_alone = λ y. (
@@ -264,10 +264,10 @@ module _ (a new : Held) (rows : List ℕ) (left right bound : ℕ) (ends set pk 
           let mark : q.target ≡ 2 = second q w.1 (ap (λ (x : Out). x.target) w.3) in
           let here : Has (ends_of new ends set pk) (to m.0 2) = subst (λ (x : Out). Has (ends_of new ends set pk) x) (ap (λ t. to q.act t) mark ∙ ap (λ g. to g 2) act) w.1 in
           let not_there : Has (ends_of new ends set pk) (to m.0 1) → ⊥ = λ t. w.2 (subst (λ (x : Out). Has (ends_of new ends set pk) x) (sym (ap (λ k. to q.act (cond (eqb k 1) 2 1)) mark ∙ ap (λ g. to g 1) act)) t) in
-          (subst (EndsAt a rows right bound 2 set pk) (sym m.2) (right_side m.0 here), λ r. let s = left_in y r in not_there (subst (λ g. Has (ends_of new ends set pk) (to g 1)) (sym (same_act m.0 s.0 2 1 here s.1 (sym m.2 ∙ s.2))) s.1)),
+          (subst (EndsAt a states right bound 2 set pk) (sym m.2) (right_side m.0 here), λ r. let s = left_in y r in not_there (subst (λ g. Has (ends_of new ends set pk) (to g 1)) (sym (same_act m.0 s.0 2 1 here s.1 (sym m.2 ∙ s.2))) s.1)),
       λ e.
           let s = right_in y e.0 in
-          let c : Has (alone (ends_of new ends set pk)) (to s.0 1) = alone_has (ends_of new ends set pk) (to s.0 2) s.1 (λ t. e.1 (subst (EndsAt a rows left bound 1 set pk) (sym s.2) (left_side s.0 t))) in
+          let c : Has (alone (ends_of new ends set pk)) (to s.0 1) = alone_has (ends_of new ends set pk) (to s.0 2) s.1 (λ t. e.1 (subst (EndsAt a states left bound 1 set pk) (sym s.2) (left_side s.0 t))) in
           (s.0, has_contains (alone (ends_of new ends set pk)) (to s.0 1) c, s.2),
     );
   }

@@ -8,16 +8,16 @@ use Rattle.nk_reach.proofs.Kept.{packet_on}
 use Rattle.nk_reach.proofs.Growing.{sets_known, sets_same, named_known, under_named, under_on, under_back, pairs_of, packets_of}
 
 -- what a level leads to, without what was met, is the next level
-pub next_of_raw : (st mid new : Held) (ss nss : List (List ℕ)) (rows : List ℕ) (met last raw level : List (ℕ × ℕ)) → IsRaw st ss rows last mid nss raw → IsFresh mid met raw new level → Grows st mid → SetsGrow ss nss → ArePairs st ss (length rows) met → IsNextLevel st ss rows met last new nss level
-next_of_raw st mid new ss nss rows met last raw level r f g s mp =
-    let known : (i : ℕ) → Named met i → (i < length ss) = λ i n. (named_known st ss (length rows) met i mp.each n).0 in
-    let mpk = packets_of st ss (length rows) met mp.each in
+pub next_of_raw : (st mid new : Held) (ss nss : List (List ℕ)) (states : List ℕ) (met last raw level : List (ℕ × ℕ)) → IsRaw st ss states last mid nss raw → IsFresh mid met raw new level → Grows st mid → SetsGrow ss nss → ArePairs st ss (length states) met → IsNextLevel st ss states met last new nss level
+next_of_raw st mid new ss nss states met last raw level r f g s mp =
+    let known : (i : ℕ) → Named met i → (i < length ss) = λ i n. (named_known st ss (length states) met i mp.each n).0 in
+    let mpk = packets_of st ss (length states) met mp.each in
     record {
       from = λ n p w. r.from n p (w.0, w.1, f.from w.0 n.1 (packet_on st mid n.1 g p) w.2);
       fresh = λ n p w v.
           let u = f.from w.0 n.1 (packet_on st mid n.1 g p) w.2 in
           let kj : (v.0 < length ss) = known v.0 (under_named st met v.0 n.1 v.2) in
-          let same : v.0 ≡ w.0 = r.differ v.0 w.0 (sets_known ss nss v.0 s kj) (named_known mid nss (length rows) raw w.0 r.pairs.each (under_named mid raw w.0 n.1 u)).0 (sets_same ss nss v.0 s kj ∙ v.1 ∙ sym w.1) in
+          let same : v.0 ≡ w.0 = r.differ v.0 w.0 (sets_known ss nss v.0 s kj) (named_known mid nss (length states) raw w.0 r.pairs.each (under_named mid raw w.0 n.1 u)).0 (sets_same ss nss v.0 s kj ∙ v.1 ∙ sym w.1) in
           f.unmet w.0 n.1 (packet_on st mid n.1 g p) w.2 (subst (λ i. Under mid met i n.1) same (under_on st mid met v.0 n.1 g mpk v.2));
       every = λ m n p w step none.
           let q = r.every m n p w step in (
@@ -29,7 +29,7 @@ next_of_raw st mid new ss nss rows met last raw level r f g s mp =
                 none (q.0, sym (sets_same ss nss q.0 s k) ∙ q.1, back)),
           );
       pairs = record {
-        each = pairs_of new nss (length rows) level (λ i n. named_known mid nss (length rows) raw i r.pairs.each (f.named i n)) f.packets;
+        each = pairs_of new nss (length states) level (λ i n. named_known mid nss (length states) raw i r.pairs.each (f.named i n)) f.packets;
         once = f.once;
       };
       filled = f.filled;

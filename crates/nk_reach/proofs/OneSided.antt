@@ -91,9 +91,9 @@ leaves_on : (a b : Held) (d : ℕ) (F : List ℕ → List Out) → Grows a b →
 leaves_on a b d F g k = record { id = g.ids d k.id; leaf = λ pk w. g.leaves d pk k.id ∙ k.leaf pk w }
 
 -- one label more
-pub marks_push : (a st new : Held) (rows : List ℕ) (left right bound n d : ℕ) (ends : List ℕ) → AreIds a rows → IsId a left → IsId a right → n < length rows → Grows a st → Grows st new → AreMarked a rows left right bound n st ends →
-    (n ≡ 0 → HasLeaves new d (λ pk. merged (marked st left 1 pk) (marked st right 2 pk))) → (0 < n → HasLeaves new d (λ pk. marked st (get_or rows n 0) (mark_of bound n) pk)) → AreMarked a rows left right bound (n + 1) new (ends ++ d ∷ [])
-marks_push a st new rows left right bound n d ends ids il ir l g h m first next = record {
+pub marks_push : (a st new : Held) (states : List ℕ) (left right bound n d : ℕ) (ends : List ℕ) → AreIds a states → IsId a left → IsId a right → n < length states → Grows a st → Grows st new → AreMarked a states left right bound n st ends →
+    (n ≡ 0 → HasLeaves new d (λ pk. merged (marked st left 1 pk) (marked st right 2 pk))) → (0 < n → HasLeaves new d (λ pk. marked st (get_or states n 0) (mark_of bound n) pk)) → AreMarked a states left right bound (n + 1) new (ends ++ d ∷ [])
+marks_push a st new states left right bound n d ends ids il ir l g h m first next = record {
   count = omega (arith, m.count, length-append ends (d ∷ []));
   start = λ z. elim (eqb_tells n 0) [
     | inl none ↦ subst (λ (k : ℕ). HasLeaves new k (λ pk. merged (marked a left 1 pk) (marked a right 2 pk))) (sym (at_new 0 (sym none.1)))
@@ -105,12 +105,12 @@ marks_push a st new rows left right bound n d ends ids il ir l g h m first next 
   rest = λ i p q. elim (eqb_tells i n) [
     | inl same ↦
         let k = next (omega (arith, p, same.1)) in
-        subst (λ j. HasLeaves new (get_or (ends ++ d ∷ []) j 0) (λ pk. marked a (get_or rows j 0) (mark_of bound j) pk)) (sym same.1)
-        (subst (λ (c : ℕ). HasLeaves new c (λ pk. marked a (get_or rows n 0) (mark_of bound n) pk)) (sym (at_new n refl))
-        (record { id = k.id; leaf = λ pk w. k.leaf pk w ∙ marked_same a st (get_or rows n 0) (mark_of bound n) pk g (ids n l) }))
+        subst (λ j. HasLeaves new (get_or (ends ++ d ∷ []) j 0) (λ pk. marked a (get_or states j 0) (mark_of bound j) pk)) (sym same.1)
+        (subst (λ (c : ℕ). HasLeaves new c (λ pk. marked a (get_or states n 0) (mark_of bound n) pk)) (sym (at_new n refl))
+        (record { id = k.id; leaf = λ pk w. k.leaf pk w ∙ marked_same a st (get_or states n 0) (mark_of bound n) pk g (ids n l) }))
     | inr other ↦
         let q' : i < n = omega (arith, q, other.1) in
-        subst (λ (c : ℕ). HasLeaves new c (λ pk. marked a (get_or rows i 0) (mark_of bound i) pk)) (sym (at_old i q')) (leaves_on st new (get_or ends i 0) (λ pk. marked a (get_or rows i 0) (mark_of bound i) pk) h (m.rest i p q'))
+        subst (λ (c : ℕ). HasLeaves new c (λ pk. marked a (get_or states i 0) (mark_of bound i) pk)) (sym (at_old i q')) (leaves_on st new (get_or ends i 0) (λ pk. marked a (get_or states i 0) (mark_of bound i) pk) h (m.rest i p q'))
   ];
 }
   where
@@ -121,8 +121,8 @@ marks_push a st new rows left right bound n d ends ids il ir l g h m first next 
     at_new i e = ap (λ j. get_or (ends ++ d ∷ []) j 0) (e ∙ sym m.count) ∙ behind ends [] d
 
 -- marked ends are diagrams of the store
-pub marks_ids : (a st : Held) (rows : List ℕ) (left right bound n : ℕ) (ends : List ℕ) → AreMarked a rows left right bound n st ends → AreIds st ends
-marks_ids a st rows left right bound n ends m i l = elim (eqb_tells i 0) [
+pub marks_ids : (a st : Held) (states : List ℕ) (left right bound n : ℕ) (ends : List ℕ) → AreMarked a states left right bound n st ends → AreIds st ends
+marks_ids a st states left right bound n ends m i l = elim (eqb_tells i 0) [
   | inl none ↦ subst (λ j. IsId st (get_or ends j 0)) (sym none.1) (m.start (omega (arith, l, m.count))).id
   | inr some ↦ (m.rest i (omega (arith, some.1)) (omega (arith, l, m.count))).id
 ]
@@ -166,21 +166,21 @@ alones_put old new d r before after g i are k put =
 pub goal_new : (st : Held) (ends : List ℕ) (table : List (ℕ × ℕ)) → AreIds st ends → table ≡ [] → IsGoalOf st ends table
 goal_new st ends table ids is = record { ids = ids; made = no_entry (IsAloneOf st) table is }
 
--- marked rows stay so while the store grows
+-- marked states stay so while the store grows
 pub marks_on : (old new : Held) (mark : ℕ) (table : List (ℕ × ℕ)) → Grows old new → AreMarkedOf old mark table → AreMarkedOf new mark table
-marks_on old new mark table g are row r e =
-    let k = are row r e in
+marks_on old new mark table g are state r e =
+    let k = are state r e in
     record {
-      row_id = g.ids row k.row_id;
+      state_id = g.ids state k.state_id;
       leaves = record {
         id = g.ids r k.leaves.id;
-        leaf = λ pk w. g.leaves r pk k.leaves.id ∙ k.leaves.leaf pk w ∙ sym (marked_same old new row mark pk g k.row_id);
+        leaf = λ pk w. g.leaves r pk k.leaves.id ∙ k.leaves.leaf pk w ∙ sym (marked_same old new state mark pk g k.state_id);
       };
     }
 
--- one row more
-pub marks_put : (old new : Held) (mark row r : ℕ) (before after : List (ℕ × ℕ)) → Grows old new → IsId old row → AreMarkedOf old mark before → HasLeaves new r (λ pk. marked old row mark pk) →
-    ((q : ℕ) → lookup (eqb q) after ≡ cond (eqb row q) (Some r) (lookup (eqb q) before)) → AreMarkedOf new mark after
-marks_put old new mark row r before after g i are k put =
-    table_put (IsMarkedOf new mark) row r before after (marks_on old new mark before g are)
-    (record { row_id = g.ids row i; leaves = record { id = k.id; leaf = λ pk w. k.leaf pk w ∙ sym (marked_same old new row mark pk g i) } }) put
+-- one state more
+pub marks_put : (old new : Held) (mark state r : ℕ) (before after : List (ℕ × ℕ)) → Grows old new → IsId old state → AreMarkedOf old mark before → HasLeaves new r (λ pk. marked old state mark pk) →
+    ((q : ℕ) → lookup (eqb q) after ≡ cond (eqb state q) (Some r) (lookup (eqb q) before)) → AreMarkedOf new mark after
+marks_put old new mark state r before after g i are k put =
+    table_put (IsMarkedOf new mark) state r before after (marks_on old new mark before g are)
+    (record { state_id = g.ids state i; leaves = record { id = k.id; leaf = λ pk w. k.leaf pk w ∙ sym (marked_same old new state mark pk g i) } }) put

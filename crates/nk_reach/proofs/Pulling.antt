@@ -11,7 +11,7 @@ use Rattle.nk_sets.specs.PacketSets.{has_out, is_in, IsSet, IsSetOf}
 use Rattle.nk_sets.proofs.SetLemmas.{guarded_out, merged_out, both_pass, pass_both, predicate_grows}
 use Rattle.nk_determ.specs.Sets.{SetsGrow, Differ}
 use Rattle.nk_reach.specs.declared.outs.Given.{Given}
-use Rattle.nk_reach.specs.Pairs.{Node, Under, Named, Once, AreRows, HavePlaces, IsPair, ArePairs, IsStep}
+use Rattle.nk_reach.specs.Pairs.{Node, Under, Named, Once, AreStates, HavePlaces, IsPair, ArePairs, IsStep}
 use Rattle.nk_reach.specs.Outs.{IsGiven, AreGiven, IsByOut}
 use Rattle.nk_reach.specs.Rounds.{HaveSets, sent_to, IsAdded}
 use Rattle.nk_reach.specs.Local.{IsStateAt}
@@ -98,9 +98,9 @@ all_pulled_push a st mid new es n q next all some r k sets l is g1 made g2 one h
     key z w = ap has_out (h.leaf z w) ∙ merged_out (look mid all z) (look mid some z)
 
 -- by the diagram of the set state at the packets, all its outs
-pub pulled_pair_of : (st s1 s2 new : Held) (ss nss : List (List ℕ)) (rows set : List ℕ) (x d : ℕ) (es : List Given) (next : List (ℕ × ℕ)) (r : ℕ) → Grows st s1 → Grows s1 s2 → SetsGrow ss nss → Differ nss → ArePairs st ss (length rows) next →
-    IsStateAt st rows set x s1 nss d → IsByOut s2 d es → AreAllPulled s2 es (length es) next new r → IsPulledPair st ss rows set x next new r
-pulled_pair_of st s1 s2 new ss nss rows set x d es next r g1 g2 grow differ pairs at by all = record {
+pub pulled_pair_of : (st s1 s2 new : Held) (ss nss : List (List ℕ)) (states set : List ℕ) (x d : ℕ) (es : List Given) (next : List (ℕ × ℕ)) (r : ℕ) → Grows st s1 → Grows s1 s2 → SetsGrow ss nss → Differ nss → ArePairs st ss (length states) next →
+    IsStateAt st states set x s1 nss d → IsByOut s2 d es → AreAllPulled s2 es (length es) next new r → IsPulledPair st ss states set x next new r
+pulled_pair_of st s1 s2 new ss nss states set x d es next r g1 g2 grow differ pairs at by all = record {
   packets = all.packets;
   from = λ z w m.
       let v = all.from z (packet_on st s2 z g w) m in
@@ -110,7 +110,7 @@ pulled_pair_of st s1 s2 new ss nss rows set x d es next r g1 g2 grow differ pair
       let c : Contains (look s1 d z) o = subst (λ (os : List Out). Contains os o) (g2.leaves d z at.id) (by.goes z o (packet_on st s2 z g w) v.2) in
       let s = at.goes z h t w c in
       let u : Under st next t (applied h z) = under_back st s2 next t (applied h z) g sets v.3 in
-      let known = named_known st ss (length rows) next t pairs.each (under_named st next t (applied h z) u) in
+      let known = named_known st ss (length states) next t pairs.each (under_named st next t (applied h z) u) in
       (s.0, ((get_or nss t [], applied h z), s.2, (t, sym (sets_same ss nss t grow known.0), u)));
   every = λ z k w hx step in_next.
       let v = at.comes z k w hx step in
@@ -118,7 +118,7 @@ pulled_pair_of st s1 s2 new ss nss rows set x d es next r g1 g2 grow differ pair
       let i : ℕ = v.1 in
       let o : Out = sent_to h (i + 1) in
       let j : ℕ = in_next.0 in
-      let known = named_known st ss (length rows) next j pairs.each (under_named st next j k.1 in_next.2) in
+      let known = named_known st ss (length states) next j pairs.each (under_named st next j k.1 in_next.2) in
       let same : j ≡ i = differ j i (sets_known ss nss j grow known.0) v.4 (sets_same ss nss j grow known.0 ∙ in_next.1 ∙ sym v.5) in
       let u : Under st next i (applied h z) = subst (λ (y : List ℕ). Under st next i y) (sym v.3) (subst (λ n. Under st next n k.1) same in_next.2) in
       let c : Contains (look s2 d z) o = subst (λ (os : List Out). Contains os o) (sym (g2.leaves d z at.id)) v.2 in
@@ -129,36 +129,36 @@ pulled_pair_of st s1 s2 new ss nss rows set x d es next r g1 g2 grow differ pair
     g = grows_on st s1 s2 g1 g2
 
     sets : HaveSets st next
-    sets = packets_of st ss (length rows) next pairs.each
+    sets = packets_of st ss (length states) next pairs.each
 
 -- one entry more
-pub pulled_so_far_push : (a st mid new : Held) (ass ss : List (List ℕ)) (rows : List ℕ) (next done back more : List (ℕ × ℕ)) (p : ℕ × ℕ) (r : ℕ) → AreRows a rows → IsPulledSoFar a ass rows next done st back → Grows a st → SetsGrow ass ss → Grows st mid → ArePairs a ass (length rows) next →
-    IsPair a ass (length rows) p → IsPulledPair st ss rows (get_or ss p.0 []) p.1 next mid r → IsAdded mid back p.0 r new more → IsPulledSoFar a ass rows next (done ++ p ∷ []) new more
-pulled_so_far_push a st mid new ass ss rows next done back more p r rows_ok so g1 s1 g2 pairs pair one add = record {
+pub pulled_so_far_push : (a st mid new : Held) (ass ss : List (List ℕ)) (states : List ℕ) (next done back more : List (ℕ × ℕ)) (p : ℕ × ℕ) (r : ℕ) → AreStates a states → IsPulledSoFar a ass states next done st back → Grows a st → SetsGrow ass ss → Grows st mid → ArePairs a ass (length states) next →
+    IsPair a ass (length states) p → IsPulledPair st ss states (get_or ss p.0 []) p.1 next mid r → IsAdded mid back p.0 r new more → IsPulledSoFar a ass states next (done ++ p ∷ []) new more
+pulled_so_far_push a st mid new ass ss states next done back more p r states_ok so g1 s1 g2 pairs pair one add = record {
   from = λ i z w u. elim (add.either i z (packet_on st mid z g2 (packet_on a st z g1 w)) u) [
     | inl old ↦ let was = so.from i z w (under_back st mid back i z g2 so.packets old) in (under_left a done (p ∷ []) i z was.0, was.1)
     | inr here ↦
         let both = one.from z (packet_on a st z g1 w) here.1 in
         let v = both.1 in
         let k : Node = v.0 in
-        let s : IsStep st rows (get_or ass p.0 [], z) k = subst (λ (l : List ℕ). IsStep st rows (l, z) k) members v.1 in
-        let t : IsStep a rows (get_or ass p.0 [], z) k = step_back a st rows (get_or ass p.0 [], z) k g1 rows_ok pair.places s in
-        (under_right a done (p ∷ []) i z (inl (sym here.0, has_back a st p.1 z g1 pair.packets.id both.0)), (k, subst (λ j. IsStep a rows (get_or ass j [], z) k) (sym here.0) t, within_back a st ass ss (length rows) next k g1 s1 pairs v.2))
+        let s : IsStep st states (get_or ass p.0 [], z) k = subst (λ (l : List ℕ). IsStep st states (l, z) k) members v.1 in
+        let t : IsStep a states (get_or ass p.0 [], z) k = step_back a st states (get_or ass p.0 [], z) k g1 states_ok pair.places s in
+        (under_right a done (p ∷ []) i z (inl (sym here.0, has_back a st p.1 z g1 pair.packets.id both.0)), (k, subst (λ j. IsStep a states (get_or ass j [], z) k) (sym here.0) t, within_back a st ass ss (length states) next k g1 s1 pairs v.2))
   ];
   every = λ i z k w u s n. elim (under_append a done (p ∷ []) i z u) [
     | inl old ↦ add.old i z (packet_on st mid z g2 (packet_on a st z g1 w)) (under_on st mid back i z g2 so.packets (so.every i z k w old s n))
     | inr last ↦ elim last [
       | inl here ↦
-          let t : IsStep a rows (get_or ass p.0 [], z) k = subst (λ j. IsStep a rows (get_or ass j [], z) k) (sym here.0) s in
-          let now : IsStep st rows (get_or ss p.0 [], z) k = subst (λ (l : List ℕ). IsStep st rows (l, z) k) (sym members) (step_on a st rows (get_or ass p.0 [], z) k g1 rows_ok pair.places t) in
-          let has : Has mid r z = one.every z k (packet_on a st z g1 w) (has_on a st p.1 z g1 pair.packets.id here.1) now (within_on a st ass ss (length rows) next k g1 s1 pairs n) in
+          let t : IsStep a states (get_or ass p.0 [], z) k = subst (λ j. IsStep a states (get_or ass j [], z) k) (sym here.0) s in
+          let now : IsStep st states (get_or ss p.0 [], z) k = subst (λ (l : List ℕ). IsStep st states (l, z) k) (sym members) (step_on a st states (get_or ass p.0 [], z) k g1 states_ok pair.places t) in
+          let has : Has mid r z = one.every z k (packet_on a st z g1 w) (has_on a st p.1 z g1 pair.packets.id here.1) now (within_on a st ass ss (length states) next k g1 s1 pairs n) in
           subst (λ j. Under new more j z) here.0 (add.more z (packet_on st mid z g2 (packet_on a st z g1 w)) has)
       | inr none ↦ absurd none
     ]
   ];
   named = λ i n. elim (add.named i n) [
     | inl old ↦ so.named i old
-    | inr here ↦ (subst (λ j. j < length ass) (sym here) pair.known, subst (λ j. HavePlaces (length rows) (get_or ass j [])) (sym here) pair.places)
+    | inr here ↦ (subst (λ j. j < length ass) (sym here) pair.known, subst (λ j. HavePlaces (length states) (get_or ass j [])) (sym here) pair.places)
   ];
   packets = add.packets;
   once = add.once;

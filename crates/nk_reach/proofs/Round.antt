@@ -7,7 +7,7 @@ use Rattle.nk_store.proofs.Stores.{grows_on, grows_same}
 use Rattle.nk_algebra.proofs.Members.{Has as Among}
 use Rattle.nk_sets.specs.PacketSets.{IsSet}
 use Rattle.nk_determ.specs.Sets.{SetsGrow}
-use Rattle.nk_reach.specs.Pairs.{Node, EachPair, Within, AreRows, HavePlaces, ArePairs, IsStart, IsStep, IsGood}
+use Rattle.nk_reach.specs.Pairs.{Node, EachPair, Within, AreStates, HavePlaces, ArePairs, IsStart, IsStep, IsGood}
 use Rattle.nk_reach.specs.Levels.{InLevel, IsLater, IsFilled, Bad}
 use Rattle.nk_reach.specs.Rounds.{HaveSets, IsNextLevel, IsMerged}
 use Rattle.nk_reach.proofs.Graphs.{IsNext, exact_push, exact_start}
@@ -22,9 +22,9 @@ first_node st ss [] l e f = absurd (omega (arith, l))
 first_node st ss (p ∷ ps) l e f = ((get_or ss p.0 [], f.0.0), f.0.1, (p.0, refl, inl (refl, f.0.2)))
 
 -- the new level follows from the ones before
-pub round_next : (old : Held) (oss : List (List ℕ)) (st mid new : Held) (ss nss : List (List ℕ)) (rows : List ℕ) (set start : ℕ) (bad : List ℕ → List ℕ → List Out) (met : List (ℕ × ℕ)) (ls : List (List (ℕ × ℕ))) (level : List (ℕ × ℕ)) (h : ℕ) → AreRows old rows → Going old oss st ss rows set start bad met ls h → IsNextLevel st ss rows met (get_or ls h []) mid nss level → Grows st mid → SetsGrow ss nss → Grows mid new → IsNext (IsStep old rows) (IsGood old) (InLevel new nss ls) h (Within new nss level)
-round_next old oss st mid new ss nss rows set start bad met ls level h rows_ok go next g1 s1 g2 =
-    let r = length rows in
+pub round_next : (old : Held) (oss : List (List ℕ)) (st mid new : Held) (ss nss : List (List ℕ)) (states : List ℕ) (set start : ℕ) (bad : List ℕ → List ℕ → List Out) (met : List (ℕ × ℕ)) (ls : List (List (ℕ × ℕ))) (level : List (ℕ × ℕ)) (h : ℕ) → AreStates old states → Going old oss st ss states set start bad met ls h → IsNextLevel st ss states met (get_or ls h []) mid nss level → Grows st mid → SetsGrow ss nss → Grows mid new → IsNext (IsStep old states) (IsGood old) (InLevel new nss ls) h (Within new nss level)
+round_next old oss st mid new ss nss states set start bad met ls level h states_ok go next g1 s1 g2 =
+    let r = length states in
     let last = get_or ls h [] in
     let g : Grows st new = grows_on st mid new g1 g2 in
     let h_in : h < h + 1 = omega arith in
@@ -34,26 +34,26 @@ round_next old oss st mid new ss nss rows set start bad met ls level h rows_ok g
           let w = next.from n (packet_on old st n.1 go.grows p) (to_mid n v) in
           let m : Node = w.0 in
           let places : HavePlaces r m.0 = within_places st ss r last m (go.pairs h h_in) w.2 in
-          (m, packet_back old st m.1 go.grows w.1, level_on old oss st new ss nss rows set start bad met ls h h m go g s1 h_in w.2, step_back old st rows m n go.grows rows_ok places w.3);
+          (m, packet_back old st m.1 go.grows w.1, level_on old oss st new ss nss states set start bad met ls h h m go g s1 h_in w.2, step_back old st states m n go.grows states_ok places w.3);
       fresh = λ n p v j l lev.
-          next.fresh n (packet_on old st n.1 go.grows p) (to_mid n v) (go.in_met j n p l (level_back old oss st new ss nss rows set start bad met ls h j n go g s1 l lev));
+          next.fresh n (packet_on old st n.1 go.grows p) (to_mid n v) (go.in_met j n p l (level_back old oss st new ss nss states set start bad met ls h j n go g s1 l lev));
       every = λ m n p lev step none.
-          let was : Within st ss last m = level_back old oss st new ss nss rows set start bad met ls h h m go g s1 h_in lev in
+          let was : Within st ss last m = level_back old oss st new ss nss states set start bad met ls h h m go g s1 h_in lev in
           let places : HavePlaces r m.0 = within_places st ss r last m (go.pairs h h_in) was in
-          let made = next.every m n (packet_on old st m.1 go.grows p) was (step_on old st rows m n go.grows rows_ok places step)
-          (λ w. let q = go.met_in n step.packet w in none q.0 q.1 (level_on old oss st new ss nss rows set start bad met ls h q.0 n go g s1 q.1 q.2)) in
+          let made = next.every m n (packet_on old st m.1 go.grows p) was (step_on old st states m n go.grows states_ok places step)
+          (λ w. let q = go.met_in n step.packet w in none q.0 q.1 (level_on old oss st new ss nss states set start bad met ls h q.0 n go g s1 q.1 q.2)) in
           within_on mid new nss nss r level n g2 (sets_refl nss) next.pairs made;
     }
 
 -- a round keeps what holds between rounds
-pub going_next : (old : Held) (oss : List (List ℕ)) (st mid new : Held) (ss nss : List (List ℕ)) (rows : List ℕ) (set start : ℕ) (bad : List ℕ → List ℕ → List Out) (met all : List (ℕ × ℕ)) (ls : List (List (ℕ × ℕ))) (level : List (ℕ × ℕ)) (h : ℕ) → AreRows old rows → Going old oss st ss rows set start bad met ls h → ((n : Node) → IsGood old n → InLevel st ss ls h n → Bad bad n → ⊥) → IsNextLevel st ss rows met (get_or ls h []) mid nss level → Grows st mid → SetsGrow ss nss → IsMerged mid met level new all → Grows mid new → 0 < length level → Going old oss new nss rows set start bad all (ls ++ level ∷ []) (h + 1)
-going_next old oss st mid new ss nss rows set start bad met all ls level h rows_ok go none next g1 s1 merged g2 some =
-    let r = length rows in
+pub going_next : (old : Held) (oss : List (List ℕ)) (st mid new : Held) (ss nss : List (List ℕ)) (states : List ℕ) (set start : ℕ) (bad : List ℕ → List ℕ → List Out) (met all : List (ℕ × ℕ)) (ls : List (List (ℕ × ℕ))) (level : List (ℕ × ℕ)) (h : ℕ) → AreStates old states → Going old oss st ss states set start bad met ls h → ((n : Node) → IsGood old n → InLevel st ss ls h n → Bad bad n → ⊥) → IsNextLevel st ss states met (get_or ls h []) mid nss level → Grows st mid → SetsGrow ss nss → IsMerged mid met level new all → Grows mid new → 0 < length level → Going old oss new nss states set start bad all (ls ++ level ∷ []) (h + 1)
+going_next old oss st mid new ss nss states set start bad met all ls level h states_ok go none next g1 s1 merged g2 some =
+    let r = length states in
     let g : Grows st new = grows_on st mid new g1 g2 in
     let s2 : SetsGrow nss nss = sets_refl nss in
-    let gm : Going old oss mid nss rows set start bad met ls h = going_on old oss st mid ss nss rows set start bad met ls h g1 s1 go in
-    let gn : Going old oss new nss rows set start bad met ls h = going_on old oss mid new nss nss rows set start bad met ls h g2 s2 gm in
-    let is_next = round_next old oss st mid new ss nss rows set start bad met ls level h rows_ok go next g1 s1 g2 in
+    let gm : Going old oss mid nss states set start bad met ls h = going_on old oss st mid ss nss states set start bad met ls h g1 s1 go in
+    let gn : Going old oss new nss states set start bad met ls h = going_on old oss mid new nss nss states set start bad met ls h g2 s2 gm in
+    let is_next = round_next old oss st mid new ss nss states set start bad met ls level h states_ok go next g1 s1 g2 in
     let nls = ls ++ level ∷ [] in
     let is_old : (i : ℕ) → i < h + 1 → get_or nls i [] ≡ get_or ls i [] = λ i l. level_old ls level i (omega (arith, l, go.count)) in
     let is_new : (i : ℕ) → i ≡ h + 1 → get_or nls i [] ≡ level = λ i e. level_new ls level i (omega (arith, e, go.count)) in
@@ -74,7 +74,7 @@ going_next old oss st mid new ss nss rows set start bad met all ls level h rows_
       grows = gn.grows;
       sets = gn.sets;
       count = omega (arith, length-append ls (level ∷ []), go.count);
-      exact = exact_push (IsStart old (get_or oss set []) start) (IsStep old rows) (IsGood old) (InLevel new nss ls) (InLevel new nss nls) (Within new nss level) h
+      exact = exact_push (IsStart old (get_or oss set []) start) (IsStep old states) (IsGood old) (InLevel new nss ls) (InLevel new nss nls) (Within new nss level) h
           (λ n s. s.packet) (λ m n s. s.packet) gn.exact is_next back on (λ n v. last_back (h + 1) n refl v) (λ n v. last_on (h + 1) n refl v);
       start_is = is_old 0 (omega arith) ∙ go.start_is;
       pairs = λ i l. elim (eqb_tells i (h + 1)) [
@@ -86,7 +86,7 @@ going_next old oss st mid new ss nss rows set start bad met all ls level h rows_
         | inr other ↦ subst (λ (q : List (ℕ × ℕ)). IsLater new q) (sym (is_old i (omega (arith, l, other.1)))) (gn.shape i a (omega (arith, l, other.1)))
       ];
       goal = λ i n l p v b. elim (eqb_tells i h) [
-        | inl same ↦ none n p (level_back old oss st new ss nss rows set start bad met ls h h n go g s1 (omega arith) (subst (λ j. InLevel new nss ls j n) same.1 (back i n l v))) b
+        | inl same ↦ none n p (level_back old oss st new ss nss states set start bad met ls h h n go g s1 (omega arith) (subst (λ j. InLevel new nss ls j n) same.1 (back i n l v))) b
         | inr other ↦ gn.goal i n (omega (arith, l, other.1)) p (back i n l v) b
       ];
       met_pairs = record {
@@ -99,7 +99,7 @@ going_next old oss st mid new ss nss rows set start bad met all ls level h rows_
       met_in = λ n p w. elim (merged.either w.0 n.1 (packet_on old mid n.1 gm.grows p) w.2) [
         | inl was ↦
             let q = gm.met_in n p (w.0, w.1, was) in
-            (q.0, omega (arith, q.1), on q.0 n q.1 (level_on old oss mid new nss nss rows set start bad met ls h q.0 n gm g2 s2 q.1 q.2))
+            (q.0, omega (arith, q.1), on q.0 n q.1 (level_on old oss mid new nss nss states set start bad met ls h q.0 n gm g2 s2 q.1 q.2))
         | inr now ↦ (h + 1, omega arith, last_on (h + 1) n refl (within_on mid new nss nss r level n g2 s2 next.pairs (w.0, w.1, now)))
       ];
       in_met = λ j n p l v. elim (eqb_tells j (h + 1)) [
@@ -108,7 +108,7 @@ going_next old oss st mid new ss nss rows set start bad met all ls level h rows_
             (w.0, w.1, merged.more w.0 n.1 (packet_on old mid n.1 gm.grows p) w.2)
         | inr other ↦
             let b : j < h + 1 = omega (arith, l, other.1) in
-            let w : Within mid nss met n = gm.in_met j n p b (level_back old oss mid new nss nss rows set start bad met ls h j n gm g2 s2 b (back j n b v)) in
+            let w : Within mid nss met n = gm.in_met j n p b (level_back old oss mid new nss nss states set start bad met ls h j n gm g2 s2 b (back j n b v)) in
             (w.0, w.1, merged.old w.0 n.1 (packet_on old mid n.1 gm.grows p) w.2)
       ];
       seen = n0 ∷ gn.seen;
@@ -120,28 +120,28 @@ going_next old oss st mid new ss nss rows set start bad met all ls level h rows_
       ];
       seen_all = λ n q. elim q [
         | inl e ↦ subst (λ (k : Node). Among (all_nodes old.maxes r) k) e
-            (among_nodes old.maxes r n0 came.3.ascend (step_places old rows m0 n0 rows_ok places0 came.1 came.3) good0.0 good0.1)
+            (among_nodes old.maxes r n0 came.3.ascend (step_places old states m0 n0 states_ok places0 came.1 came.3) good0.0 good0.1)
         | inr later ↦ gn.seen_all n later
       ];
     }
 
 -- before the first round
-pub going_start : (old : Held) (oss : List (List ℕ)) (rows : List ℕ) (set start : ℕ) (bad : List ℕ → List ℕ → List Out) → (set < length oss) → HavePlaces (length rows) (get_or oss set []) → IsSet old start → Going old oss old oss rows set start bad ((set, start) ∷ []) (((set, start) ∷ []) ∷ []) 0
-going_start old oss rows set start bad k p q =
-    let one : ArePairs old oss (length rows) ((set, start) ∷ []) = record { each = (record { known = k; places = p; packets = q }, tt); once = (λ e. e, tt) } in
+pub going_start : (old : Held) (oss : List (List ℕ)) (states : List ℕ) (set start : ℕ) (bad : List ℕ → List ℕ → List Out) → (set < length oss) → HavePlaces (length states) (get_or oss set []) → IsSet old start → Going old oss old oss states set start bad ((set, start) ∷ []) (((set, start) ∷ []) ∷ []) 0
+going_start old oss states set start bad k p q =
+    let one : ArePairs old oss (length states) ((set, start) ∷ []) = record { each = (record { known = k; places = p; packets = q }, tt); once = (λ e. e, tt) } in
     let ls : List (List (ℕ × ℕ)) = ((set, start) ∷ []) ∷ [] in
     record {
       grows = grows_same old;
       sets = sets_refl oss;
       count = refl;
-      exact = exact_start (IsStart old (get_or oss set []) start) (IsStep old rows) (IsGood old) (InLevel old oss ls)
+      exact = exact_start (IsStart old (get_or oss set []) start) (IsStep old states) (IsGood old) (InLevel old oss ls)
           (λ n g w. elim w.2 [
             | inl here ↦ record { set_is = sym w.1 ∙ ap (λ i. get_or oss i []) (sym here.0); packet = g; has = here.1 }
             | inr later ↦ absurd later
           ])
           (λ n s. (set, sym s.set_is, inl (refl, s.has)));
       start_is = refl;
-      pairs = λ i l. let z : i ≡ 0 = omega (arith, l) in subst (λ j. ArePairs old oss (length rows) (get_or ls j [])) (sym z) one;
+      pairs = λ i l. let z : i ≡ 0 = omega (arith, l) in subst (λ j. ArePairs old oss (length states) (get_or ls j [])) (sym z) one;
       shape = λ i a l. absurd (omega (arith, a, l));
       goal = λ i n l. absurd (omega (arith, l));
       met_pairs = one;

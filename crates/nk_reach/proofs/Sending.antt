@@ -7,7 +7,7 @@ use Rattle.nk_store.proofs.Stores.{grows_on}
 use Rattle.nk_sets.specs.PacketSets.{is_in, IsSet, IsImage}
 use Rattle.nk_sets.proofs.SetLemmas.{set_grows}
 use Rattle.nk_reach.specs.declared.outs.Given.{Given}
-use Rattle.nk_reach.specs.Pairs.{Node, Under, Once, Within, AreRows, HavePlaces, IsStep}
+use Rattle.nk_reach.specs.Pairs.{Node, Under, Once, Within, AreStates, HavePlaces, IsStep}
 use Rattle.nk_reach.specs.Outs.{AreGiven, GivesAny, IsByOut}
 use Rattle.nk_reach.specs.Local.{IsStateAt}
 use Rattle.nk_reach.specs.Rounds.{HaveSets, sent_to, IsAdded, IsFollowed, IsSent, IsAllSent}
@@ -107,9 +107,9 @@ all_sent_push a st new es n q ps qs rs ok l is m g s =
     }
 
 -- the outs of a set state at some packets, all of them sent, are what the set records next
-pub followed_of : (st mid s3 new : Held) (nss : List (List ℕ)) (rows set : List ℕ) (x d : ℕ) (es : List Given) (ps qs : List (ℕ × ℕ)) → AreRows st rows → HavePlaces (length rows) set → HaveSets st ps →
-    Grows st mid → Grows mid s3 → IsStateAt st rows set x mid nss d → IsByOut s3 d es → IsAllSent s3 es (length es) ps new qs → IsFollowed st rows set x ps new nss qs
-followed_of st mid s3 new nss rows set x d es ps qs rows_ok places pp g1 g2 state by sent =
+pub followed_of : (st mid s3 new : Held) (nss : List (List ℕ)) (states set : List ℕ) (x d : ℕ) (es : List Given) (ps qs : List (ℕ × ℕ)) → AreStates st states → HavePlaces (length states) set → HaveSets st ps →
+    Grows st mid → Grows mid s3 → IsStateAt st states set x mid nss d → IsByOut s3 d es → IsAllSent s3 es (length es) ps new qs → IsFollowed st states set x ps new nss qs
+followed_of st mid s3 new nss states set x d es ps qs states_ok places pp g1 g2 state by sent =
     record {
       from = λ i y w u. elim (sent.from i y (packet_on st s3 y g w) u) [
         | inl was ↦ inl (under_back st s3 ps i y g pp was)
@@ -118,7 +118,7 @@ followed_of st mid s3 new nss rows set x d es ps qs rows_ok places pp g1 g2 stat
             let h : List (ℕ × ℕ) = now.1 in
             let pz : IsPacket st z = packet_back st s3 z g now.2 in
             let r = reach z h i pz now.3 in
-            inr (z, pz, r.0, subst (λ (v : List ℕ). IsStep st rows (set, z) (get_or nss i [], v)) now.4 r.1)
+            inr (z, pz, r.0, subst (λ (v : List ℕ). IsStep st states (set, z) (get_or nss i [], v)) now.4 r.1)
       ];
       old = λ i y w u. sent.old i y (packet_on st s3 y g w) (under_on st s3 ps i y g pp u);
       every = λ z n pz hz step. follow z n pz hz step;
@@ -129,7 +129,7 @@ followed_of st mid s3 new nss rows set x d es ps qs rows_ok places pp g1 g2 stat
             let h : List (ℕ × ℕ) = now.1 in
             let pz : IsPacket st z = packet_back st s3 z g now.2 in
             let r = reach z h i pz now.3 in
-            inr (r.2, step_places st rows (set, z) (get_or nss i [], applied h z) rows_ok places pz r.1)
+            inr (r.2, step_places st states (set, z) (get_or nss i [], applied h z) states_ok places pz r.1)
       ];
       packets = sent.packets;
       once = sent.once;
@@ -138,14 +138,14 @@ followed_of st mid s3 new nss rows set x d es ps qs rows_ok places pp g1 g2 stat
     g : Grows st s3
     g = grows_on st mid s3 g1 g2
 
-    reach : (z : List ℕ) (h : List (ℕ × ℕ)) (i : ℕ) → IsPacket st z → GivesAny s3 es z (sent_to h (i + 1)) → Has st x z × IsStep st rows (set, z) (get_or nss i [], applied h z) × (i < length nss)
+    reach : (z : List ℕ) (h : List (ℕ × ℕ)) (i : ℕ) → IsPacket st z → GivesAny s3 es z (sent_to h (i + 1)) → Has st x z × IsStep st states (set, z) (get_or nss i [], applied h z) × (i < length nss)
     reach z h i pz gv =
         let o : Out = sent_to h (i + 1) in
         let at : Contains (look mid d z) o = subst (λ (os : List Out). Contains os o) (g2.leaves d z state.id) (by.goes z o (packet_on st s3 z g pz) gv) in
         let r = state.goes z h i pz at in
         (r.0, r.2, r.1)
 
-    follow : (z : List ℕ) (n : Node) → IsPacket st z → Has st x z → IsStep st rows (set, z) n → Within new nss qs n
+    follow : (z : List ℕ) (n : Node) → IsPacket st z → Has st x z → IsStep st states (set, z) n → Within new nss qs n
     follow z n pz hz step =
         let way = state.comes z n pz hz step in
         let h : List (ℕ × ℕ) = way.0 in

@@ -16,11 +16,11 @@ pub record IsBadSoFar (st : Held) (ss : List (List ℕ)) (bad : List ℕ → Lis
   pub once : Once back
 
 -- the entries are the nodes of a level from where something bad is met in r steps
-pub record IsBack (old : Held) (st : Held) (ss : List (List ℕ)) (rows : List ℕ) (bad : List ℕ → List ℕ → List Out) (Lev : Node → Type 0) (r : ℕ) (back : List (ℕ × ℕ)) : Type 0 where
-  pub sound : (n : Node) → IsGood old n → Within st ss back n → Lev n × Leads (IsStep old rows) (Bad bad) r n
-  pub full : (n : Node) → IsGood old n → Lev n → Leads (IsStep old rows) (Bad bad) r n → Within st ss back n
-  pub pairs : ArePairs st ss (length rows) back
+pub record IsBack (old : Held) (st : Held) (ss : List (List ℕ)) (states : List ℕ) (bad : List ℕ → List ℕ → List Out) (Lev : Node → Type 0) (r : ℕ) (back : List (ℕ × ℕ)) : Type 0 where
+  pub sound : (n : Node) → IsGood old n → Within st ss back n → Lev n × Leads (IsStep old states) (Bad bad) r n
+  pub full : (n : Node) → IsGood old n → Lev n → Leads (IsStep old states) (Bad bad) r n → Within st ss back n
+  pub pairs : ArePairs st ss (length states) back
 
 -- of the first n lists, list k has the nodes of the level k before level h from where something bad is met in k steps
 abbrev pub AreBacks : Held → Held → List (List ℕ) → List (List ℕ) → List ℕ → (List ℕ → List ℕ → List Out) → List (List (ℕ × ℕ)) → ℕ → ℕ → List (List (ℕ × ℕ)) → Type 0
-AreBacks old st oss ss rows bad ls h n backs = (k : ℕ) → k < n → IsBack old st ss rows bad (InLevel old oss ls (h - k)) k (slice_index_or backs k [])
+AreBacks old st oss ss states bad ls h n backs = (k : ℕ) → k < n → IsBack old st ss states bad (InLevel old oss ls (h - k)) k (slice_index_or backs k [])

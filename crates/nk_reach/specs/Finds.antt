@@ -29,16 +29,16 @@ abbrev pub found_of : declared.Found → Found
 found_of f = record { start = f.start; records = f.history.records; last = f.history.last }
 
 -- y, under the set t, is the least packet to which a step of the set at x leads under next
-pub record IsNextLeast (st : Held) (ss : List (List ℕ)) (rows set x : List ℕ) (next : List (ℕ × ℕ)) (t : ℕ) (y : List ℕ) : Type 0 where
+pub record IsNextLeast (st : Held) (ss : List (List ℕ)) (states set x : List ℕ) (next : List (ℕ × ℕ)) (t : ℕ) (y : List ℕ) : Type 0 where
   pub known : t < length ss
-  pub step : IsStep st rows (set, x) (slice_index_or ss t [], y)
+  pub step : IsStep st states (set, x) (slice_index_or ss t [], y)
   pub under : Under st next t y
-  pub first : (k : Node) → IsStep st rows (set, x) k → Within st ss next k → IsUpTo y k.1
+  pub first : (k : Node) → IsStep st states (set, x) k → Within st ss next k → IsUpTo y k.1
 
 -- the first i records of the least history, and the set and the packet that are met behind them
-pub record IsForward (old st : Held) (ss : List (List ℕ)) (rows : List ℕ) (start : ℕ) (bad : List ℕ → List ℕ → List Out) (h i : ℕ) (back : List (ℕ × ℕ)) (set first : List ℕ) (records : List (List ℕ)) (s : ℕ) (x : List ℕ) : Type 0 where
-  pub walk : IsLeastWalk (IsStep old rows) (Bad bad) h (set, first) records (slice_index_or ss s [], x)
+pub record IsForward (old st : Held) (ss : List (List ℕ)) (states : List ℕ) (start : ℕ) (bad : List ℕ → List ℕ → List Out) (h i : ℕ) (back : List (ℕ × ℕ)) (set first : List ℕ) (records : List (List ℕ)) (s : ℕ) (x : List ℕ) : Type 0 where
+  pub walk : IsLeastWalk (IsStep old states) (Bad bad) h (set, first) records (slice_index_or ss s [], x)
   pub count : length records ≡ i
-  pub at : Reach (IsStart old set start) (IsStep old rows) i (slice_index_or ss s [], x)
+  pub at : Reach (IsStart old set start) (IsStep old states) i (slice_index_or ss s [], x)
   pub packet : IsPacket old x
   pub under : Under st back s x

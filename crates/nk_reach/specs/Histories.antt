@@ -27,10 +27,10 @@ IsLeastWalk Step Bad (suc k) m (y ∷ u) n =
 
 -- what makes a history the least one: the least start from where something bad is met in h steps, the least walk from it,
 -- and the least packet that the bad finals make there
-pub record IsGreedy (st : Held) (rows set : List ℕ) (start : ℕ) (bad : List ℕ → List ℕ → List Out) (h : ℕ) (f : Found) (n : Node) (target : ℕ) : Type 0 where
+pub record IsGreedy (st : Held) (states set : List ℕ) (start : ℕ) (bad : List ℕ → List ℕ → List Out) (h : ℕ) (f : Found) (n : Node) (target : ℕ) : Type 0 where
   pub starts : IsStart st set start (set, f.start)
-  pub first : (y : List ℕ) → IsStart st set start (set, y) → Leads (IsStep st rows) (Bad bad) h (set, y) → IsUpTo f.start y
-  pub walk : IsLeastWalk (IsStep st rows) (Bad bad) h (set, f.start) f.records n
+  pub first : (y : List ℕ) → IsStart st set start (set, y) → Leads (IsStep st states) (Bad bad) h (set, y) → IsUpTo f.start y
+  pub walk : IsLeastWalk (IsStep st states) (Bad bad) h (set, f.start) f.records n
   pub count : length f.records ≡ h
   pub makes : Makes (bad n.0 n.1) n.1 f.last target
   pub last : (y : List ℕ) (t : ℕ) → Makes (bad n.0 n.1) n.1 y t → IsUpTo f.last y

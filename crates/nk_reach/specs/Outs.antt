@@ -48,9 +48,9 @@ pub record IsByOut (st : Held) (d : ℕ) (es : List Given) : Type 0 where
   pub goes : (x : List ℕ) (o : Out) → IsPacket st x → GivesAny st es x o → Contains (look st d x) o
   pub comes : (x : List ℕ) (o : Out) → IsPacket st x → Contains (look st d x) o → GivesAny st es x o
 
--- each row leads from a diagram to its entries
+-- each diagram that is kept leads to its entries
 abbrev pub AreByOut : Held → List (ℕ × List Given) → Type 0
-AreByOut st rows = (d : ℕ) (es : List Given) → lookup (eqb d) rows ≡ Some es → IsByOut st d es
+AreByOut st kept = (d : ℕ) (es : List Given) → lookup (eqb d) kept ≡ Some es → IsByOut st d es
 
 -- the entry for the values of an interval
 abbrev pub stretch : ℕ → ℕ → Given → Stretch

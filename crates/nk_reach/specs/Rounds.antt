@@ -19,11 +19,11 @@ abbrev pub sent_to : List (ℕ × ℕ) → ℕ → Out
 sent_to g t = record { act = g; target = t }
 
 -- the level has exactly what the last level leads to and was not met
-pub record IsNextLevel (st : Held) (ss : List (List ℕ)) (rows : List ℕ) (met last : List (ℕ × ℕ)) (new : Held) (nss : List (List ℕ)) (level : List (ℕ × ℕ)) : Type 0 where
-  pub from : (n : Node) → IsPacket st n.1 → Within new nss level n → (m : Node) × IsPacket st m.1 × Within st ss last m × IsStep st rows m n
+pub record IsNextLevel (st : Held) (ss : List (List ℕ)) (states : List ℕ) (met last : List (ℕ × ℕ)) (new : Held) (nss : List (List ℕ)) (level : List (ℕ × ℕ)) : Type 0 where
+  pub from : (n : Node) → IsPacket st n.1 → Within new nss level n → (m : Node) × IsPacket st m.1 × Within st ss last m × IsStep st states m n
   pub fresh : (n : Node) → IsPacket st n.1 → Within new nss level n → Within st ss met n → ⊥
-  pub every : (m n : Node) → IsPacket st m.1 → Within st ss last m → IsStep st rows m n → (Within st ss met n → ⊥) → Within new nss level n
-  pub pairs : ArePairs new nss (length rows) level
+  pub every : (m n : Node) → IsPacket st m.1 → Within st ss last m → IsStep st states m n → (Within st ss met n → ⊥) → Within new nss level n
+  pub pairs : ArePairs new nss (length states) level
   pub filled : EachPair (λ p. IsFilled new p.1) level
 
 -- the entries of both, a set once
@@ -59,10 +59,10 @@ pub record IsRest (st : Held) (ps : List (ℕ × ℕ)) (t y : ℕ) (new : Held) 
   pub both : (x : List ℕ) → IsPacket st x → is_in st y x ≡ true → (Under st ps t x → ⊥) → is_in new r x ≡ true
 
 -- the level has exactly what the last level leads to
-pub record IsRaw (st : Held) (ss : List (List ℕ)) (rows : List ℕ) (last : List (ℕ × ℕ)) (new : Held) (nss : List (List ℕ)) (raw : List (ℕ × ℕ)) : Type 0 where
-  pub from : (n : Node) → IsPacket st n.1 → Within new nss raw n → (m : Node) × IsPacket st m.1 × Within st ss last m × IsStep st rows m n
-  pub every : (m n : Node) → IsPacket st m.1 → Within st ss last m → IsStep st rows m n → Within new nss raw n
-  pub pairs : ArePairs new nss (length rows) raw
+pub record IsRaw (st : Held) (ss : List (List ℕ)) (states : List ℕ) (last : List (ℕ × ℕ)) (new : Held) (nss : List (List ℕ)) (raw : List (ℕ × ℕ)) : Type 0 where
+  pub from : (n : Node) → IsPacket st n.1 → Within new nss raw n → (m : Node) × IsPacket st m.1 × Within st ss last m × IsStep st states m n
+  pub every : (m n : Node) → IsPacket st m.1 → Within st ss last m → IsStep st states m n → Within new nss raw n
+  pub pairs : ArePairs new nss (length states) raw
   pub differ : Differ nss
 
 -- the level has the entries of raw without what was met, where there are any
@@ -76,19 +76,19 @@ pub record IsFresh (st : Held) (met raw : List (ℕ × ℕ)) (new : Held) (level
   pub once : Once level
 
 -- beside what was there stands exactly what the set records next at the packets of x
-pub record IsFollowed (st : Held) (rows set : List ℕ) (x : ℕ) (ps : List (ℕ × ℕ)) (new : Held) (nss : List (List ℕ)) (qs : List (ℕ × ℕ)) : Type 0 where
-  pub from : (i : ℕ) (y : List ℕ) → IsPacket st y → Under new qs i y → Under st ps i y ⊎ ((z : List ℕ) × IsPacket st z × (is_in st x z ≡ true) × IsStep st rows (set, z) (slice_index_or nss i [], y))
+pub record IsFollowed (st : Held) (states set : List ℕ) (x : ℕ) (ps : List (ℕ × ℕ)) (new : Held) (nss : List (List ℕ)) (qs : List (ℕ × ℕ)) : Type 0 where
+  pub from : (i : ℕ) (y : List ℕ) → IsPacket st y → Under new qs i y → Under st ps i y ⊎ ((z : List ℕ) × IsPacket st z × (is_in st x z ≡ true) × IsStep st states (set, z) (slice_index_or nss i [], y))
   pub old : (i : ℕ) (y : List ℕ) → IsPacket st y → Under st ps i y → Under new qs i y
-  pub every : (z : List ℕ) (n : Node) → IsPacket st z → is_in st x z ≡ true → IsStep st rows (set, z) n → Within new nss qs n
-  pub named : (i : ℕ) → Named qs i → Named ps i ⊎ ((i < length nss) × HavePlaces (length rows) (slice_index_or nss i []))
+  pub every : (z : List ℕ) (n : Node) → IsPacket st z → is_in st x z ≡ true → IsStep st states (set, z) n → Within new nss qs n
+  pub named : (i : ℕ) → Named qs i → Named ps i ⊎ ((i < length nss) × HavePlaces (length states) (slice_index_or nss i []))
   pub packets : HaveSets new qs
   pub once : Once qs
 
 -- what some entries lead to
-pub record IsSoFar (st : Held) (ss : List (List ℕ)) (rows : List ℕ) (last : List (ℕ × ℕ)) (new : Held) (nss : List (List ℕ)) (raw : List (ℕ × ℕ)) : Type 0 where
-  pub from : (i : ℕ) (y : List ℕ) → IsPacket st y → Under new raw i y → (m : Node) × IsPacket st m.1 × Within st ss last m × IsStep st rows m (slice_index_or nss i [], y)
-  pub every : (m n : Node) → IsPacket st m.1 → Within st ss last m → IsStep st rows m n → Within new nss raw n
-  pub named : (i : ℕ) → Named raw i → (i < length nss) × HavePlaces (length rows) (slice_index_or nss i [])
+pub record IsSoFar (st : Held) (ss : List (List ℕ)) (states : List ℕ) (last : List (ℕ × ℕ)) (new : Held) (nss : List (List ℕ)) (raw : List (ℕ × ℕ)) : Type 0 where
+  pub from : (i : ℕ) (y : List ℕ) → IsPacket st y → Under new raw i y → (m : Node) × IsPacket st m.1 × Within st ss last m × IsStep st states m (slice_index_or nss i [], y)
+  pub every : (m n : Node) → IsPacket st m.1 → Within st ss last m → IsStep st states m n → Within new nss raw n
+  pub named : (i : ℕ) → Named raw i → (i < length nss) × HavePlaces (length states) (slice_index_or nss i [])
   pub packets : HaveSets new raw
   pub once : Once raw
 

@@ -95,31 +95,31 @@ goal_on old new ends table k g = record {
 abbrev pub marked : Held → ℕ → ℕ → List ℕ → List Out
 marked st d mark pk = retargeted (Some mark ∷ []) (split_leaf st.maxes pk (look st d pk))
 
--- r has at each packet the finals of the row, with the mark
-pub record IsMarkedOf (st : Held) (mark row r : ℕ) : Type 0 where
-  pub row_id : IsId st row
-  pub leaves : HasLeaves st r (λ pk. marked st row mark pk)
+-- r has at each packet the finals of the state, with the mark
+pub record IsMarkedOf (st : Held) (mark state r : ℕ) : Type 0 where
+  pub state_id : IsId st state
+  pub leaves : HasLeaves st r (λ pk. marked st state mark pk)
 
--- each entry leads from a row to its marked finals
+-- each entry leads from a state to its marked finals
 abbrev pub AreMarkedOf : Held → ℕ → List (ℕ × ℕ) → Type 0
-AreMarkedOf st mark entries = (row r : ℕ) → lookup (eqb row) entries ≡ Some r → IsMarkedOf st mark row r
+AreMarkedOf st mark entries = (state r : ℕ) → lookup (eqb state) entries ≡ Some r → IsMarkedOf st mark state r
 
 -- the mark of a label's side: labels below the bound are of the left side
 abbrev pub mark_of : ℕ → ℕ → ℕ
 mark_of bound l = cond (nat_lt l bound) 1 2
 
--- the marked ends of each of the first n labels: of both starts at label 0, of the rows from 1 on
-pub record AreMarked (old : Held) (rows : List ℕ) (left right bound n : ℕ) (new : Held) (ends : List ℕ) : Type 0 where
+-- the marked ends of each of the first n labels: of both starts at label 0, of the states from 1 on
+pub record AreMarked (old : Held) (states : List ℕ) (left right bound n : ℕ) (new : Held) (ends : List ℕ) : Type 0 where
   pub count : length ends ≡ n
   pub start : 0 < n → HasLeaves new (slice_index ends 0) (λ pk. merged (marked old left 1 pk) (marked old right 2 pk))
-  pub rest : (l : ℕ) → 0 < l → l < n → HasLeaves new (slice_index ends l) (λ pk. marked old (slice_index rows l) (mark_of bound l) pk)
+  pub rest : (l : ℕ) → 0 < l → l < n → HasLeaves new (slice_index ends l) (λ pk. marked old (slice_index states l) (mark_of bound l) pk)
 
 -- the side with that mark and start ends with y at some label of the set
 abbrev pub EndsAt : Held → List ℕ → ℕ → ℕ → ℕ → List ℕ → List ℕ → List ℕ → Type 0
-EndsAt st rows start bound mark set pk y =
-    (Contains set 0 × Sends st start pk y 0) ⊎ ((l : ℕ) × Contains set l × (0 < l) × (mark_of bound l ≡ mark) × Sends st (slice_index rows l) pk y 0)
+EndsAt st states start bound mark set pk y =
+    (Contains set 0 × Sends st start pk y 0) ⊎ ((l : ℕ) × Contains set l × (0 < l) × (mark_of bound l ≡ mark) × Sends st (slice_index states l) pk y 0)
 
 -- the finals with target 0 are what the left side alone ends with, those with target 1 what the right side alone does
-pub record AreOneSided (st : Held) (rows : List ℕ) (left right bound : ℕ) (set pk : List ℕ) (outs : List Out) : Type 0 where
-  pub left_alone : (y : List ℕ) → Makes outs pk y 0 ↔ (EndsAt st rows left bound 1 set pk y × (EndsAt st rows right bound 2 set pk y → ⊥))
-  pub right_alone : (y : List ℕ) → Makes outs pk y 1 ↔ (EndsAt st rows right bound 2 set pk y × (EndsAt st rows left bound 1 set pk y → ⊥))
+pub record AreOneSided (st : Held) (states : List ℕ) (left right bound : ℕ) (set pk : List ℕ) (outs : List Out) : Type 0 where
+  pub left_alone : (y : List ℕ) → Makes outs pk y 0 ↔ (EndsAt st states left bound 1 set pk y × (EndsAt st states right bound 2 set pk y → ⊥))
+  pub right_alone : (y : List ℕ) → Makes outs pk y 1 ↔ (EndsAt st states right bound 2 set pk y × (EndsAt st states left bound 1 set pk y → ⊥))

@@ -4,7 +4,7 @@ ghost use Rattle.std.specs.Map.{lookup};
 ghost use Rattle.nk_store.specs.Held.{Held, IsPacket, Grows};
 ghost use Rattle.nk_sets.specs.PacketSets.{IsLeast};
 ghost use Rattle.nk_determ.specs.Sets.{SetsGrow};
-ghost use Rattle.nk_reach.specs.Pairs.{Node, AreRows, HavePlaces, ArePairs, Under, Named, Within, Once, IsStep};
+ghost use Rattle.nk_reach.specs.Pairs.{Node, AreStates, HavePlaces, ArePairs, Under, Named, Within, Once, IsStep};
 ghost use Rattle.nk_reach.specs.Rounds.{HaveSets};
 ghost use Rattle.nk_reach.specs.Choices.{IsAny, IsBest};
 ghost use Rattle.nk_reach.specs.Finds.{IsNextLeast};
@@ -39,24 +39,24 @@ pub(crate) fn least_under(st: &Store, back: &Entries, s: SetId) -> Result<Packet
 pub(crate) fn next_packet(
     st: &mut Store,
     ss: &mut Sets,
-    rows: &[Id],
+    states: &[Id],
     s: SetId,
     x: &Packet,
     here: &Entries,
     next: &Entries,
 ) -> Result<(SetId, Packet), AllocError>
-    requires rows { AreRows st.old rows.now }
-    requires here { ArePairs st.old ss.old (length rows.now) here.now }
-    requires next { ArePairs st.old ss.old (length rows.now) next.now }
+    requires states { AreStates st.old states.now }
+    requires here { ArePairs st.old ss.old (length states.now) here.now }
+    requires next { ArePairs st.old ss.old (length states.now) next.now }
     requires packet { IsPacket st.old x.now }
     requires under { Under st.old here.now s x.now }
-    requires ahead { (k : Node) × IsStep st.old rows.now (slice_index_or ss.old s [], x.now) k × Within st.old ss.old next.now k }
+    requires ahead { (k : Node) × IsStep st.old states.now (slice_index_or ss.old s [], x.now) k × Within st.old ss.old next.now k }
     ensures grows { Grows st.old st.new }
     ensures sets { SetsGrow ss.old ss.new }
-    ensures ok { IfOk result (λ r. IsNextLeast st.old ss.old rows.now (slice_index_or ss.old s []) x.now next.now r.0 r.1) }
+    ensures ok { IfOk result (λ r. IsNextLeast st.old ss.old states.now (slice_index_or ss.old s []) x.now next.now r.0 r.1) }
 {
     let p = packets_under(here, s);
-    let d = state_at(st, ss, rows, s, p)?;
+    let d = state_at(st, ss, states, s, p)?;
     let outs = st.look(d, x);
     match least_ahead(st, outs, x, next) {
         Some(b) => {

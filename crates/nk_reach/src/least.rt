@@ -3,7 +3,7 @@ ghost use Rattle.std.specs.Prelude.{◌≡◌, ℕ, ◌+◌, ◌-◌, ◌<◌, �
 ghost use Rattle.nk_field.specs.Order.{IsLeast};
 ghost use Rattle.nk_store.specs.Held.{Held, IsPacket, Grows};
 ghost use Rattle.nk_determ.specs.Sets.{SetsGrow, Differ};
-ghost use Rattle.nk_reach.specs.Pairs.{AreRows};
+ghost use Rattle.nk_reach.specs.Pairs.{AreStates};
 ghost use Rattle.nk_reach.specs.Levels.{AreLevels};
 ghost use Rattle.nk_reach.specs.Histories.{IsBreak, Breaks};
 ghost use Rattle.nk_reach.specs.Backs.{AreBacks};
@@ -21,37 +21,37 @@ use nk_store::{Id, Store};
 use std::alloc::AllocError;
 
 /// The least history that breaks a goal: it starts at one of the packets that the levels start from, its records follow
-/// the rows' set states, and a bad final of the side that is told makes its last packet. Fewer records come first, then the
+/// the states' set states, and a bad final of the side that is told makes its last packet. Fewer records come first, then the
 /// lesser start, then the records in turn, then the last packet; where a bad final of either side makes that history, the
-/// left side is told. The levels are those of these rows and this goal, and ended at a bad final. The only error is that
+/// left side is told. The levels are those of these states and this goal, and ended at a bad final. The only error is that
 /// memory ran out.
 pub fn least_history<G: Goal>(
     st: &mut Store,
     ss: &mut Sets,
-    rows: &[Id],
+    states: &[Id],
     l: &Levels,
     g: &mut G,
 ) -> Result<Found, AllocError>
     requires fits { G.fits g.old st.old }
-    requires labels { length rows.now ≤ G.labels g.old }
-    requires rows { AreRows st.old rows.now }
-    requires levels { AreLevels st.old st.old ss.old rows.now (first_set l.now.levels) (first_packets l.now.levels) (G.bad_of g.old st.old) l.now.levels l.now.broken }
+    requires labels { length states.now ≤ G.labels g.old }
+    requires states { AreStates st.old states.now }
+    requires levels { AreLevels st.old st.old ss.old states.now (first_set l.now.levels) (first_packets l.now.levels) (G.bad_of g.old st.old) l.now.levels l.now.broken }
     requires broken { l.now.broken ≡ true }
     ensures grows { Grows st.old st.new }
     ensures sets { SetsGrow ss.old ss.new }
     ensures breaks { IfOk result (λ f.
-        IsBreak st.old rows.now (slice_index_or ss.old (first_set l.now.levels) []) (first_packets l.now.levels) (G.bad_of g.old st.old) (target_of f.side) (found_of f)) }
+        IsBreak st.old states.now (slice_index_or ss.old (first_set l.now.levels) []) (first_packets l.now.levels) (G.bad_of g.old st.old) (target_of f.side) (found_of f)) }
     ensures least { IfOk result (λ f.
-        IsLeast (Breaks st.old rows.now (slice_index_or ss.old (first_set l.now.levels) []) (first_packets l.now.levels) (G.bad_of g.old st.old)) (found_of f)) }
+        IsLeast (Breaks st.old states.now (slice_index_or ss.old (first_set l.now.levels) []) (first_packets l.now.levels) (G.bad_of g.old st.old)) (found_of f)) }
     ensures left { IfOk result (λ f.
-        IsBreak st.old rows.now (slice_index_or ss.old (first_set l.now.levels) []) (first_packets l.now.levels) (G.bad_of g.old st.old) 0 (found_of f) → f.side ≡ Side.Left) }
+        IsBreak st.old states.now (slice_index_or ss.old (first_set l.now.levels) []) (first_packets l.now.levels) (G.bad_of g.old st.old) 0 (found_of f) → f.side ≡ Side.Left) }
     ensures range { IfOk result (λ f. IsPacket st.old f.history.last) }
     ensures fits { OnOk result (G.fits g.new st.new) }
     ensures labels { OnOk result (G.labels g.new ≡ G.labels g.old) }
     ensures same { OnOk result ((st : Held) (set pk : Items ℕ) → G.bad_of g.new st set pk ≡ G.bad_of g.old st set pk) }
 {
     let mut backs = List::new(st.alloc());
-    let found = go_forward(st, ss, rows, &mut backs, l, g)?;
+    let found = go_forward(st, ss, states, &mut backs, l, g)?;
     Ok(found)
 }
 
@@ -59,30 +59,30 @@ pub fn least_history<G: Goal>(
 fn go_forward<G: Goal>(
     st: &mut Store,
     ss: &mut Sets,
-    rows: &[Id],
+    states: &[Id],
     backs: &mut List<Entries>,
     l: &Levels,
     g: &mut G,
 ) -> Result<Found, AllocError>
     requires fits { G.fits g.old st.old }
-    requires labels { length rows.now ≤ G.labels g.old }
-    requires rows { AreRows st.old rows.now }
-    requires levels { AreLevels st.old st.old ss.old rows.now (first_set l.now.levels) (first_packets l.now.levels) (G.bad_of g.old st.old) l.now.levels l.now.broken }
+    requires labels { length states.now ≤ G.labels g.old }
+    requires states { AreStates st.old states.now }
+    requires levels { AreLevels st.old st.old ss.old states.now (first_set l.now.levels) (first_packets l.now.levels) (G.bad_of g.old st.old) l.now.levels l.now.broken }
     requires broken { l.now.broken ≡ true }
     ensures grows { Grows st.old st.new }
     ensures sets { SetsGrow ss.old ss.new }
     ensures breaks { IfOk result (λ f.
-        IsBreak st.old rows.now (slice_index_or ss.old (first_set l.now.levels) []) (first_packets l.now.levels) (G.bad_of g.old st.old) (target_of f.side) (found_of f)) }
+        IsBreak st.old states.now (slice_index_or ss.old (first_set l.now.levels) []) (first_packets l.now.levels) (G.bad_of g.old st.old) (target_of f.side) (found_of f)) }
     ensures least { IfOk result (λ f.
-        IsLeast (Breaks st.old rows.now (slice_index_or ss.old (first_set l.now.levels) []) (first_packets l.now.levels) (G.bad_of g.old st.old)) (found_of f)) }
+        IsLeast (Breaks st.old states.now (slice_index_or ss.old (first_set l.now.levels) []) (first_packets l.now.levels) (G.bad_of g.old st.old)) (found_of f)) }
     ensures left { IfOk result (λ f.
-        IsBreak st.old rows.now (slice_index_or ss.old (first_set l.now.levels) []) (first_packets l.now.levels) (G.bad_of g.old st.old) 0 (found_of f) → f.side ≡ Side.Left) }
+        IsBreak st.old states.now (slice_index_or ss.old (first_set l.now.levels) []) (first_packets l.now.levels) (G.bad_of g.old st.old) 0 (found_of f) → f.side ≡ Side.Left) }
     ensures range { IfOk result (λ f. IsPacket st.old f.history.last) }
     ensures fits { OnOk result (G.fits g.new st.new) }
     ensures labels { OnOk result (G.labels g.new ≡ G.labels g.old) }
     ensures same { OnOk result ((st : Held) (set pk : Items ℕ) → G.bad_of g.new st set pk ≡ G.bad_of g.old st set pk) }
 {
-    let made = backs_of(st, ss, rows, l, g)?;
+    let made = backs_of(st, ss, states, l, g)?;
     *backs = made;
     let last = l.levels.len() - 1;
     let set = start_set(l);
@@ -94,7 +94,7 @@ fn go_forward<G: Goal>(
     for i in 0..last {
         let here = backs.at(last - i);
         let next = backs.at(last - i - 1);
-        let step = next_packet(st, ss, rows, s, &x, here, next)?;
+        let step = next_packet(st, ss, states, s, &x, here, next)?;
         records.push(step.1)?;
         s = step.0;
         x = step.1;
@@ -131,19 +131,19 @@ fn side_of(target: u64) -> Side
 fn backs_of<G: Goal>(
     st: &mut Store,
     ss: &mut Sets,
-    rows: &[Id],
+    states: &[Id],
     l: &Levels,
     g: &mut G,
 ) -> Result<List<Entries>, AllocError>
     requires fits { G.fits g.old st.old }
-    requires labels { length rows.now ≤ G.labels g.old }
-    requires rows { AreRows st.old rows.now }
-    requires levels { AreLevels st.old st.old ss.old rows.now (first_set l.now.levels) (first_packets l.now.levels) (G.bad_of g.old st.old) l.now.levels l.now.broken }
+    requires labels { length states.now ≤ G.labels g.old }
+    requires states { AreStates st.old states.now }
+    requires levels { AreLevels st.old st.old ss.old states.now (first_set l.now.levels) (first_packets l.now.levels) (G.bad_of g.old st.old) l.now.levels l.now.broken }
     ensures grows { Grows st.old st.new }
     ensures sets { SetsGrow ss.old ss.new }
     ensures differ { OnOk result (Differ ss.new) }
     ensures count { IfOk result (λ backs. length backs ≡ length l.now.levels) }
-    ensures ok { IfOk result (λ backs. AreBacks st.old st.new ss.old ss.new rows.now (G.bad_of g.old st.old) l.now.levels (length l.now.levels - 1) (length l.now.levels) backs) }
+    ensures ok { IfOk result (λ backs. AreBacks st.old st.new ss.old ss.new states.now (G.bad_of g.old st.old) l.now.levels (length l.now.levels - 1) (length l.now.levels) backs) }
     ensures fits { OnOk result (G.fits g.new st.new) }
     ensures labels { OnOk result (G.labels g.new ≡ G.labels g.old) }
     ensures same { OnOk result ((st : Held) (set pk : Items ℕ) → G.bad_of g.new st set pk ≡ G.bad_of g.old st set pk) }
@@ -156,7 +156,7 @@ fn backs_of<G: Goal>(
     for k in 0..last {
         let before = l.levels.at(last - 1 - k);
         let next = backs.at(k);
-        let back = pull_level(st, ss, rows, before, next)?;
+        let back = pull_level(st, ss, states, before, next)?;
         backs.push(back)?;
     }
     ss.differ();

@@ -3,7 +3,7 @@ ghost use Rattle.std.specs.Prelude.{◌≡◌, ◌<◌, [], IfOk, length, slice_
 ghost use Rattle.nk_store.specs.Held.{Grows};
 ghost use Rattle.nk_sets.specs.PacketSets.{IsSet};
 ghost use Rattle.nk_determ.specs.Sets.{SetsGrow};
-ghost use Rattle.nk_reach.specs.Pairs.{AreRows, HavePlaces, ArePairs, Once};
+ghost use Rattle.nk_reach.specs.Pairs.{AreStates, HavePlaces, ArePairs, Once};
 ghost use Rattle.nk_reach.specs.Outs.{AreGiven};
 ghost use Rattle.nk_reach.specs.Rounds.{HaveSets};
 ghost use Rattle.nk_reach.specs.Pulls.{IsPulled, AreAllPulled, IsPulledPair, IsPulledSoFar};
@@ -24,21 +24,21 @@ use std::alloc::AllocError;
 pub(crate) fn pull_level(
     st: &mut Store,
     ss: &mut Sets,
-    rows: &[Id],
+    states: &[Id],
     level: &List<(SetId, Id)>,
     next: &Entries,
 ) -> Result<Entries, AllocError>
-    requires rows { AreRows st.old rows.now }
-    requires level { ArePairs st.old ss.old (length rows.now) level.now }
-    requires next { ArePairs st.old ss.old (length rows.now) next.now }
+    requires states { AreStates st.old states.now }
+    requires level { ArePairs st.old ss.old (length states.now) level.now }
+    requires next { ArePairs st.old ss.old (length states.now) next.now }
     ensures grows { Grows st.old st.new }
     ensures sets { SetsGrow ss.old ss.new }
-    ensures ok { IfOk result (λ back. IsPulledSoFar st.old ss.old rows.now next.now level.now st.new back) }
+    ensures ok { IfOk result (λ back. IsPulledSoFar st.old ss.old states.now next.now level.now st.new back) }
 {
     let mut back = IndexMap::new(st.alloc());
     for k in 0..level.len() {
         let (s, x) = *level.at(k);
-        let led = pull_pair(st, ss, rows, s, x, next)?;
+        let led = pull_pair(st, ss, states, s, x, next)?;
         add(st, &mut back, s, led)?;
     }
     let done = Entries::new(back);
@@ -49,21 +49,21 @@ pub(crate) fn pull_level(
 fn pull_pair(
     st: &mut Store,
     ss: &mut Sets,
-    rows: &[Id],
+    states: &[Id],
     s: SetId,
     x: Id,
     next: &Entries,
 ) -> Result<Id, AllocError>
-    requires rows { AreRows st.old rows.now }
+    requires states { AreStates st.old states.now }
     requires set { s < length ss.old }
-    requires places { HavePlaces (length rows.now) (slice_index_or ss.old s []) }
+    requires places { HavePlaces (length states.now) (slice_index_or ss.old s []) }
     requires packets { IsSet st.old x }
-    requires next { ArePairs st.old ss.old (length rows.now) next.now }
+    requires next { ArePairs st.old ss.old (length states.now) next.now }
     ensures grows { Grows st.old st.new }
     ensures sets { SetsGrow ss.old ss.new }
-    ensures ok { IfOk result (λ r. IsPulledPair st.old ss.old rows.now (slice_index_or ss.old s []) x next.now st.new r) }
+    ensures ok { IfOk result (λ r. IsPulledPair st.old ss.old states.now (slice_index_or ss.old s []) x next.now st.new r) }
 {
-    let d = state_at(st, ss, rows, s, x)?;
+    let d = state_at(st, ss, states, s, x)?;
     let outs = by_out(st, d)?;
     let led = pull_all(st, &outs, next)?;
     Ok(led)

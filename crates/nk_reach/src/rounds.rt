@@ -2,7 +2,7 @@
 ghost use Rattle.std.specs.Prelude.{◌≡◌, IfOk, length};
 ghost use Rattle.nk_store.specs.Held.{Grows};
 ghost use Rattle.nk_determ.specs.Sets.{SetsGrow};
-ghost use Rattle.nk_reach.specs.Pairs.{AreRows, ArePairs, Once};
+ghost use Rattle.nk_reach.specs.Pairs.{AreStates, ArePairs, Once};
 ghost use Rattle.nk_reach.specs.Rounds.{HaveSets, IsNextLevel, IsFresh};
 
 use crate::entries::{listed, unmet};
@@ -18,18 +18,18 @@ use std::alloc::AllocError;
 pub fn next_level(
     st: &mut Store,
     ss: &mut Sets,
-    rows: &[Id],
+    states: &[Id],
     met: &IndexMap<SetId, Id>,
     last: &List<(SetId, Id)>,
 ) -> Result<List<(SetId, Id)>, AllocError>
-    requires rows { AreRows st.old rows.now }
-    requires met { ArePairs st.old ss.old (length rows.now) met.now.entries }
-    requires last { ArePairs st.old ss.old (length rows.now) last.now }
+    requires states { AreStates st.old states.now }
+    requires met { ArePairs st.old ss.old (length states.now) met.now.entries }
+    requires last { ArePairs st.old ss.old (length states.now) last.now }
     ensures grows { Grows st.old st.new }
     ensures sets { SetsGrow ss.old ss.new }
-    ensures ok { IfOk result (λ level. IsNextLevel st.old ss.old rows.now met.now.entries last.now st.new ss.new level) }
+    ensures ok { IfOk result (λ level. IsNextLevel st.old ss.old states.now met.now.entries last.now st.new ss.new level) }
 {
-    let found = follow_level(st, ss, rows, last)?;
+    let found = follow_level(st, ss, states, last)?;
     let raw = listed(st.alloc(), found)?;
     let level = fresh(st, met, &raw)?;
     Ok(level)

@@ -3,7 +3,7 @@ ghost use Rattle.std.specs.Prelude.{◌≡◌, ℕ, ◌<◌, ◌≤◌, [], ◌�
 ghost use Rattle.nk_store.specs.Held.{Held, Grows};
 ghost use Rattle.nk_sets.specs.PacketSets.{IsSet};
 ghost use Rattle.nk_determ.specs.Sets.{SetsGrow};
-ghost use Rattle.nk_reach.specs.Pairs.{AreRows, HavePlaces};
+ghost use Rattle.nk_reach.specs.Pairs.{AreStates, HavePlaces};
 ghost use Rattle.nk_reach.specs.Levels.{AreLevels};
 
 use crate::entries::merge;
@@ -15,24 +15,24 @@ use nk_field::List;
 use nk_store::{Id, Store};
 use std::alloc::{AllocError, Global};
 
-/// The levels of rows, from a set state at the packets given.
+/// The levels of states, from a set state at the packets given.
 pub fn levels<G: Goal>(
     st: &mut Store,
     ss: &mut Sets,
-    rows: &[Id],
+    states: &[Id],
     s: SetId,
     start: Id,
     g: &mut G,
 ) -> Result<Levels, AllocError>
     requires fits { G.fits g.old st.old }
-    requires labels { length rows.now ≤ G.labels g.old }
-    requires rows { AreRows st.old rows.now }
+    requires labels { length states.now ≤ G.labels g.old }
+    requires states { AreStates st.old states.now }
     requires set { s < length ss.old }
-    requires places { HavePlaces (length rows.now) (slice_index_or ss.old s []) }
+    requires places { HavePlaces (length states.now) (slice_index_or ss.old s []) }
     requires packets { IsSet st.old start }
     ensures grows { Grows st.old st.new }
     ensures sets { SetsGrow ss.old ss.new }
-    ensures ok { IfOk result (λ l. AreLevels st.old st.new ss.new rows.now s start (G.bad_of g.old st.old) l.levels l.broken) }
+    ensures ok { IfOk result (λ l. AreLevels st.old st.new ss.new states.now s start (G.bad_of g.old st.old) l.levels l.broken) }
     ensures fits { OnOk result (G.fits g.new st.new) }
     ensures labels { OnOk result (G.labels g.new ≡ G.labels g.old) }
     ensures same { OnOk result ((st : Held) (set pk : Items ℕ) → G.bad_of g.new st set pk ≡ G.bad_of g.old st set pk) }
@@ -46,7 +46,7 @@ pub fn levels<G: Goal>(
         if any_bad(st, ss, all.at(last), g)? {
             return Ok(Levels::new(all, true));
         }
-        let level = next_level(st, ss, rows, &met, all.at(last))?;
+        let level = next_level(st, ss, states, &met, all.at(last))?;
         if level.len() == 0 {
             return Ok(Levels::new(all, false));
         }

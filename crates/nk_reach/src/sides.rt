@@ -51,30 +51,30 @@ impl Goal for OneSide {
 }
 
 impl OneSide {
-    /// The goal for rows of which the first one stands for the starts of both sides, those below the bound for labels of the
+    /// The goal for states of which the first one stands for the starts of both sides, those below the bound for labels of the
     /// left side, and the others for labels of the right. The only error is that memory ran out.
     pub fn new(
         st: &mut Store,
-        rows: &[Id],
+        states: &[Id],
         left: Id,
         right: Id,
         bound: usize,
     ) -> Result<OneSide, AllocError>
-        requires rows { AreIds st.old rows.now }
+        requires states { AreIds st.old states.now }
         requires left { IsId st.old left }
         requires right { IsId st.old right }
         ensures grows { Grows st.old st.new }
         ensures ids { IfOk result (λ g. AreIds st.new g.ends) }
         ensures fits { IfOk result (λ g. IsGoalOf st.new g.ends g.seen.entries) }
-        ensures marked { IfOk result (λ g. AreMarked st.old rows.now left right bound (length rows.now) st.new g.ends) }
-        ensures alone { IfOk result (λ g. (set pk : Items ℕ) → HavePlaces (length rows.now) set → IsPacket st.old pk →
-            AreOneSided st.old rows.now left right bound set pk (alone (ends_of st.new g.ends set pk))) }
+        ensures marked { IfOk result (λ g. AreMarked st.old states.now left right bound (length states.now) st.new g.ends) }
+        ensures alone { IfOk result (λ g. (set pk : Items ℕ) → HavePlaces (length states.now) set → IsPacket st.old pk →
+            AreOneSided st.old states.now left right bound set pk (alone (ends_of st.new g.ends set pk))) }
     {
         st.laws();
-        let mut marks = MarkedRows::new(st.alloc());
+        let mut marks = MarkedStates::new(st.alloc());
         let mut ends = List::new(st.alloc());
-        for l in 0..rows.len() {
-            let d = marked_row(st, &mut marks, rows, left, right, bound, l)?;
+        for l in 0..states.len() {
+            let d = marked_state(st, &mut marks, states, left, right, bound, l)?;
             ends.push(d)?;
         }
         let seen = HashMap::new(st.alloc());
@@ -82,20 +82,20 @@ impl OneSide {
     }
 }
 
-/// The marked ends that were made of rows, by the row: those of the left side and those of the right.
+/// The marked ends that were made of states, by the state: those of the left side and those of the right.
 #[derive(Drop)]
-struct MarkedRows {
+struct MarkedStates {
     left: HashMap<Id, Id>,
     right: HashMap<Id, Id>,
 }
 
-impl MarkedRows {
-    /// Of no row; it takes no memory.
-    fn new(alloc: Global) -> MarkedRows
+impl MarkedStates {
+    /// Of no state; it takes no memory.
+    fn new(alloc: Global) -> MarkedStates
         ensures left { result.left.entries ≡ [] }
         ensures right { result.right.entries ≡ [] }
     {
-        MarkedRows {
+        MarkedStates {
             left: HashMap::new(alloc),
             right: HashMap::new(alloc),
         }
@@ -103,24 +103,24 @@ impl MarkedRows {
 }
 
 /// The marked ends of a label.
-fn marked_row(
+fn marked_state(
     st: &mut Store,
-    marks: &mut MarkedRows,
-    rows: &[Id],
+    marks: &mut MarkedStates,
+    states: &[Id],
     left: Id,
     right: Id,
     bound: usize,
     l: usize,
 ) -> Result<Id, AllocError>
-    requires rows { AreIds st.old rows.now }
+    requires states { AreIds st.old states.now }
     requires left { IsId st.old left }
     requires right { IsId st.old right }
-    requires label { l < length rows.now }
+    requires label { l < length states.now }
     requires of_left { AreMarkedOf st.old 1 marks.old.left.entries }
     requires of_right { AreMarkedOf st.old 2 marks.old.right.entries }
     ensures grows { Grows st.old st.new }
     ensures start { IfOk result (λ d. l ≡ 0 → HasLeaves st.new d (λ pk. merged (marked st.old left 1 pk) (marked st.old right 2 pk))) }
-    ensures rest { IfOk result (λ d. 0 < l → HasLeaves st.new d (λ pk. marked st.old (slice_index rows.now l) (mark_of bound l) pk)) }
+    ensures rest { IfOk result (λ d. 0 < l → HasLeaves st.new d (λ pk. marked st.old (slice_index states.now l) (mark_of bound l) pk)) }
     ensures of_left { OnOk result (AreMarkedOf st.new 1 marks.new.left.entries) }
     ensures of_right { OnOk result (AreMarkedOf st.new 2 marks.new.right.entries) }
 {
@@ -128,7 +128,7 @@ fn marked_row(
         let d = marked_starts(st, left, right)?;
         return Ok(d);
     }
-    marked_label(st, marks, rows[l], bound, l)
+    marked_label(st, marks, states[l], bound, l)
 }
 
 /// The marked ends of both starts.
@@ -143,48 +143,48 @@ fn marked_starts(st: &mut Store, left: Id, right: Id) -> Result<Id, AllocError>
     union(st, first, second)
 }
 
-/// The marked ends of the row of a label, which is below the bound where it is of the left side.
+/// The marked ends of the state of a label, which is below the bound where it is of the left side.
 fn marked_label(
     st: &mut Store,
-    marks: &mut MarkedRows,
-    row: Id,
+    marks: &mut MarkedStates,
+    state: Id,
     bound: usize,
     l: usize,
 ) -> Result<Id, AllocError>
-    requires row { IsId st.old row }
+    requires state { IsId st.old state }
     requires of_left { AreMarkedOf st.old 1 marks.old.left.entries }
     requires of_right { AreMarkedOf st.old 2 marks.old.right.entries }
     ensures grows { Grows st.old st.new }
-    ensures ok { IfOk result (λ r. HasLeaves st.new r (λ pk. marked st.old row (mark_of bound l) pk)) }
+    ensures ok { IfOk result (λ r. HasLeaves st.new r (λ pk. marked st.old state (mark_of bound l) pk)) }
     ensures of_left { OnOk result (AreMarkedOf st.new 1 marks.new.left.entries) }
     ensures of_right { OnOk result (AreMarkedOf st.new 2 marks.new.right.entries) }
 {
     if l < bound {
-        let r = marked_once(st, &mut marks.left, row, 1)?;
+        let r = marked_once(st, &mut marks.left, state, 1)?;
         return Ok(r);
     }
-    let r = marked_once(st, &mut marks.right, row, 2)?;
+    let r = marked_once(st, &mut marks.right, state, 2)?;
     Ok(r)
 }
 
-/// The marked ends of a row, which are looked up where they were made before.
+/// The marked ends of a state, which are looked up where they were made before.
 fn marked_once(
     st: &mut Store,
     made: &mut HashMap<Id, Id>,
-    row: Id,
+    state: Id,
     mark: u64,
 ) -> Result<Id, AllocError>
-    requires row { IsId st.old row }
+    requires state { IsId st.old state }
     requires made { AreMarkedOf st.old mark made.old.entries }
     ensures grows { Grows st.old st.new }
-    ensures ok { IfOk result (λ r. HasLeaves st.new r (λ pk. marked st.old row mark pk)) }
+    ensures ok { IfOk result (λ r. HasLeaves st.new r (λ pk. marked st.old state mark pk)) }
     ensures made { OnOk result (AreMarkedOf st.new mark made.new.entries) }
 {
-    if let Some(r) = known(made, row) {
+    if let Some(r) = known(made, state) {
         return Ok(r);
     }
-    let r = marked_ends(st, row, mark)?;
-    made.insert(row, r)?;
+    let r = marked_ends(st, state, mark)?;
+    made.insert(state, r)?;
     Ok(r)
 }
 

@@ -1,4 +1,4 @@
--- An automaton in a store that has grown, and its rows.
+-- An automaton in a store that has grown, and its states.
 use Rattle.std.proofs.Common.{◌≡◌, ℕ, zero, suc, ◌+◌, ◌<◌, ⊎_elim, List, length, subst, arith}
 use Rattle.std.specs.Prelude.{slice_index}
 use Rattle.nk_policy.specs.Policy.{Policy, dups_of}
@@ -7,7 +7,7 @@ use Rattle.nk_store.specs.Nodes.{InRange}
 use Rattle.nk_store.specs.Held.{Held, IsId, IsPacket, Grows}
 use Rattle.nk_determ.specs.Automaton.{IsState, IsAutomaton}
 use Rattle.nk_determ.proofs.Sending.{sends_on, sends_back}
-use Rattle.nk_determ.specs.Pairs.{AreRows}
+use Rattle.nk_determ.specs.Pairs.{AreStates}
 
 -- a packet of the grown store is one of the old store
 pub packet_back : (old new : Held) (pk : List ℕ) → Grows old new → IsPacket new pk → IsPacket old pk
@@ -25,31 +25,31 @@ state_on old new d p s g = record {
       (λ h. e.0 (sends_back old new d pk y l g s.id h), λ h. sends_on old new d pk y l g s.id (e.1 h));
 }
 
--- each row is a diagram
-pub row_id : (st : Held) (rows : List ℕ) (first : ℕ) (p : Policy) → IsAutomaton st rows first p
-    → (i : ℕ) → i < length rows → IsId st (slice_index rows i)
-row_id st rows first p a zero lt = a.start.id
-row_id st rows first p a (suc i) lt =
+-- each state is a diagram
+pub state_id : (st : Held) (states : List ℕ) (first : ℕ) (p : Policy) → IsAutomaton st states first p
+    → (i : ℕ) → i < length states → IsId st (slice_index states i)
+state_id st states first p a zero lt = a.start.id
+state_id st states first p a (suc i) lt =
     let less : i < dups_of p = omega (arith, lt, a.count) in
     let e : 1 + i ≡ suc i = omega arith in
-    subst (λ k. IsId st (slice_index rows k)) e (a.rest i less).id
+    subst (λ k. IsId st (slice_index states k)) e (a.rest i less).id
 
 -- the automaton stands
-pub stands : (st new : Held) (rows : List ℕ) (first : ℕ) (p : Policy) → IsAutomaton st rows first p → Grows st new
-    → IsAutomaton new rows first p
-stands st new rows first p a g = record {
+pub stands : (st new : Held) (states : List ℕ) (first : ℕ) (p : Policy) → IsAutomaton st states first p → Grows st new
+    → IsAutomaton new states first p
+stands st new states first p a g = record {
   count = a.count;
   labels = a.labels;
-  start = state_on st new (slice_index rows 0) p a.start g;
-  rest = λ i lt. state_on st new (slice_index rows (1 + i)) (after p (first + i)) (a.rest i lt) g;
+  start = state_on st new (slice_index states 0) p a.start g;
+  rest = λ i lt. state_on st new (slice_index states (1 + i)) (after p (first + i)) (a.rest i lt) g;
   targets = λ i pk y t lt r s.
-      a.targets i pk y t lt (packet_back st new pk g r) (sends_back st new (slice_index rows i) pk y t g (row_id st rows first p a i lt) s);
+      a.targets i pk y t lt (packet_back st new pk g r) (sends_back st new (slice_index states i) pk y t g (state_id st states first p a i lt) s);
 }
 
--- its rows are rows of which levels can be made
-pub are_rows : (st : Held) (rows : List ℕ) (p : Policy) → IsAutomaton st rows 1 p → AreRows st rows
-are_rows st rows p a = record {
-  ids = λ k lt. row_id st rows 1 p a k lt;
+-- its states are states of which levels can be made
+pub are_states : (st : Held) (states : List ℕ) (p : Policy) → IsAutomaton st states 1 p → AreStates st states
+are_states st states p a = record {
+  ids = λ k lt. state_id st states 1 p a k lt;
   targets = λ l pk y t lt r s.
       ⊎_elim
       (λ e. omega (arith, e, a.count))

@@ -13,7 +13,7 @@ use Rattle.nk_policy.proofs.ListParts.{last_of_list}
 use Rattle.nk_policy.proofs.Tests.{false_true}
 use Rattle.nk_store.specs.Held.{Held, IsPacket, AreTidy}
 use Rattle.nk_determ.specs.Exact.{Sends}
-use Rattle.nk_determ.specs.States.{RowLeads}
+use Rattle.nk_determ.specs.States.{StateLeads}
 use Rattle.nk_determ.specs.Automaton.{IsState, IsAutomaton}
 use Rattle.nk_determ.proofs.Sending.{sent_in_range}
 use Rattle.nk_determ.specs.Pairs.{IsStep}
@@ -43,14 +43,14 @@ pub record Known (st : Held) (p : Policy) (pk : Packet) (u : List Packet) (x : P
 decided_by : {P Q : Type 0} → P ↔ Q → Decided P → Decided Q
 decided_by e k = ⊎_elim (λ h. inl (e.0 h)) (λ no. inr (λ h. no (e.1 h))) k
 
-module _ (st : Held) (rows : List ℕ) (p : Policy) (a : IsAutomaton st rows 1 p) (d : HasDistinct p) (tidy : AreTidy st) where
-  -- the row of a dup
-  pub state_at : (l : ℕ) → has_dup p l ≡ true → IsState st (slice_index rows l) (after p l)
+module _ (st : Held) (states : List ℕ) (p : Policy) (a : IsAutomaton st states 1 p) (d : HasDistinct p) (tidy : AreTidy st) where
+  -- the state of a dup
+  pub state_at : (l : ℕ) → has_dup p l ≡ true → IsState st (slice_index states l) (after p l)
   state_at l h =
       let b = dup_within p a.labels l h in
       let lt : l - 1 < dups_of p = omega (arith, b.0, b.1) in
       let e : 1 + (l - 1) ≡ l = omega (arith, b.0) in
-      subst (λ k. IsState st (slice_index rows k) (after p k)) e (a.rest (l - 1) lt)
+      subst (λ k. IsState st (slice_index states k) (after p k)) e (a.rest (l - 1) lt)
 
   -- a dup has a label above 0
   above : (l : ℕ) → has_dup p l ≡ true → 1 ≤ l
@@ -58,8 +58,8 @@ module _ (st : Held) (rows : List ℕ) (p : Policy) (a : IsAutomaton st rows 1 p
 
   -- a step to the labels that R holds of
   step_is : (s : List ℕ) (x y : Packet) (t : List ℕ) (R : ℕ → Type 0)
-      → ((l : ℕ) → ((0 < l) × RowLeads st rows s x y l) ↔ R l) → ((l : ℕ) → R l → IsPacket st y)
-      → IsStep st rows (s, x) (t, y) ↔ ((t ≡ [] → ⊥) × HasExactly R t)
+      → ((l : ℕ) → ((0 < l) × StateLeads st states s x y l) ↔ R l) → ((l : ℕ) → R l → IsPacket st y)
+      → IsStep st states (s, x) (t, y) ↔ ((t ≡ [] → ⊥) × HasExactly R t)
   step_is s x y t R both range = (
     λ h. (h.some, (h.ascend, λ l. (λ c. (both l).0 ((h.every l).0 c), λ r. (h.every l).1 ((both l).1 r)))),
     λ h. record {
@@ -72,12 +72,12 @@ module _ (st : Held) (rows : List ℕ) (p : Policy) (a : IsAutomaton st rows 1 p
 
   -- what the start records
   pub start_leads : (pk y : Packet) → IsPacket st pk → (l : ℕ)
-      → ((0 < l) × RowLeads st rows (0 ∷ []) pk y l) ↔ RecordsAt p pk [] y l
+      → ((0 < l) × StateLeads st states (0 ∷ []) pk y l) ↔ RecordsAt p pk [] y l
   start_leads pk y r l = (
     λ h.
         let lead = h.1 in
         let e = only_member lead.0 0 lead.1 in
-        (a.start.records pk y l r h.0).0 (subst (λ k. Sends st (slice_index rows k) pk y l) e lead.2),
+        (a.start.records pk y l r h.0).0 (subst (λ k. Sends st (slice_index states k) pk y l) e lead.2),
     λ h.
         let lt : 1 ≤ l = above l (record_dup p pk [] y l h) in
         let place : 0 < 1 = omega arith in
@@ -86,7 +86,7 @@ module _ (st : Held) (rows : List ℕ) (p : Policy) (a : IsAutomaton st rows 1 p
 
   -- what the members of a set of dups record
   pub members_lead : (s : List ℕ) (x y : Packet) → ((l : ℕ) → Contains s l → has_dup p l ≡ true) → IsPacket st x → (l' : ℕ)
-      → ((0 < l') × RowLeads st rows s x y l') ↔ ((l : ℕ) × Contains s l × RecordsAt (after p l) x [] y l')
+      → ((0 < l') × StateLeads st states s x y l') ↔ ((l : ℕ) × Contains s l × RecordsAt (after p l) x [] y l')
   members_lead s x y dups r l' = (
     λ h.
         let lead = h.1 in
@@ -97,12 +97,12 @@ module _ (st : Held) (rows : List ℕ) (p : Policy) (a : IsAutomaton st rows 1 p
   )
 
   -- a packet that is led to is in range
-  pub led_in_range : (s : List ℕ) (x y : Packet) (l : ℕ) → IsPacket st x → RowLeads st rows s x y l → IsPacket st y
-  led_in_range s x y l r h = sent_in_range st (slice_index rows h.0) x y l tidy r h.2
+  pub led_in_range : (s : List ℕ) (x y : Packet) (l : ℕ) → IsPacket st x → StateLeads st states s x y l → IsPacket st y
+  led_in_range s x y l r h = sent_in_range st (slice_index states h.0) x y l tidy r h.2
 
   -- the first step
   pub begins : (pk y : Packet) (t : List ℕ) → IsPacket st pk
-      → IsStep st rows (0 ∷ [], pk) (t, y) ↔ IsLabelSet p pk (y ∷ []) t
+      → IsStep st states (0 ∷ [], pk) (t, y) ↔ IsLabelSet p pk (y ∷ []) t
   begins pk y t r =
       let i = step_is (0 ∷ []) pk y t (λ l. RecordsAt p pk [] y l) (start_leads pk y r)
       (λ l h. led_in_range (0 ∷ []) pk y l r ((start_leads pk y r l).1 h).1) in (
@@ -118,7 +118,7 @@ module _ (st : Held) (rows : List ℕ) (p : Policy) (a : IsAutomaton st rows 1 p
   -- each further step
   pub follows : (pk : Packet) (u : List Packet) (x y : Packet) (s t : List ℕ) → IsPacket st x
       → HasExactly (IsAt p pk (u ++ x ∷ [])) s
-      → IsStep st rows (s, x) (t, y) ↔ IsLabelSet p pk ((u ++ x ∷ []) ++ y ∷ []) t
+      → IsStep st states (s, x) (t, y) ↔ IsLabelSet p pk ((u ++ x ∷ []) ++ y ∷ []) t
   follows pk u x y s t r h =
       let dups = members_are_dups pk (u ++ x ∷ []) s h in
       let lead = members_lead s x y dups r in
@@ -135,18 +135,18 @@ module _ (st : Held) (rows : List ℕ) (p : Policy) (a : IsAutomaton st rows 1 p
       (λ l h. let b = dup_within p a.labels l (at_dup p pk (u ++ x ∷ []) l h) in omega (arith, b.1)) in
       record { set = all.0; exactly = all.1; range = range }
 
-  -- whether a row records the packet at a label
-  row_decided : (q : Policy) (i : ℕ) (pk y : Packet) (l : ℕ) → IsState st (slice_index rows i) q → IsPacket st pk
+  -- whether a state records the packet at a label
+  state_decided : (q : Policy) (i : ℕ) (pk y : Packet) (l : ℕ) → IsState st (slice_index states i) q → IsPacket st pk
       → (RecordsAt q pk [] y l → 1 ≤ l) → Decided (RecordsAt q pk [] y l)
-  row_decided q i pk y zero s r low = inr (λ h. let le = low h in omega (arith, le))
-  row_decided q i pk y (suc l) s r low =
+  state_decided q i pk y zero s r low = inr (λ h. let le = low h in omega (arith, le))
+  state_decided q i pk y (suc l) s r low =
       let le : 1 ≤ suc l = omega arith in
-      decided_by (s.records pk y (suc l) r le) (sends_decided st (slice_index rows i) pk y (suc l))
+      decided_by (s.records pk y (suc l) r le) (sends_decided st (slice_index states i) pk y (suc l))
 
   first_known : (pk y : Packet) → IsPacket st pk → Known st p pk [] y
   first_known pk y r = from_decided pk [] y
       (λ l. let e = at_first p d pk y l in
-      decided_by (e.1, e.0) (row_decided p 0 pk y l a.start r (λ h. above l (record_dup p pk [] y l h))))
+      decided_by (e.1, e.0) (state_decided p 0 pk y l a.start r (λ h. above l (record_dup p pk [] y l h))))
       (λ l h. led_in_range (0 ∷ []) pk y l r ((start_leads pk y r l).1 ((at_first p d pk y l).0 h)).1)
 
   next_known : (pk : Packet) (u : List Packet) (x y : Packet) → Known st p pk u x → Known st p pk (u ++ x ∷ []) y
@@ -166,7 +166,7 @@ module _ (st : Held) (rows : List ℕ) (p : Policy) (a : IsAutomaton st rows 1 p
           → Decided ((has_dup p l ≡ true) × RecordsAt (after p l) x [] y l')
       by_dup r l' l true e =
           decided_by ((λ q. (e, q)), (λ q. q.1))
-          (row_decided (after p l) l x y l' (state_at l e) r (λ h. above l' (rest_record_dup p l x y l' h)))
+          (state_decided (after p l) l x y l' (state_at l e) r (λ h. above l' (rest_record_dup p l x y l' h)))
       by_dup r l' l false e = inr (λ q. false_true (sym e ∙ q.0))
 
       -- whether some member does

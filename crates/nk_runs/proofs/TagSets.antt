@@ -88,36 +88,36 @@ mapped_once f (x ∷ xs) own w = (
   mapped_once f xs (λ y z i j. own y z (inr i) (inr j)) w.1,
 )
 
-module _ (old new : Held) (ss : List (List ℕ)) (rows : List ℕ) (set start : ℕ) (bad : List ℕ → List ℕ → List Out) (ls : List (List (ℕ × ℕ))) (p : Policy) (a : IsAutomaton old rows 1 p) (d : HasDistinct p) (tidy : AreTidy old) (from : slice_index_or ss set [] ≡ 0 ∷ []) (levels : AreLevels old new ss rows set start bad ls false) where
+module _ (old new : Held) (ss : List (List ℕ)) (states : List ℕ) (set start : ℕ) (bad : List ℕ → List ℕ → List Out) (ls : List (List (ℕ × ℕ))) (p : Policy) (a : IsAutomaton old states 1 p) (d : HasDistinct p) (tidy : AreTidy old) (from : slice_index_or ss set [] ≡ 0 ∷ []) (levels : AreLevels old new ss states set start bad ls false) where
   -- a shorter name
   abbrev Start : Packet → Type 0
   Start = IsAmong old start
 
   -- where a set is met, from the start set
-  pub sound : (i : ℕ) (n : Node) → i < length ls → IsPacket old n.1 → InLevel new ss ls i n → At old rows (0 ∷ []) start i n
-  sound i n lt good h = subst (λ s. At old rows s start i n) from (levels.exact.sound i n lt good h)
+  pub sound : (i : ℕ) (n : Node) → i < length ls → IsPacket old n.1 → InLevel new ss ls i n → At old states (0 ∷ []) start i n
+  sound i n lt good h = subst (λ s. At old states s start i n) from (levels.exact.sound i n lt good h)
 
   -- and each level that has it
-  pub complete : (i : ℕ) (n : Node) → At old rows (0 ∷ []) start i n
+  pub complete : (i : ℕ) (n : Node) → At old states (0 ∷ []) start i n
       → (j : ℕ) × (j ≤ i) × (j < length ls) × InLevel new ss ls j n
-  complete i n h = levels.complete refl i n (subst (λ s. At old rows s start i n) (sym from) h)
+  complete i n h = levels.complete refl i n (subst (λ s. At old states s start i n) (sym from) h)
 
   -- the records behind a set that is met after the start
-  records_at : (i : ℕ) (n : Node) → At old rows (0 ∷ []) start (suc i) n
+  records_at : (i : ℕ) (n : Node) → At old states (0 ∷ []) start (suc i) n
       → (pk : Packet) × (u : List Packet) × Start pk × (length u ≡ suc i) × IsLabelSet p pk u n.0
   records_at i n h =
-      let l = met_labels old rows start p a d tidy (suc i) n h in
+      let l = met_labels old states start p a d tidy (suc i) n h in
       let many : length (l.1 ++ n.1 ∷ []) ≡ suc i = omega (arith, l.3, length-append l.1 (n.1 ∷ [])) in
       (l.0, l.1 ++ n.1 ∷ [], l.2, many, l.4)
 
   -- the set of some records is met
   at_records : (i : ℕ) (pk : Packet) (u : List Packet) (s : List ℕ) → Start pk → length u ≡ suc i → IsLabelSet p pk u s
-      → (x : Packet) × At old rows (0 ∷ []) start (suc i) (s, x)
+      → (x : Packet) × At old states (0 ∷ []) start (suc i) (s, x)
   at_records i pk [] s h e l = absurd (omega (arith, e))
   at_records i pk (b ∷ u) s h e l =
       let c = last_of_list b u in
       let many : length c.0 ≡ i = omega (arith, e, ap length c.2, length-append c.0 (c.1 ∷ [])) in
-      (c.1, labels_met old rows start p a d tidy (suc i) (s, c.1) (pk, c.0, h, many, subst (λ v. IsLabelSet p pk v s) c.2 l))
+      (c.1, labels_met old states start p a d tidy (suc i) (s, c.1) (pk, c.0, h, many, subst (λ v. IsLabelSet p pk v s) c.2 l))
 
   -- the records of a set at an odd level
   odd_records : Grows old new → (s j : ℕ) → Named (odd_level ls j) s
@@ -129,7 +129,7 @@ module _ (old new : Held) (ss : List (List ℕ)) (rows : List ℕ) (set start : 
       let n : Node = (members ss s, f.0) in
       let at = sound (2 * j + 1) n lt (packet_back old new f.0 grown f.1) (s, refl, f.2) in
       let e : 2 * j + 1 ≡ suc (2 * j) = omega arith in
-      let r = records_at (2 * j) n (subst (λ i. At old rows (0 ∷ []) start i n) e at) in
+      let r = records_at (2 * j) n (subst (λ i. At old states (0 ∷ []) start i n) e at) in
       (r.0, r.1, r.2, r.3 ∙ sym e, r.4)
 
   -- a set at an odd level is a tag set
@@ -140,7 +140,7 @@ module _ (old new : Held) (ss : List (List ℕ)) (rows : List ℕ) (set start : 
   pub named_known : (i s : ℕ) → Named (slice_index_or ls i []) s → s < length ss
   named_known i s h =
       let each = (levels.pairs i (named_within ls i s h)).each in
-      let q = named_entry (IsPair new ss (length rows)) (slice_index_or ls i []) s h each in
+      let q = named_entry (IsPair new ss (length states)) (slice_index_or ls i []) s h each in
       subst (λ k. k < length ss) q.2 q.1.known
 
   -- the numbers of two sets with the same members
@@ -164,7 +164,7 @@ module _ (old new : Held) (ss : List (List ℕ)) (rows : List ℕ) (set start : 
   module _ (loose : has_leaf is_dup p ≡ false) where
     -- a label set after an odd number of records is at no even level
     not_even : (m : ℕ) (pk : Packet) (u : List Packet) (s : List ℕ) (x : Packet) → length u ≡ 2 * m + 1 → IsLabelSet p pk u s
-        → (k : ℕ) → At old rows (0 ∷ []) start (2 * k) (s, x) → ⊥
+        → (k : ℕ) → At old states (0 ∷ []) start (2 * k) (s, x) → ⊥
     not_even m pk u s x e l zero h =
         let one = some_member s l.0 in
         let is : one.0 ≡ 0 = ⊎_elim (λ z. z) (λ z. absurd z) (in_from_contains (0 ∷ []) one.0 (subst (λ z. Contains z one.0) h.set_is one.1)) in
@@ -173,7 +173,7 @@ module _ (old new : Held) (ss : List (List ℕ)) (rows : List ℕ) (set start : 
         omega (arith, b.0, is)
     not_even m pk u s x e l (suc k) h =
         let f : 2 * suc k ≡ suc (2 * k + 1) = omega arith in
-        let r = records_at (2 * k + 1) (s, x) (subst (λ i. At old rows (0 ∷ []) start i (s, x)) f h) in
+        let r = records_at (2 * k + 1) (s, x) (subst (λ i. At old states (0 ∷ []) start i (s, x)) f h) in
         odd_or_even p d loose s m k pk r.0 u r.1 e l (omega (arith, r.3)) r.4
 
     -- a tag set is at an odd level, with at most so many records
@@ -183,12 +183,12 @@ module _ (old new : Held) (ss : List (List ℕ)) (rows : List ℕ) (set start : 
         let e' : length u ≡ suc (2 * m) = omega (arith, e) in
         let at = at_records (2 * m) pk u s h e' l in
         let c = complete (suc (2 * m)) (s, at.0) at.1 in
-        by at.0 (met_in_range old rows start p a d tidy (suc (2 * m)) (s, at.0) at.1) c.0 c.1 c.2 c.3 (halves c.0)
+        by at.0 (met_in_range old states start p a d tidy (suc (2 * m)) (s, at.0) at.1) c.0 c.1 c.2 c.3 (halves c.0)
       where
         by : (x : Packet) → IsPacket old x → (j : ℕ) → j ≤ suc (2 * m) → j < length ls → InLevel new ss ls j (s, x)
             → ((k : ℕ) × (j ≡ 2 * k)) ⊎ ((k : ℕ) × (j ≡ 2 * k + 1))
             → (i : ℕ) × (k : ℕ) × (k ≤ m) × Named (odd_level ls k) i × (members ss i ≡ s)
-        by x good j le lt level (inl even) = absurd (not_even m pk u s x e l even.0 (subst (λ i. At old rows (0 ∷ []) start i (s, x)) even.1 (sound j (s, x) lt good level)))
+        by x good j le lt level (inl even) = absurd (not_even m pk u s x e l even.0 (subst (λ i. At old states (0 ∷ []) start i (s, x)) even.1 (sound j (s, x) lt good level)))
         by x good j le lt level (inr odd) =
             let named : Named (slice_index_or ls j []) level.0 = under_named new (slice_index_or ls j []) level.0 x level.2 in
             (level.0, odd.0, omega (arith, le, odd.1), subst (λ i. Named (slice_index_or ls i []) level.0) odd.1 named, level.1)

@@ -73,14 +73,14 @@ forgot_grows old new f s r g k = record {
 }
 
 -- and so is a table of them
-pub rows_grow : (old new : Held) (f : ℕ) (rows : List (ℕ × ℕ)) → Grows old new → AreForgotten old f rows → AreForgotten new f rows
-rows_grow old new f rows g are s r e = forgot_grows old new f s r g (are s r e)
+pub entries_grow : (old new : Held) (f : ℕ) (entries : List (ℕ × ℕ)) → Grows old new → AreForgotten old f entries → AreForgotten new f entries
+entries_grow old new f entries g are s r e = forgot_grows old new f s r g (are s r e)
 
--- a table with one more row
-pub rows_put :
+-- a table with one more entry
+pub entries_put :
     (st : Held) (f s r : ℕ) (old new : List (ℕ × ℕ)) → AreForgotten st f old → IsForgotten st f s r
     → ((q : ℕ) → lookup (eqb q) new ≡ cond (eqb s q) (Some r) (lookup (eqb q) old)) → AreForgotten st f new
-rows_put st f s r old new are one put q z e =
+entries_put st f s r old new are one put q z e =
     elim (eqb_tells s q) [
       | inl same ↦
           let is : Some r ≡ Some z = sym (put q ∙ ap (λ b. cond b (Some r) (lookup (eqb q) old)) same.0) ∙ e in

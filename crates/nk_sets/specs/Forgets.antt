@@ -25,6 +25,6 @@ pub record IsForgotten (st : Held) (f s r : ℕ) : Type 0 where
   pub leaves : HasLeaves st r (forgotten st f s)
   pub later : top st s ≤ top st r
 
--- each row of a table leads from a set to it with the field forgotten
+-- each entry of a table leads from a set to it with the field forgotten
 abbrev pub AreForgotten : Held → ℕ → List (ℕ × ℕ) → Type 0
-AreForgotten st f rows = (s r : ℕ) → lookup (eqb s) rows ≡ Some r → IsForgotten st f s r
+AreForgotten st f entries = (s r : ℕ) → lookup (eqb s) entries ≡ Some r → IsForgotten st f s r

@@ -72,12 +72,12 @@ largest_step all best p ps r e = ap (λ z. largest all z ps) e ∙ by (nat_lt (s
 
 -- the same by kept sizes
 pub larger_step :
-    (all : List Span) (rows : List (ℕ × ℕ)) (best : ℕ) (p : ℕ × ℕ) (ps : List (ℕ × ℕ)) (r : ℕ)
-    → ((q : ℕ) → kept rows q ≡ size_of q all)
-    → r ≡ cond (nat_lt (kept rows best) (kept rows p.1)) p.1 best
+    (all : List Span) (counts : List (ℕ × ℕ)) (best : ℕ) (p : ℕ × ℕ) (ps : List (ℕ × ℕ)) (r : ℕ)
+    → ((q : ℕ) → kept counts q ≡ size_of q all)
+    → r ≡ cond (nat_lt (kept counts best) (kept counts p.1)) p.1 best
     → largest all r ps ≡ largest all best (p ∷ ps)
-larger_step all rows best p ps r k e =
-    largest_step all best p ps r (e ∙ ap (λ x. cond (nat_lt x (kept rows p.1)) p.1 best) (k best) ∙ ap (λ x. cond (nat_lt (size_of best all) x) p.1 best) (k p.1))
+larger_step all counts best p ps r k e =
+    largest_step all best p ps r (e ∙ ap (λ x. cond (nat_lt x (kept counts p.1)) p.1 best) (k best) ∙ ap (λ x. cond (nat_lt (size_of best all) x) p.1 best) (k p.1))
 
 -- what holds of each child holds of the largest
 largest_has :

@@ -11,7 +11,7 @@ use Rattle.nk_store.specs.contracts.operation.OperationPartialEq.TheImpl.{ghosts
 use Rattle.nk_store.specs.declared.node.Out.{Out}
 use Rattle.nk_store.specs.Held.{Held, look, Grows}
 use Rattle.nk_store.specs.Operations.{made}
-use Rattle.nk_store.specs.Rows.{IsAnswer, key_eq, AreAnswers, IsKeptLeaf}
+use Rattle.nk_store.specs.KeptAnswers.{IsAnswer, key_eq, AreAnswers, IsKeptLeaf}
 
 -- an answer is one in a store that grew
 pub answer_grown : (old new : Held) (operation : Operation) (a b d : ℕ) → Grows old new →
@@ -32,9 +32,9 @@ answer_grown old new operation a b d g r =
     }
 
 -- and so are all that are kept
-pub answers_grown : (old new : Held) (rows : List (Key × ℕ)) → Grows old new → AreAnswers old rows →
-    AreAnswers new rows
-answers_grown old new rows g m = λ k d e. answer_grown old new k.operation k.left k.right d g (m k d e)
+pub answers_grown : (old new : Held) (answers : List (Key × ℕ)) → Grows old new → AreAnswers old answers →
+    AreAnswers new answers
+answers_grown old new answers g m = λ k d e. answer_grown old new k.operation k.left k.right d g (m k d e)
 
 -- operations that are equal are one
 operation_same : (a b : Operation) → ghosts.eq a b ≡ true → a ≡ b
@@ -117,10 +117,10 @@ answers_after st old new k d (Ok x) m a u e = answers_kept st old new k d m a u
 answers_after st old new k d (Err x) m a u e = subst (AreAnswers st) (sym e) m
 
 -- what is found of a key is its answer
-pub recalled : (st : Held) (rows : List (Key × ℕ)) (k : Key) (o : Option ℕ) → AreAnswers st rows →
-    o ≡ lookup (key_eq k) rows → IfSome o (λ d. IsAnswer st k.operation k.left k.right d)
-recalled st rows k None m e = tt
-recalled st rows k (Some d) m e = m k d (sym e)
+pub recalled : (st : Held) (answers : List (Key × ℕ)) (k : Key) (o : Option ℕ) → AreAnswers st answers →
+    o ≡ lookup (key_eq k) answers → IfSome o (λ d. IsAnswer st k.operation k.left k.right d)
+recalled st answers k None m e = tt
+recalled st answers k (Some d) m e = m k d (sym e)
 
 -- a leaf that is kept is that leaf in a store that grew
 pub leaf_kept : (old new : Held) (outs : List Out) (o : Option ℕ) → Grows old new → IsKeptLeaf old outs o →

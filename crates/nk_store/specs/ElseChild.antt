@@ -34,4 +34,4 @@ or_none None = 0
 or_none (Some n) = n
 
 abbrev pub kept : List (ℕ × ℕ) → ℕ → ℕ
-kept rows c = or_none (lookup (eqb c) rows)
+kept counts c = or_none (lookup (eqb c) counts)

@@ -2,7 +2,7 @@
 ghost use Rattle.std.specs.Prelude.{◌≡◌, [], cond, Some, OnOk, OnErr};
 ghost use Rattle.std.specs.Map.{lookup};
 ghost use Rattle.nk_store.specs.declared.operation.Key.{Key};
-ghost use Rattle.nk_store.specs.Rows.{key_of, key_eq, with_row};
+ghost use Rattle.nk_store.specs.KeptAnswers.{key_of, key_eq, with_answer};
 
 use crate::node::Id;
 use crate::operation::{Key, Operation};
@@ -13,7 +13,7 @@ use std::marker::Model;
 /// Answers, each found by its operation and its diagrams. An operation on one diagram has it twice.
 #[derive(Drop)]
 pub(crate) struct Answers {
-    rows: IndexMap<Key, Id>,
+    answers: IndexMap<Key, Id>,
 }
 
 impl Model for Answers {
@@ -22,7 +22,7 @@ impl Model for Answers {
 
     ghost Value = { List (Key × ℕ) };
 
-    ghost view = { λ s. s.rows.entries };
+    ghost view = { λ s. s.answers.entries };
 }
 
 impl Answers {
@@ -31,7 +31,7 @@ impl Answers {
         ensures { result ≡ [] }
     {
         Answers {
-            rows: IndexMap::new(alloc),
+            answers: IndexMap::new(alloc),
         }
     }
 
@@ -39,7 +39,7 @@ impl Answers {
     pub(crate) fn recall(&self, operation: Operation, a: Id, b: Id) -> Option<Id>
         ensures { result ≡ lookup (key_eq (key_of operation a b)) self.now }
     {
-        self.rows.get(&key(operation, a, b)).copied()
+        self.answers.get(&key(operation, a, b)).copied()
     }
 
     /// Keeps an answer; where memory runs out, all stays as it was.
@@ -50,12 +50,12 @@ impl Answers {
         b: Id,
         d: Id,
     ) -> Result<(), AllocError>
-        ensures rows { OnOk result (self.new ≡ with_row self.old (key_of operation a b) d) }
+        ensures answers { OnOk result (self.new ≡ with_answer self.old (key_of operation a b) d) }
         ensures found { OnOk result ((q : Key) → lookup (key_eq q) self.new
             ≡ cond (key_eq (key_of operation a b) q) (Some d) (lookup (key_eq q) self.old)) }
         ensures err { OnErr result (self.new ≡ self.old) }
     {
-        self.rows.insert(key(operation, a, b), d)?;
+        self.answers.insert(key(operation, a, b), d)?;
         Ok(())
     }
 }

@@ -4,7 +4,7 @@ ghost use Rattle.nk_store.specs.declared.node.Out.{Out};
 ghost use Rattle.nk_store.specs.Nodes.{child_at, is_empty_leaf, Sound};
 ghost use Rattle.nk_store.specs.Leaves.{Strict, Every, Suits, AreOrdered};
 ghost use Rattle.nk_store.specs.Held.{IsId, node_of, look, top, Grows, HasLeaves, AreParts, IsNodeOf, IsStill, IsReduced, AreTidy, Agree, IsCanonical, IsOver, HasFields};
-ghost use Rattle.nk_store.specs.Rows.{IsAnswer, passing};
+ghost use Rattle.nk_store.specs.KeptAnswers.{IsAnswer, passing};
 
 use crate::answers::Answers;
 use crate::node::{Id, Node, Out};
@@ -27,7 +27,7 @@ pub struct Store {
 impl Model for Store {
     ghost use Rattle.nk_store.specs.Held.{Held};
     ghost use Rattle.std.specs.Prelude.{[], ◌∷◌};
-    ghost use Rattle.nk_store.specs.Rows.{AreAnswers, IsKeptLeaf, passing};
+    ghost use Rattle.nk_store.specs.KeptAnswers.{AreAnswers, IsKeptLeaf, passing};
 
     ghost Value = { Held };
 

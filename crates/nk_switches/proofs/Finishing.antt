@@ -1,4 +1,4 @@
--- The tables that are made of the diagrams of tags are those of the tags' rows.
+-- The tables that are made of the diagrams of tags are those of the tags' states.
 use Rattle.std.proofs.Common.{ℕ, zero, suc, ◌<◌, ◌≤◌, ◌↔◌, Option, List, [], length, sym, ap, subst, ◌∙◌}
 use Rattle.std.specs.Prelude.{All}
 use Rattle.nk_field.proofs.Lists.{In, in_mapped}
@@ -24,47 +24,47 @@ use Rattle.nk_switches.proofs.Printing.{state_printable}
 use Rattle.nk_switches.proofs.Tagging.{sends_leads, leads_sends}
 use Rattle.nk_switches.proofs.Trees.{buckets_same}
 
--- the places of a stop's rows
-pub stop_places : (st : Held) (ss : List (List ℕ)) (rows tags : List ℕ) (tag : ℕ) (s : Stop) → IsStop st ss rows tags tag s → HavePlaces ss (length rows) tags s
-stop_places st ss rows tags tag s h k d lt = let a = h k d lt in record { within = a.within; places = a.places }
+-- the places of a stop's states
+pub stop_places : (st : Held) (ss : List (List ℕ)) (states tags : List ℕ) (tag : ℕ) (s : Stop) → IsStop st ss states tags tag s → HavePlaces ss (length states) tags s
+stop_places st ss states tags tag s h k d lt = let a = h k d lt in record { within = a.within; places = a.places }
 
-module _ (first st : Held) (old ss : List (List ℕ)) (rows tags : List ℕ) (tag : ℕ) (g : Grows first st) (grew : SetsGrow old ss) (ids : AreIds first rows)
+module _ (first st : Held) (old ss : List (List ℕ)) (states tags : List ℕ) (tag : ℕ) (g : Grows first st) (grew : SetsGrow old ss) (ids : AreIds first states)
     (known : All (λ s. s < length old) tags) (differ : Differ ss) (ascend : Ascend ss) where
   -- what is known of a tag of a stop
-  of_tag : (s : Stop) (states : SwitchStates) → IsStop first old rows tags tag s → AreStatesAt st ss rows tags s states → (e : TagState) → In states.states e →
-      IsTagAt first old rows tags tag s.switch e.tag
-  of_tag s states stop k e i =
-      members_from_all (IsTagAt first old rows tags tag s.switch) s.tags stop e.tag
-      (subst (λ l. In l e.tag) k.tags_are (in_mapped (λ (x : TagState). x.tag) states.states e i))
+  of_tag : (s : Stop) (tag_states : SwitchStates) → IsStop first old states tags tag s → AreStatesAt st ss states tags s tag_states → (e : TagState) → In tag_states.tag_states e →
+      IsTagAt first old states tags tag s.switch e.tag
+  of_tag s tag_states stop k e i =
+      members_from_all (IsTagAt first old states tags tag s.switch) s.tags stop e.tag
+      (subst (λ l. In l e.tag) k.tags_are (in_mapped (λ (x : TagState). x.tag) tag_states.tag_states e i))
 
-  -- the state of its rows, by the sets of the beginning
-  of_state : (sw : ℕ) (e : TagState) → IsTagState st ss rows tags sw e → IsStateAt st ss rows (members_of old tags e.tag) sw e.diagram
-  of_state sw e k = subst (λ m. IsStateAt st ss rows m sw e.diagram) (members_kept old ss tags e.tag grew known k.within) k.state
+  -- the set state of its states, by the sets of the beginning
+  of_state : (sw : ℕ) (e : TagState) → IsTagState st ss states tags sw e → IsStateAt st ss states (members_of old tags e.tag) sw e.diagram
+  of_state sw e k = subst (λ m. IsStateAt st ss states m sw e.diagram) (members_kept old ss tags e.tag grew known k.within) k.state
 
   -- a stop's diagrams can be printed
-  pub stop_printable : 2 ≤ tag → AreTidy st → (s : Stop) (states : SwitchStates) → IsStop first old rows tags tag s → AreStatesAt st ss rows tags s states → ArePrintableStates st tag states
-  stop_printable past tidy s states stop k =
-      all_from_members (IsPrintableState st tag states.switch) states.states (λ e i.
-      let t = of_tag s states stop k e i in
-      let state = of_state s.switch e (members_from_all (IsTagState st ss rows tags s.switch) states.states k.each e i) in
+  pub stop_printable : 2 ≤ tag → AreTidy st → (s : Stop) (tag_states : SwitchStates) → IsStop first old states tags tag s → AreStatesAt st ss states tags s tag_states → ArePrintableStates st tag tag_states
+  stop_printable past tidy s tag_states stop k =
+      all_from_members (IsPrintableState st tag tag_states.switch) tag_states.tag_states (λ e i.
+      let t = of_tag s tag_states stop k e i in
+      let state = of_state s.switch e (members_from_all (IsTagState st ss states tags s.switch) tag_states.tag_states k.each e i) in
       subst (λ n. IsPrintableState st tag n e) (sym k.switch) (record {
         id = state.id;
-        printable = state_printable st ss rows (members_of old tags e.tag) tag s.switch e.diagram past tidy differ ascend state
-            (stay_grown first st rows (members_of old tags e.tag) g ids t.places tag s.switch t.stay);
+        printable = state_printable st ss states (members_of old tags e.tag) tag s.switch e.diagram past tidy differ ascend state
+            (stay_grown first st states (members_of old tags e.tag) g ids t.places tag s.switch t.stay);
       }))
 
-  -- where rows lead with a tag in the later store
-  leads_back : (members : List ℕ) → All (λ l. l < length rows) members → (pk y : List ℕ) (t : ℕ) → LeadsWith st old rows tags members pk y t ↔ LeadsWith first old rows tags members pk y t
-  leads_back members inside pk y zero = let r = leads_grown first st rows members g ids inside pk y 0 in (r.1, r.0)
+  -- where states lead with a tag in the later store
+  leads_back : (members : List ℕ) → All (λ l. l < length states) members → (pk y : List ℕ) (t : ℕ) → LeadsWith st old states tags members pk y t ↔ LeadsWith first old states tags members pk y t
+  leads_back members inside pk y zero = let r = leads_grown first st states members g ids inside pk y 0 in (r.1, r.0)
   leads_back members inside pk y (suc t) = (
-    λ h. (h.0, h.1, λ l. let r = leads_grown first st rows members g ids inside pk y l in (λ c. let q = (h.2 l).0 c in (q.0, r.1 q.1), λ q. (h.2 l).1 (q.0, r.0 q.1))),
-    λ h. (h.0, h.1, λ l. let r = leads_grown first st rows members g ids inside pk y l in (λ c. let q = (h.2 l).0 c in (q.0, r.0 q.1), λ q. (h.2 l).1 (q.0, r.1 q.1))),
+    λ h. (h.0, h.1, λ l. let r = leads_grown first st states members g ids inside pk y l in (λ c. let q = (h.2 l).0 c in (q.0, r.1 q.1), λ q. (h.2 l).1 (q.0, r.0 q.1))),
+    λ h. (h.0, h.1, λ l. let r = leads_grown first st states members g ids inside pk y l in (λ c. let q = (h.2 l).0 c in (q.0, r.0 q.1), λ q. (h.2 l).1 (q.0, r.1 q.1))),
   )
 
   module _ (table : List (Option ℕ)) (is : IsTagTable (length tags) tags table) where
     -- the tree of a tag
-    tree_is : (sw : ℕ) (x : TagState) (e : TagTree) → IsTagAt first old rows tags tag sw x.tag → IsTagState st ss rows tags sw x → IsTreeBy st table tag sw x e →
-        IsTagTree first old rows tags tag sw e
+    tree_is : (sw : ℕ) (x : TagState) (e : TagTree) → IsTagAt first old states tags tag sw x.tag → IsTagState st ss states tags sw x → IsTreeBy st table tag sw x e →
+        IsTagTree first old states tags tag sw e
     tree_is sw x e at k t = record {
       reduced = subst (λ m. IsReduced e.tree m 1) (declared_same first st g) t.reduced;
       tag_free = t.tag_free;
@@ -72,27 +72,27 @@ module _ (first st : Held) (old ss : List (List ℕ)) (rows tags : List ℕ) (ta
           let q : IsPacket st pk = subst (λ m. InRange m pk) (sym g.maxes) p in
           let state = of_state sw x k in
           let members = members_of old tags x.tag in
-          subst (λ u. AreBuckets first.width tag (λ y n. LeadsWith first old rows tags (members_of old tags u) pk y n) pk (leaf_at e.tree [] pk)) (sym t.tag_is)
-          (subst (λ w. AreBuckets w tag (λ y n. LeadsWith first old rows tags members pk y n) pk (leaf_at e.tree [] pk)) g.width
-          (buckets_same st.width tag (λ y n. SendsBy st table x.diagram pk y n) (λ y n. LeadsWith first old rows tags members pk y n) pk (leaf_at e.tree [] pk)
+          subst (λ u. AreBuckets first.width tag (λ y n. LeadsWith first old states tags (members_of old tags u) pk y n) pk (leaf_at e.tree [] pk)) (sym t.tag_is)
+          (subst (λ w. AreBuckets w tag (λ y n. LeadsWith first old states tags members pk y n) pk (leaf_at e.tree [] pk)) g.width
+          (buckets_same st.width tag (λ y n. SendsBy st table x.diagram pk y n) (λ y n. LeadsWith first old states tags members pk y n) pk (leaf_at e.tree [] pk)
           (λ y n.
           let b = leads_back members at.places pk y n in (
-            λ s. b.0 (sends_leads st old ss rows tags members sw x.diagram table differ ascend grew known (sets_longer old ss grew) is state pk y n q here s),
-            λ l. leads_sends st old ss rows tags members sw x.diagram table differ ascend grew known (sets_longer old ss grew) is state pk y n q here (b.1 l),
+            λ s. b.0 (sends_leads st old ss states tags members sw x.diagram table differ ascend grew known (sets_longer old ss grew) is state pk y n q here s),
+            λ l. leads_sends st old ss states tags members sw x.diagram table differ ascend grew known (sets_longer old ss grew) is state pk y n q here (b.1 l),
           ))
           (t.leaves pk q here)));
     }
 
     -- the table of a switch
-    table_is : (s : Stop) (states : SwitchStates) (t : Table) → IsStop first old rows tags tag s → AreStatesAt st ss rows tags s states → IsTableBy st table tag states t →
-        IsTableAt first old rows tags tag s t
-    table_is s states t stop k by = record {
+    table_is : (s : Stop) (tag_states : SwitchStates) (t : Table) → IsStop first old states tags tag s → AreStatesAt st ss states tags s tag_states → IsTableBy st table tag tag_states t →
+        IsTableAt first old states tags tag s t
+    table_is s tag_states t stop k by = record {
       switch = by.switch ∙ k.switch;
       trees = by.trees;
-      tags_are = matched_maps (IsTreeBy st table tag states.switch) (λ (x : TagState). x.tag) (λ (e : TagTree). e.tag) (λ x e m. m.tag_is) states.states by.trees by.each ∙ k.tags_are;
-      each = all_from_members (IsTagTree first old rows tags tag s.switch) by.trees (λ e i.
-          let x = of_second (IsTreeBy st table tag states.switch) states.states by.trees e by.each i in
-          tree_is s.switch x.0 e (of_tag s states stop k x.0 x.1) (members_from_all (IsTagState st ss rows tags s.switch) states.states k.each x.0 x.1)
+      tags_are = matched_maps (IsTreeBy st table tag tag_states.switch) (λ (x : TagState). x.tag) (λ (e : TagTree). e.tag) (λ x e m. m.tag_is) tag_states.tag_states by.trees by.each ∙ k.tags_are;
+      each = all_from_members (IsTagTree first old states tags tag s.switch) by.trees (λ e i.
+          let x = of_second (IsTreeBy st table tag tag_states.switch) tag_states.tag_states by.trees e by.each i in
+          tree_is s.switch x.0 e (of_tag s tag_states stop k x.0 x.1) (members_from_all (IsTagState st ss states tags s.switch) tag_states.tag_states k.each x.0 x.1)
           (subst (λ n. IsTreeBy st table tag n x.0 e) k.switch x.2));
       groups = by.groups ∙ ap (λ m. groups_of (rows_of_trees m tag by.trees)) (declared_same first st g);
       rows = by.rows ∙ ap (λ m. rows_after [] (rows_of_trees m tag by.trees)) (declared_same first st g);
@@ -100,20 +100,20 @@ module _ (first st : Held) (old ss : List (List ℕ)) (rows tags : List ℕ) (ta
 
     -- a stop with its diagrams
     abbrev Both : Stop → SwitchStates → Type 0
-    Both s x = IsStop first old rows tags tag s × AreStatesAt st ss rows tags s x
+    Both s x = IsStop first old states tags tag s × AreStatesAt st ss states tags s x
 
     -- the tables of all switches
-    pub tables_are : (stops : List Stop) (all : List SwitchStates) (ts : List Table) → All (IsStop first old rows tags tag) stops →
-        Matched (AreStatesAt st ss rows tags) stops all → Matched (IsTableBy st table tag) all ts → Matched (IsTableAt first old rows tags tag) stops ts
+    pub tables_are : (stops : List Stop) (all : List SwitchStates) (ts : List Table) → All (IsStop first old states tags tag) stops →
+        Matched (AreStatesAt st ss states tags) stops all → Matched (IsTableBy st table tag) all ts → Matched (IsTableAt first old states tags tag) stops ts
     tables_are stops all ts each m n =
-        matched_through Both (IsTableBy st table tag) (IsTableAt first old rows tags tag) (λ s x t k b. table_is s x t k.0 k.1 b) stops all ts
-        (matched_with (IsStop first old rows tags tag) (AreStatesAt st ss rows tags) Both (λ s x a k. (a, k)) stops all
-        (λ s i. members_from_all (IsStop first old rows tags tag) stops each s i) m) n
+        matched_through Both (IsTableBy st table tag) (IsTableAt first old states tags tag) (λ s x t k b. table_is s x t k.0 k.1 b) stops all ts
+        (matched_with (IsStop first old states tags tag) (AreStatesAt st ss states tags) Both (λ s x a k. (a, k)) stops all
+        (λ s i. members_from_all (IsStop first old states tags tag) stops each s i) m) n
 
   -- all diagrams can be printed
-  pub all_printable : 2 ≤ tag → AreTidy st → (stops : List Stop) (all : List SwitchStates) → All (IsStop first old rows tags tag) stops →
-      Matched (AreStatesAt st ss rows tags) stops all → All (ArePrintableStates st tag) all
+  pub all_printable : 2 ≤ tag → AreTidy st → (stops : List Stop) (all : List SwitchStates) → All (IsStop first old states tags tag) stops →
+      Matched (AreStatesAt st ss states tags) stops all → All (ArePrintableStates st tag) all
   all_printable past tidy stops all each m =
       all_from_members (ArePrintableStates st tag) all (λ x i.
-      let s = of_second (AreStatesAt st ss rows tags) stops all x m i in
-      stop_printable past tidy s.0 x (members_from_all (IsStop first old rows tags tag) stops each s.0 s.1) s.2)
+      let s = of_second (AreStatesAt st ss states tags) stops all x m i in
+      stop_printable past tidy s.0 x (members_from_all (IsStop first old states tags tag) stops each s.0 s.1) s.2)

@@ -1,4 +1,4 @@
--- What rows and states do stays while the store and the sets grow.
+-- What states do, alone and together, stays while the store and the sets grow.
 use Rattle.std.proofs.Common.{◌≡◌, ℕ, zero, suc, ◌+◌, ◌<◌, ◌≤◌, ◌↔◌, List, [], ◌++◌, length, length-append, append_assoc, refl, sym, ◌∙◌, ap, subst, arith, get_or, set}
 use Rattle.std.specs.Prelude.{All, map, take}
 use Rattle.std.specs.List.{Contains}
@@ -9,7 +9,7 @@ use Rattle.nk_store.specs.Held.{Held, IsId, IsPacket, Grows}
 use Rattle.nk_algebra.specs.Unions.{AreIds}
 use Rattle.nk_determ.specs.Exact.{IsExact, Sends}
 use Rattle.nk_determ.specs.Sets.{SetsGrow}
-use Rattle.nk_determ.specs.States.{RowLeads}
+use Rattle.nk_determ.specs.States.{StateLeads}
 use Rattle.nk_switches.specs.declared.stop.TagState.{TagState}
 use Rattle.nk_switches.specs.States.{IsStateAt, StayAt}
 use Rattle.nk_switches.specs.Tagged.{set_of, members_of}
@@ -48,7 +48,7 @@ pub tag_set_kept : (ss more : List (List ℕ)) (tags : List ℕ) (t : ℕ) → S
     set_of more tags t ≡ set_of ss tags t
 tag_set_kept ss more tags t g known lt = set_kept ss more (get_or tags t 0) g (known t 0 lt)
 
--- and its rows
+-- and its states
 pub members_kept : (ss more : List (List ℕ)) (tags : List ℕ) (t : ℕ) → SetsGrow ss more → All (λ s. s < length ss) tags → t ≤ length tags →
     members_of more tags t ≡ members_of ss tags t
 members_kept ss more tags zero g known lt = refl
@@ -58,17 +58,17 @@ members_kept ss more tags (suc t) g known lt = ap (λ s. map (λ l. l + 1) s) (t
 pub known_kept : (ss more : List (List ℕ)) (tags : List ℕ) → SetsGrow ss more → All (λ s. s < length ss) tags → All (λ s. s < length more) tags
 known_kept ss more tags g known k d lt = let a = known k d lt in let b = sets_longer ss more g in omega (arith, a, b)
 
--- places of rows stay
+-- places of states stay
 pub places_kept : (ss more : List (List ℕ)) (tags : List ℕ) (count t : ℕ) → SetsGrow ss more → All (λ s. s < length ss) tags → t ≤ length tags →
     All (λ l. l < count) (members_of ss tags t) → All (λ l. l < count) (members_of more tags t)
 places_kept ss more tags count t g known lt h = subst (All (λ l. l < count)) (sym (members_kept ss more tags t g known lt)) h
 
-module _ (st new : Held) (rows members : List ℕ) (g : Grows st new) (ids : AreIds st rows) (inside : All (λ l. l < length rows) members) where
-  -- rows lead where they led
-  pub leads_grown : (pk y : List ℕ) (t : ℕ) → RowLeads st rows members pk y t ↔ RowLeads new rows members pk y t
+module _ (st new : Held) (states members : List ℕ) (g : Grows st new) (ids : AreIds st states) (inside : All (λ l. l < length states) members) where
+  -- states lead where they led
+  pub leads_grown : (pk y : List ℕ) (t : ℕ) → StateLeads st states members pk y t ↔ StateLeads new states members pk y t
   leads_grown pk y t = (
-    λ s. (s.0, s.1, (sends_grown st new (get_or rows s.0 0) pk y t g (ids s.0 (all_member (λ l. l < length rows) members s.0 inside s.1))).0 s.2),
-    λ s. (s.0, s.1, (sends_grown st new (get_or rows s.0 0) pk y t g (ids s.0 (all_member (λ l. l < length rows) members s.0 inside s.1))).1 s.2),
+    λ s. (s.0, s.1, (sends_grown st new (get_or states s.0 0) pk y t g (ids s.0 (all_member (λ l. l < length states) members s.0 inside s.1))).0 s.2),
+    λ s. (s.0, s.1, (sends_grown st new (get_or states s.0 0) pk y t g (ids s.0 (all_member (λ l. l < length states) members s.0 inside s.1))).1 s.2),
   )
 
   -- a packet of the later store is one of the earlier
@@ -76,7 +76,7 @@ module _ (st new : Held) (rows members : List ℕ) (g : Grows st new) (ids : Are
   before pk p = subst (λ m. InRange m pk) g.maxes p
 
   -- a state stays the state
-  pub state_grown : (ss more : List (List ℕ)) (sw d : ℕ) → SetsGrow ss more → IsStateAt st ss rows members sw d → IsStateAt new more rows members sw d
+  pub state_grown : (ss more : List (List ℕ)) (sw d : ℕ) → SetsGrow ss more → IsStateAt st ss states members sw d → IsStateAt new more states members sw d
   state_grown ss more sw d s k = record {
     id = g.ids d k.id;
     exact = λ pk p. subst (Every (λ o. IsExact pk o.act)) (sym (g.leaves d pk k.id)) (k.exact pk (before pk p));
@@ -102,8 +102,8 @@ module _ (st new : Held) (rows members : List ℕ) (g : Grows st new) (ids : Are
         (i.0, (sends_grown st new d pk y (i.0 + 1) g k.id).0 i.1);
   }
 
-  -- rows that stay at the switch do so later
-  pub stay_grown : (tag sw : ℕ) → StayAt st tag sw rows members → StayAt new tag sw rows members
+  -- states that stay at the switch do so later
+  pub stay_grown : (tag sw : ℕ) → StayAt st tag sw states members → StayAt new tag sw states members
   stay_grown tag sw k = record {
     keeps = λ pk y t p here r. k.keeps pk y t (before pk p) here ((leads_grown pk y t).1 r);
     free = λ pk y t n p here le r.

@@ -1,4 +1,4 @@
--- A state of rows that stay at the switch can be printed there.
+-- A set state of states that stay at the switch can be printed there.
 use Rattle.std.proofs.Common.{◌≡◌, ◌≢◌, ℕ, zero, suc, ◌+◌, ◌<◌, ◌≤◌, List, [], ◌∷◌, length, refl, sym, ap, subst, ◌∙◌, arith, get_or, get_or-set_other}
 use Rattle.std.specs.Prelude.{slice_index, slice_set, Contains}
 use Rattle.std.proofs.lemmas.List.{set-set, set-get_or}
@@ -12,7 +12,7 @@ use Rattle.nk_store.proofs.Same.{set_in_range}
 use Rattle.nk_algebra.proofs.Members.{Has, contains_has, has_contains, every_has, strict_same}
 use Rattle.nk_determ.specs.Exact.{IsExact, Sends}
 use Rattle.nk_determ.specs.Sets.{Differ, Ascend}
-use Rattle.nk_determ.specs.States.{RowLeads, IsLedTo}
+use Rattle.nk_determ.specs.States.{StateLeads, IsLedTo}
 use Rattle.nk_determ.proofs.Laws.{exact_one}
 use Rattle.nk_extract.specs.RowsOf.{IsPrintable}
 use Rattle.nk_switches.specs.States.{IsStateAt, StayAt}
@@ -35,10 +35,10 @@ one_set ss i j differ ascend a b f g =
 set_back : (pk : List ℕ) (f v : ℕ) → slice_set (slice_set pk f v) f (slice_index pk f) ≡ pk
 set_back pk f v = set-set pk f v (slice_index pk f) ∙ set-get_or pk f 0
 
-module _ (st : Held) (ss : List (List ℕ)) (rows members : List ℕ) (tag sw d : ℕ) (past : 2 ≤ tag) (tidy : AreTidy st) (differ : Differ ss) (ascend : Ascend ss)
-    (state : IsStateAt st ss rows members sw d) (stay : StayAt st tag sw rows members) where
-  -- at a packet of the switch some row leads where the diagram sends
-  leads_there : (pk y : List ℕ) (t : ℕ) → IsPacket st pk → slice_index pk 0 ≡ sw → Sends st d pk y t → (l : ℕ) × RowLeads st rows members pk y l
+module _ (st : Held) (ss : List (List ℕ)) (states members : List ℕ) (tag sw d : ℕ) (past : 2 ≤ tag) (tidy : AreTidy st) (differ : Differ ss) (ascend : Ascend ss)
+    (state : IsStateAt st ss states members sw d) (stay : StayAt st tag sw states members) where
+  -- at a packet of the switch some state leads where the diagram sends
+  leads_there : (pk y : List ℕ) (t : ℕ) → IsPacket st pk → slice_index pk 0 ≡ sw → Sends st d pk y t → (l : ℕ) × StateLeads st states members pk y l
   leads_there pk y zero p here s = (0, (state.ends pk y p here).0 s)
   leads_there pk y (suc i) p here s =
       let next : suc i ≡ i + 1 = omega arith in
@@ -54,14 +54,14 @@ module _ (st : Held) (ss : List (List ℕ)) (rows members : List ℕ) (tag sw d 
   here_too : (pk : List ℕ) (v : ℕ) → slice_index pk 0 ≡ sw → slice_index (slice_set pk tag v) 0 ≡ sw
   here_too pk v here = let ne : 0 ≢ tag = λ e. omega (arith, past, e) in get_or-set_other pk tag 0 v 0 ne ∙ here
 
-  -- rows lead alike from packets that differ in the tag alone
+  -- states lead alike from packets that differ in the tag alone
   back : (pk y : List ℕ) (l v : ℕ) → IsPacket st pk → slice_index pk 0 ≡ sw → v ≤ slice_index st.maxes tag → slice_index y tag ≡ slice_index pk tag →
-      RowLeads st rows members (slice_set pk tag v) (slice_set y tag v) l → RowLeads st rows members pk y l
+      StateLeads st states members (slice_set pk tag v) (slice_set y tag v) l → StateLeads st states members pk y l
   back pk y l v p here le same r =
       let again = stay.free (slice_set pk tag v) (slice_set y tag v) l (slice_index pk tag) (set_in_range st.maxes pk tag v p le) (here_too pk v here) (p.1 tag) r in
-      subst (λ x. RowLeads st rows members pk x l)
+      subst (λ x. StateLeads st states members pk x l)
       (ap (λ n. slice_set (slice_set y tag v) tag n) (sym same) ∙ set_back y tag v)
-      (subst (λ x. RowLeads st rows members x (slice_set (slice_set y tag v) tag (slice_index pk tag)) l) (set_back pk tag v) again)
+      (subst (λ x. StateLeads st states members x (slice_set (slice_set y tag v) tag (slice_index pk tag)) l) (set_back pk tag v) again)
 
   -- and so does the diagram
   stays : (pk y : List ℕ) (t v : ℕ) → IsPacket st pk → slice_index pk 0 ≡ sw → v ≤ slice_index st.maxes tag → Sends st d pk y t →
@@ -74,11 +74,11 @@ module _ (st : Held) (ss : List (List ℕ)) (rows members : List ℕ) (tag sw d 
       let s' : Sends st d pk y (i + 1) = subst (λ t. Sends st d pk y t) next s in
       let there = set_in_range st.maxes pk tag v p le in
       let same = (keeps pk y (suc i) p here s).1 in
-      let l : IsLedTo ss st rows members pk y i = state.leads pk y i p here s' in
+      let l : IsLedTo ss st states members pk y i = state.leads pk y i p here s' in
       let m = some_member (get_or ss i []) l.some in
       let q = (l.every m.0).0 m.1 in
       let j = state.led (slice_set pk tag v) (slice_set y tag v) m.0 there (here_too pk v here) q.0 (stay.free pk y m.0 v p here le q.1) in
-      let k : IsLedTo ss st rows members (slice_set pk tag v) (slice_set y tag v) j.0 = state.leads (slice_set pk tag v) (slice_set y tag v) j.0 there (here_too pk v here) j.1 in
+      let k : IsLedTo ss st states members (slice_set pk tag v) (slice_set y tag v) j.0 = state.leads (slice_set pk tag v) (slice_set y tag v) j.0 there (here_too pk v here) j.1 in
       let one : j.0 ≡ i =
       one_set ss j.0 i differ ascend k.within l.within
       (λ x c. let r = (k.every x).0 c in (l.every x).1 (r.0, back pk y x v p here le same r.1))

@@ -16,9 +16,9 @@ use Rattle.nk_switches.specs.Made.{HasPlaces, HavePlaces, IsTagState, AreStatesA
 use Rattle.nk_switches.proofs.Growing.{members_kept, places_kept, state_grown}
 use Rattle.nk_switches.proofs.Matching.{matched_push, matched_weaker}
 
--- rows of an earlier store are rows of a later one
-pub ids_kept : (st new : Held) (rows : List ℕ) → Grows st new → AreIds st rows → AreIds new rows
-ids_kept st new rows g ids k lt = g.ids (get_or rows k 0) (ids k lt)
+-- states of an earlier store are states of a later one
+pub ids_kept : (st new : Held) (states : List ℕ) → Grows st new → AreIds st states → AreIds new states
+ids_kept st new states g ids k lt = g.ids (get_or states k 0) (ids k lt)
 
 -- places stay
 pub has_places : (ss more : List (List ℕ)) (tags : List ℕ) (count t : ℕ) → SetsGrow ss more → All (λ s. s < length ss) tags → HasPlaces ss count tags t → HasPlaces more count tags t
@@ -29,60 +29,60 @@ pub have_places : (ss more : List (List ℕ)) (tags : List ℕ) (count : ℕ) (s
 have_places ss more tags count s g known h k d lt = has_places ss more tags count (get_or s.tags k d) g known (h k d lt)
 
 -- a tag's diagram is one in a later store
-pub tag_state_grown : (st new : Held) (ss more : List (List ℕ)) (rows tags : List ℕ) (sw : ℕ) (e : TagState) → Grows st new → SetsGrow ss more → AreIds st rows →
-    All (λ s. s < length ss) tags → IsTagState st ss rows tags sw e → IsTagState new more rows tags sw e
-tag_state_grown st new ss more rows tags sw e g s ids known k = record {
+pub tag_state_grown : (st new : Held) (ss more : List (List ℕ)) (states tags : List ℕ) (sw : ℕ) (e : TagState) → Grows st new → SetsGrow ss more → AreIds st states →
+    All (λ s. s < length ss) tags → IsTagState st ss states tags sw e → IsTagState new more states tags sw e
+tag_state_grown st new ss more states tags sw e g s ids known k = record {
   within = k.within;
-  places = places_kept ss more tags (length rows) e.tag s known k.within k.places;
+  places = places_kept ss more tags (length states) e.tag s known k.within k.places;
   state =
-      subst (λ m. IsStateAt new more rows m sw e.diagram) (sym (members_kept ss more tags e.tag s known k.within))
-      (state_grown st new rows (members_of ss tags e.tag) g ids k.places ss more sw e.diagram s k.state);
+      subst (λ m. IsStateAt new more states m sw e.diagram) (sym (members_kept ss more tags e.tag s known k.within))
+      (state_grown st new states (members_of ss tags e.tag) g ids k.places ss more sw e.diagram s k.state);
 }
 
 -- the diagrams of some tags
-pub record AreSoFar (st : Held) (ss : List (List ℕ)) (rows tags : List ℕ) (sw : ℕ) (ts : List ℕ) (states : List TagState) : Type 0 where
-  pub tags_are : map (λ (e : TagState). e.tag) states ≡ ts
-  pub each : All (IsTagState st ss rows tags sw) states
+pub record AreSoFar (st : Held) (ss : List (List ℕ)) (states tags : List ℕ) (sw : ℕ) (ts : List ℕ) (tag_states : List TagState) : Type 0 where
+  pub tags_are : map (λ (e : TagState). e.tag) tag_states ≡ ts
+  pub each : All (IsTagState st ss states tags sw) tag_states
 
 -- one more
-pub states_more : (st new : Held) (ss more : List (List ℕ)) (rows tags : List ℕ) (sw : ℕ) (ts : List ℕ) (i t d : ℕ) (states longer : List TagState) →
-    Grows st new → SetsGrow ss more → AreIds st rows → All (λ s. s < length ss) tags → i < length ts → t ≡ get_or ts i t →
-    longer ≡ states ++ (record { tag = t; diagram = d }) ∷ [] → HasPlaces ss (length rows) tags t → IsStateAt new more rows (members_of ss tags t) sw d →
-    AreSoFar st ss rows tags sw (take i ts) states → AreSoFar new more rows tags sw (take (i + 1) ts) longer
-states_more st new ss more rows tags sw ts i t d states longer g s ids known lt at is has state k = record {
+pub states_more : (st new : Held) (ss more : List (List ℕ)) (states tags : List ℕ) (sw : ℕ) (ts : List ℕ) (i t d : ℕ) (tag_states longer : List TagState) →
+    Grows st new → SetsGrow ss more → AreIds st states → All (λ s. s < length ss) tags → i < length ts → t ≡ get_or ts i t →
+    longer ≡ tag_states ++ (record { tag = t; diagram = d }) ∷ [] → HasPlaces ss (length states) tags t → IsStateAt new more states (members_of ss tags t) sw d →
+    AreSoFar st ss states tags sw (take i ts) tag_states → AreSoFar new more states tags sw (take (i + 1) ts) longer
+states_more st new ss more states tags sw ts i t d tag_states longer g s ids known lt at is has state k = record {
   tags_are =
       ap (λ l. map (λ (e : TagState). e.tag) l) is
-      ∙ map-append (λ (e : TagState). e.tag) states (record { tag = t; diagram = d } ∷ [])
+      ∙ map-append (λ (e : TagState). e.tag) tag_states (record { tag = t; diagram = d } ∷ [])
       ∙ ap (λ l. l ++ t ∷ []) k.tags_are
       ∙ ap (λ n. take i ts ++ n ∷ []) at
       ∙ sym (take_more ts i t lt);
   each =
-      subst (All (IsTagState new more rows tags sw)) (sym is)
-      (All-push (IsTagState new more rows tags sw) states (record { tag = t; diagram = d })
-      (λ j e less. tag_state_grown st new ss more rows tags sw (get_or states j e) g s ids known (k.each j e less))
+      subst (All (IsTagState new more states tags sw)) (sym is)
+      (All-push (IsTagState new more states tags sw) tag_states (record { tag = t; diagram = d })
+      (λ j e less. tag_state_grown st new ss more states tags sw (get_or tag_states j e) g s ids known (k.each j e less))
       (record {
         within = has.within;
-        places = places_kept ss more tags (length rows) t s known has.within has.places;
-        state = subst (λ m. IsStateAt new more rows m sw d) (sym (members_kept ss more tags t s known has.within)) state;
+        places = places_kept ss more tags (length states) t s known has.within has.places;
+        state = subst (λ m. IsStateAt new more states m sw d) (sym (members_kept ss more tags t s known has.within)) state;
       }));
 }
 
 -- the diagrams of a switch in a later store
-pub states_grown : (st new : Held) (ss more : List (List ℕ)) (rows tags : List ℕ) (s : Stop) (states : SwitchStates) → Grows st new → SetsGrow ss more → AreIds st rows →
-    All (λ s. s < length ss) tags → AreStatesAt st ss rows tags s states → AreStatesAt new more rows tags s states
-states_grown st new ss more rows tags s states g grew ids known k = record {
+pub states_grown : (st new : Held) (ss more : List (List ℕ)) (states tags : List ℕ) (s : Stop) (tag_states : SwitchStates) → Grows st new → SetsGrow ss more → AreIds st states →
+    All (λ s. s < length ss) tags → AreStatesAt st ss states tags s tag_states → AreStatesAt new more states tags s tag_states
+states_grown st new ss more states tags s tag_states g grew ids known k = record {
   switch = k.switch;
   tags_are = k.tags_are;
-  each = λ j e less. tag_state_grown st new ss more rows tags s.switch (get_or states.states j e) g grew ids known (k.each j e less);
+  each = λ j e less. tag_state_grown st new ss more states tags s.switch (get_or tag_states.tag_states j e) g grew ids known (k.each j e less);
 }
 
 -- one more switch
-pub all_more : (st new : Held) (ss more : List (List ℕ)) (rows tags : List ℕ) (stops : List Stop) (i : ℕ) (s : Stop) (states : SwitchStates) (all longer : List SwitchStates) →
-    Grows st new → SetsGrow ss more → AreIds st rows → All (λ s. s < length ss) tags → i < length stops → s ≡ get_or stops i s → longer ≡ all ++ states ∷ [] →
-    AreStatesAt new more rows tags s states → Matched (AreStatesAt st ss rows tags) (take i stops) all → Matched (AreStatesAt new more rows tags) (take (i + 1) stops) longer
-all_more st new ss more rows tags stops i s states all longer g grew ids known lt at is one m =
-    subst (λ l. Matched (AreStatesAt new more rows tags) l longer) (ap (λ x. take i stops ++ x ∷ []) at ∙ sym (take_more stops i s lt))
-    (subst (Matched (AreStatesAt new more rows tags) (take i stops ++ s ∷ [])) (sym is)
-    (matched_push (AreStatesAt new more rows tags) (take i stops) all s states
-    (matched_weaker (AreStatesAt st ss rows tags) (AreStatesAt new more rows tags) (λ x y k. states_grown st new ss more rows tags x y g grew ids known k) (take i stops) all m)
+pub all_more : (st new : Held) (ss more : List (List ℕ)) (states tags : List ℕ) (stops : List Stop) (i : ℕ) (s : Stop) (tag_states : SwitchStates) (all longer : List SwitchStates) →
+    Grows st new → SetsGrow ss more → AreIds st states → All (λ s. s < length ss) tags → i < length stops → s ≡ get_or stops i s → longer ≡ all ++ tag_states ∷ [] →
+    AreStatesAt new more states tags s tag_states → Matched (AreStatesAt st ss states tags) (take i stops) all → Matched (AreStatesAt new more states tags) (take (i + 1) stops) longer
+all_more st new ss more states tags stops i s tag_states all longer g grew ids known lt at is one m =
+    subst (λ l. Matched (AreStatesAt new more states tags) l longer) (ap (λ x. take i stops ++ x ∷ []) at ∙ sym (take_more stops i s lt))
+    (subst (Matched (AreStatesAt new more states tags) (take i stops ++ s ∷ [])) (sym is)
+    (matched_push (AreStatesAt new more states tags) (take i stops) all s tag_states
+    (matched_weaker (AreStatesAt st ss states tags) (AreStatesAt new more states tags) (λ x y k. states_grown st new ss more states tags x y g grew ids known k) (take i stops) all m)
     one))

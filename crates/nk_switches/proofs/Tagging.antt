@@ -60,30 +60,30 @@ table_more sets i tags table len known once lt k = record {
         (λ j. inr (j.0, omega (arith, j.1), j.2, j.3))
         (k.only u t (sym (get_or-set_other table (get_or tags i 0 + 1) u (Some (i + 1)) None ne) ∙ e))
 
-module _ (st : Held) (first ss : List (List ℕ)) (rows tags members : List ℕ) (sw d : ℕ) (table : List (Option ℕ)) (differ : Differ ss) (ascend : Ascend ss)
+module _ (st : Held) (first ss : List (List ℕ)) (states tags members : List ℕ) (sw d : ℕ) (table : List (Option ℕ)) (differ : Differ ss) (ascend : Ascend ss)
     (grew : SetsGrow first ss) (known : All (λ s. s < length first) tags) (more : length first ≤ length ss)
-    (is : IsTagTable (length tags) tags table) (state : IsStateAt st ss rows members sw d) where
+    (is : IsTagTable (length tags) tags table) (state : IsStateAt st ss states members sw d) where
   -- a tag's set is the one of the beginning
   same_set : (i : ℕ) → i < length tags → get_or ss (get_or tags i 0) [] ≡ set_of first tags i
   same_set i lt = tag_set_kept first ss tags i grew known lt
 
-  -- where the table sends is where the rows lead with a tag
-  pub sends_leads : (pk y : List ℕ) (t : ℕ) → IsPacket st pk → slice_index pk 0 ≡ sw → SendsBy st table d pk y t → LeadsWith st first rows tags members pk y t
+  -- where the table sends is where the states lead with a tag
+  pub sends_leads : (pk y : List ℕ) (t : ℕ) → IsPacket st pk → slice_index pk 0 ≡ sw → SendsBy st table d pk y t → LeadsWith st first states tags members pk y t
   sends_leads pk y t p here s =
       ⊎_elim
-      (λ z. subst (λ n. LeadsWith st first rows tags members pk y n) (sym z.1) ((state.ends pk y p here).0 (subst (λ u. Sends st d pk y u) z.0 s.1)))
+      (λ z. subst (λ n. LeadsWith st first states tags members pk y n) (sym z.1) ((state.ends pk y p here).0 (subst (λ u. Sends st d pk y u) z.0 s.1)))
       (λ i.
       let l = state.leads pk y (get_or tags i.0 0) p here (subst (λ u. Sends st d pk y u) i.2 s.1) in
       let same = same_set i.0 i.1 in
       let next : suc i.0 ≡ t = let e = i.3 in omega (arith, e) in
-      subst (λ n. LeadsWith st first rows tags members pk y n) next (
+      subst (λ n. LeadsWith st first states tags members pk y n) next (
         i.1,
         (λ e. l.some (same ∙ e)),
         λ m. (λ c. (l.every m).0 (subst (λ x. Contains x m) (sym same) c), λ q. subst (λ x. Contains x m) same ((l.every m).1 q)),
       ))
       (is.only s.0 t s.2)
 
-  pub leads_sends : (pk y : List ℕ) (t : ℕ) → IsPacket st pk → slice_index pk 0 ≡ sw → LeadsWith st first rows tags members pk y t → SendsBy st table d pk y t
+  pub leads_sends : (pk y : List ℕ) (t : ℕ) → IsPacket st pk → slice_index pk 0 ≡ sw → LeadsWith st first states tags members pk y t → SendsBy st table d pk y t
   leads_sends pk y zero p here h = (0, (state.ends pk y p here).1 h, is.zero_is)
   leads_sends pk y (suc t) p here h =
       let same = same_set t h.0 in

@@ -121,15 +121,15 @@ module _ (st cur : Held) (table : List (Option ℕ)) (tag sw : ℕ) (g : Grows s
       )
 
   -- one more tag's rows
-  pub rows_more : (states : List TagState) (i : ℕ) (s : TagState) (all rows more : List Plain) → i < length states → s ≡ get_or states i s → more ≡ all ++ rows →
+  pub rows_more : (tag_states : List TagState) (i : ℕ) (s : TagState) (all rows more : List Plain) → i < length tag_states → s ≡ get_or tag_states i s → more ≡ all ++ rows →
       IsPrintableState st tag sw s → ((e : TagTree) × IsTreeBy cur table tag sw s e × (rows ≡ rows_for (take cur.width cur.maxes) tag e.tag e.tree)) →
-      AreRowsBy st table tag sw (take i states) all → AreRowsBy st table tag sw (take (i + 1) states) more
-  rows_more states i s all rows more lt at is k one so_far =
+      AreRowsBy st table tag sw (take i tag_states) all → AreRowsBy st table tag sw (take (i + 1) tag_states) more
+  rows_more tag_states i s all rows more lt at is k one so_far =
       let e = one.0 in
       let trees = so_far.0 in (
         trees ++ e ∷ [],
-        subst (λ l. Matched (IsTreeBy st table tag sw) l (trees ++ e ∷ [])) (ap (λ x. take i states ++ x ∷ []) at ∙ sym (take_more states i s lt))
-            (matched_push (IsTreeBy st table tag sw) (take i states) trees s e so_far.1 (tree_back s e k one.1)),
+        subst (λ l. Matched (IsTreeBy st table tag sw) l (trees ++ e ∷ [])) (ap (λ x. take i tag_states ++ x ∷ []) at ∙ sym (take_more tag_states i s lt))
+            (matched_push (IsTreeBy st table tag sw) (take i tag_states) trees s e so_far.1 (tree_back s e k one.1)),
         is ∙ ap (λ l. l ++ rows) so_far.2 ∙ ap (λ l. rows_of_trees (take st.width st.maxes) tag trees ++ l) (one.2 ∙ ap (λ m. rows_for m tag e.tag e.tree) (declared_same st cur g) ∙ sym (append-nil (rows_for (take st.width st.maxes) tag e.tag e.tree)))
             ∙ sym (flat_map-append (λ (x : TagTree). rows_for (take st.width st.maxes) tag x.tag x.tree) trees (e ∷ [])),
       )
@@ -140,14 +140,14 @@ table_back st cur table tag s t g all k = record {
   switch = k.switch;
   trees = k.trees;
   each = matched_with (IsPrintableState st tag s.switch) (IsTreeBy cur table tag s.switch) (IsTreeBy st table tag s.switch)
-      (λ x e p m. tree_back st cur table tag s.switch g x e p m) s.states k.trees (λ x i. members_from_all (IsPrintableState st tag s.switch) s.states all x i) k.each;
+      (λ x e p m. tree_back st cur table tag s.switch g x e p m) s.tag_states k.trees (λ x i. members_from_all (IsPrintableState st tag s.switch) s.tag_states all x i) k.each;
   groups = k.groups ∙ ap (λ m. groups_of (rows_of_trees m tag k.trees)) (declared_same st cur g);
   rows = k.rows ∙ ap (λ m. rows_after [] (rows_of_trees m tag k.trees)) (declared_same st cur g);
 }
 
 -- states that can be printed can be printed later
 pub printables_grown : (st cur : Held) (tag : ℕ) (s : SwitchStates) → Grows st cur → ArePrintableStates st tag s → ArePrintableStates cur tag s
-printables_grown st cur tag s g all k d lt = printable_grown st cur tag s.switch (get_or s.states k d) g (all k d lt)
+printables_grown st cur tag s g all k d lt = printable_grown st cur tag s.switch (get_or s.tag_states k d) g (all k d lt)
 
 -- the frame of a store that grew
 pub frame_grown : (st cur : Held) (tag : ℕ) → Grows st cur → IsFrame st st.width tag → IsFrame cur cur.width tag

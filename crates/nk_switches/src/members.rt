@@ -1,4 +1,4 @@
-//! The rows that a tag stands for, and the tags of targets.
+//! The states that a tag stands for, and the tags of targets.
 ghost use Rattle.std.specs.Prelude.{◌≡◌, ℕ, ◌+◌, ◌<◌, ◌≤◌, None, List as Items, [], ◌∷◌, All, IfOk, OnOk, length, map, slice_index, slice_index_or, slice_set};
 ghost use Rattle.nk_switches.specs.Tagged.{members_of, set_of, IsTagTable};
 
@@ -6,7 +6,7 @@ use nk_determ::{SetId, Sets};
 use nk_field::List;
 use std::alloc::{AllocError, Global};
 
-/// The places of a tag's rows: that of the start for tag 0, else the one behind each label of its set.
+/// The places of a tag's states: that of the start for tag 0, else the one behind each label of its set.
 pub fn members(
     alloc: Global,
     ss: &Sets,

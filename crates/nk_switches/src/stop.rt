@@ -11,7 +11,7 @@ pub struct Stop {
     pub tags: List<u64>,
 }
 
-/// A tag with the diagram of what its rows do at a switch.
+/// A tag with the diagram of what its states do at a switch.
 #[derive(Clone, Copy)]
 pub struct TagState {
     /// The tag.
@@ -26,5 +26,5 @@ pub struct SwitchStates {
     /// The switch's number.
     pub switch: u16,
     /// The tags with their diagrams, in the order of the tags.
-    pub states: List<TagState>,
+    pub tag_states: List<TagState>,
 }

@@ -7,39 +7,39 @@ ghost use Rattle.nk_switches.specs.Matched.{Matched};
 ghost use Rattle.nk_switches.specs.Made.{IsStop, IsTableAt};
 
 use crate::members::tag_table;
-use crate::states::all_states;
 use crate::stop::Stop;
 use crate::tables::all_tables;
+use crate::tag_states::all_states;
 use nk_determ::{SetId, Sets};
 use nk_field::List;
 use nk_store::{Id, Store};
 use nk_table::Table;
 use std::alloc::AllocError;
 
-/// The table of each switch: for each of its tags the rows of the reduced tree of the bucket lists of where the tag's rows
+/// The table of each switch: for each of its tags the rows of the reduced tree of the bucket lists of where the tag's states
 /// lead, and at what they lead to the tag of the set of all labels there; what has no tag is left out. Groups are numbered
 /// at each switch.
 ///
-/// `rows` are an automaton's diagrams, `tags` the numbers of the tags' sets of labels in order. The only error is that
+/// `states` are an automaton's diagrams, `tags` the numbers of the tags' sets of labels in order. The only error is that
 /// memory ran out.
 pub fn switch_tables(
     st: &mut Store,
     ss: &mut Sets,
-    rows: &[Id],
+    states: &[Id],
     tags: &[SetId],
     stops: &[Stop],
 ) -> Result<List<Table>, AllocError>
     requires frame { (tag : ℕ) × (st.old.tag ≡ Some tag) × IsFrame st.old st.old.width tag }
-    requires rows { AreIds st.old rows.now }
+    requires states { AreIds st.old states.now }
     requires known { All (λ s. s < length ss.old) tags.now }
     requires once { (i j : ℕ) → i < length tags.now → j < length tags.now → slice_index tags.now i ≡ slice_index tags.now j → i ≡ j }
-    requires stops { (tag : ℕ) → st.old.tag ≡ Some tag → All (IsStop st.old ss.old rows.now tags.now tag) stops.now }
+    requires stops { (tag : ℕ) → st.old.tag ≡ Some tag → All (IsStop st.old ss.old states.now tags.now tag) stops.now }
     ensures { IfOk result (λ ts. (tag : ℕ) → st.old.tag ≡ Some tag →
-        Matched (IsTableAt st.old ss.old rows.now tags.now tag) stops.now ts) }
+        Matched (IsTableAt st.old ss.old states.now tags.now tag) stops.now ts) }
 {
-    let states = all_states(st, ss, rows, tags, stops)?;
+    let tag_states = all_states(st, ss, states, tags, stops)?;
     let table = tag_table(st.alloc(), ss, tags)?;
     ss.differ();
     st.laws();
-    all_tables(st, table.as_slice(), states.as_slice())
+    all_tables(st, table.as_slice(), tag_states.as_slice())
 }

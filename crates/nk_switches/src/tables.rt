@@ -52,10 +52,10 @@ fn switch_rows(
     requires printable { (tag : ℕ) → st.old.tag ≡ Some tag → ArePrintableStates st.old tag s.now }
     ensures grows { Grows st.old st.new }
     ensures rows { IfOk result (λ rows. (tag : ℕ) → st.old.tag ≡ Some tag →
-        AreRowsBy st.old table.now tag s.now.switch s.now.states rows.items) }
+        AreRowsBy st.old table.now tag s.now.switch s.now.tag_states rows.items) }
 {
     let mut all = Vec::new(st.alloc());
-    for state in s.states.as_slice() {
+    for state in s.tag_states.as_slice() {
         let rows = tag_rows(st, table, s.switch, *state)?;
         append_rows(&mut all, rows)?;
     }

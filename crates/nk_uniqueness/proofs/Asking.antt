@@ -13,8 +13,8 @@ use Rattle.nk_query.specs.Asked.{Asked, Question, NamesQuestion, NoneBreaks, IsB
 use Rattle.nk_query.specs.Answers.{IsCause, IsAsked, asked_policy}
 use Rattle.nk_query.specs.declared.error.QueryError.{QueryError}
 use Rattle.nk_query.specs.declared.error.QueryError.TheVariants.{NoMemory, NoPolicy, NotAPredicate, TooLarge}
-use Rattle.nk_query.specs.declared.shape.Answer.{Answer}
-use Rattle.nk_query.specs.declared.shape.Answer.TheVariants.{Holds, Breaks}
+use Rattle.nk_query.specs.declared.query.Answer.{Answer}
+use Rattle.nk_query.specs.declared.query.Answer.TheVariants.{Holds, Breaks}
 use Rattle.nk_query.proofs.OneQuestion.{true_false, one_question, never_lacks}
 use Rattle.nk_uniqueness.specs.Queried.{Queried, holding, breaking, queried_by, IsToldOf, IsToldOfNamed, IsFoundOfNamed}
 use Rattle.nk_names.proofs.Alike.{fields_alike}

@@ -10,8 +10,8 @@ use Rattle.nk_cert.specs.Verdicts.{Finding, IsFinding}
 use Rattle.nk_bisim.specs.Answers.{IsRelated}
 use Rattle.nk_query.specs.Asked.{Asked, Question, NoneBreaks, IsLeastBreak}
 use Rattle.nk_query.specs.Answers.{IsNamedQuestion, asked_policy}
-use Rattle.nk_query.specs.declared.shape.Answer.{Answer}
-use Rattle.nk_query.specs.declared.shape.Answer.TheVariants.{Holds, Breaks}
+use Rattle.nk_query.specs.declared.query.Answer.{Answer}
+use Rattle.nk_query.specs.declared.query.Answer.TheVariants.{Holds, Breaks}
 
 -- a certificate that the query holds, or a history that breaks it
 pub data Queried : Type 0 where

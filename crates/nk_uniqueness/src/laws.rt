@@ -29,7 +29,7 @@ ghost use Rattle.nk_query.specs.Asked.{Asked, Question, NamesQuestion};
 ghost use Rattle.nk_query.specs.Answers.{IsNamedQuestion, IsCause, IsAsked};
 ghost use Rattle.nk_query.specs.declared.error.QueryError.{QueryError};
 ghost use Rattle.nk_query.specs.declared.error.QueryError.TheVariants as query;
-ghost use Rattle.nk_query.specs.declared.shape.Answer.{Answer};
+ghost use Rattle.nk_query.specs.declared.query.Answer.{Answer};
 ghost use Rattle.nk_uniqueness.specs.Packets.{HavePackets};
 ghost use Rattle.nk_uniqueness.specs.Queried.{Queried, queried_by, IsToldOf, IsToldOfNamed, IsFoundOfNamed};
 ghost use Rattle.nk_uniqueness.specs.Texts.{TextsHavePackets};

@@ -7,5 +7,5 @@ use Rattle.nk_auto.proofs.by_parts.push_states.Given as goal
 abbrev pub invariant-loop-entry : goal.invariant-loop-entry
 invariant-loop-entry l = record {
   grows : Grows l.fn.st l.st;
-  states : (made : List ℕ) × (l.rows ≡ l.fn.rows ++ made) × AreOfParts l.st made (take l.entry-index l.entries);
+  pushed : (made : List ℕ) × (l.states ≡ l.fn.states ++ made) × AreOfParts l.st made (take l.entry-index l.entries);
 }

@@ -3,4 +3,4 @@ use Rattle.nk_auto.proofs.states.repeated.Given as goal
 
 -- one for each round
 abbrev pub invariant-loop-i : goal.invariant-loop-i
-invariant-loop-i l = record { many : length l.rows ≡ l.i }
+invariant-loop-i l = record { many : length l.states ≡ l.i }

@@ -18,13 +18,13 @@ pub returns-clause-ok : goal.returns-clause-ok
 returns-clause-ok c =
     let start = subst (λ n. IsStartEntryOf c.start_entry.new.st c.start_entry.new.ss n (tree_of c.args.certificate.now.start) c.in_ok-start.start) c.len.ensures c.in_ok-start.ensures.ok in
     let sized = subst (λ n. AreEntriesOf c.row_entries.new.st c.row_entries.new.ss n (row_values c.as_slice.result.now) c.in_ok-entries.entries) c.len-2.ensures c.in_ok-entries.ensures.ok in
-    let later = subst (λ rs. AreEntriesOf c.row_entries.new.st c.row_entries.new.ss (length c.args.both.rows) (row_values rs) c.in_ok-entries.entries) c.as_slice.ensures sized in
+    let later = subst (λ rs. AreEntriesOf c.row_entries.new.st c.row_entries.new.ss (length c.args.both.states) (row_values rs) c.in_ok-entries.entries) c.as_slice.ensures sized in
     record {
-      start_is = start_on c.start_entry.new.st c.merge.new.st c.start_entry.new.ss c.row_entries.new.ss (length c.args.both.rows) (tree_of c.args.certificate.now.start) c.in_ok-start.start
+      start_is = start_on c.start_entry.new.st c.merge.new.st c.start_entry.new.ss c.row_entries.new.ss (length c.args.both.states) (tree_of c.args.certificate.now.start) c.in_ok-start.start
           (grows_on _ _ _ c.row_entries.ensures.grows c.merge.ensures.grows) c.row_entries.ensures.sets start;
-      later = entries_on c.row_entries.new.st c.merge.new.st c.row_entries.new.ss c.row_entries.new.ss (length c.args.both.rows) (row_values c.args.certificate.now.rows) c.in_ok-entries.entries
+      later = entries_on c.row_entries.new.st c.merge.new.st c.row_entries.new.ss c.row_entries.new.ss (length c.args.both.states) (row_values c.args.certificate.now.rows) c.in_ok-entries.entries
           c.merge.ensures.grows (sets_refl c.row_entries.new.ss) later;
-      all = told_by_all c.row_entries.new.st c.merge.new.st c.row_entries.new.ss (length c.args.both.rows) (row_values c.args.certificate.now.rows) c.in_ok-entries.entries c.merge.new.met.entries
+      all = told_by_all c.row_entries.new.st c.merge.new.st c.row_entries.new.ss (length c.args.both.states) (row_values c.args.certificate.now.rows) c.in_ok-entries.entries c.merge.new.met.entries
           c.merge.ensures.grows later
           (subst (λ m. IsMerged c.row_entries.new.st m c.in_ok-entries.entries c.merge.new.st c.merge.new.met.entries) c.new-told.ensures.empty c.in_ok-merge.ensures.ok);
     }

@@ -14,14 +14,14 @@ pub returns-clause-ok : goal.returns-clause-ok
 returns-clause-ok c = λ fields over.
     let p = tree_of c.args.p.now in
     let q = tree_of c.args.q.now in
-    let of_left = c.in_ok-rows.rows in
+    let of_left = c.in_ok-states.states in
     let of_right = c.in_ok-others.others in
-    let al : IsAutomaton c.policy_automaton.new.st of_left 1 p = c.in_ok-rows.ensures.ok c.requires.left_fit in
+    let al : IsAutomaton c.policy_automaton.new.st of_left 1 p = c.in_ok-states.ensures.ok c.requires.left_fit in
     let fit : IsFit c.policy_automaton.new.st.maxes q = subst (λ m. IsFit m q) (sym c.policy_automaton.ensures.grows.maxes) c.requires.right_fit in
     let ar : IsAutomaton c.policy_automaton-2.new.st of_right (1 + dups_of p) q = subst (λ n. IsAutomaton c.policy_automaton-2.new.st of_right n q) c.number_behind.ensures (c.in_ok-others.ensures.ok fit) in
     let some_left : 0 < length of_left = omega (arith, al.count) in
     let some_right : 0 < length of_right = omega (arith, ar.count) in
-    both_are fields c.policy_automaton.new.st c.policy_automaton-2.new.st c.union.new.st of_left of_right c.push_rest.new.rows c.at-left.result.now c.at-right.result.now c.in_ok-start.start p q
+    both_are fields c.policy_automaton.new.st c.policy_automaton-2.new.st c.union.new.st of_left of_right c.push_rest.new.states c.at-left.result.now c.at-right.result.now c.in_ok-start.start p q
     (over_grown fields c.args.st.now c.union.new.st over (grows_on _ _ _ c.policy_automaton.ensures.grows (grows_on _ _ _ c.policy_automaton-2.ensures.grows c.union.ensures.grows)))
     c.laws.ensures.tidy
     (record { left = c.requires.left; right = c.requires.right })

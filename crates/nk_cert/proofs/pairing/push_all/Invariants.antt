@@ -1,6 +1,6 @@
 use Rattle.std.proofs.Common.{◌≡◌, ◌++◌, take}
 use Rattle.nk_cert.proofs.pairing.push_all.Given as goal
 
--- the rows so far stand behind the others
-abbrev pub invariant-loop-row : goal.invariant-loop-row
-invariant-loop-row l = l.rows ≡ l.fn.rows ++ take l.row-index l.more
+-- the states so far stand behind the others
+abbrev pub invariant-loop-state : goal.invariant-loop-state
+invariant-loop-state l = l.states ≡ l.fn.states ++ take l.state-index l.more

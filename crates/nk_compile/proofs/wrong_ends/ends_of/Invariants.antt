@@ -4,11 +4,11 @@ use Rattle.nk_compile.specs.WrongEnds.{AreEndsOf}
 use Rattle.nk_compile.proofs.Uniting.{HaveSoFar}
 use Rattle.nk_compile.proofs.wrong_ends.ends_of.Given as goal
 
--- the rows so far have their diagrams, and so have those in the table
-abbrev pub invariant-loop-row : goal.invariant-loop-row
-invariant-loop-row l = record {
+-- the states so far have their diagrams, and so have those in the table
+abbrev pub invariant-loop-state : goal.invariant-loop-state
+invariant-loop-state l = record {
   grows : Grows l.fn.st l.st;
   seen : AreEndsOf l.st l.set l.seen.entries;
-  len : length l.ends ≡ l.row-index;
-  ends : HaveSoFar l.st l.set l.rows l.ends l.row-index;
+  len : length l.ends ≡ l.state-index;
+  ends : HaveSoFar l.st l.set l.states l.ends l.state-index;
 }

@@ -16,18 +16,18 @@ rests-requires-clause-fit c = numbered_marks _ c.requires.numbered.0 c.requires.
 
 pub returns-clause-labels : goal.returns-clause-labels
 returns-clause-labels c =
-    let end : Part = record { free = c.keeping-free.result; rows = c.new-rows.result } in
-    (parts_of_rests _ end (tree_of c.args.p.now) c.keeping-free.ensures c.new-rows.ensures
+    let end : Part = record { free = c.keeping-free.result; legs = c.new-legs.result } in
+    (parts_of_rests _ end (tree_of c.args.p.now) c.keeping-free.ensures c.new-legs.ensures
     (subst (λ o. AreRests o c.rests.new.out (after (tree_of c.args.p.now)) (numbers_of (tree_of c.args.p.now)) end) c.new-after.ensures c.in_ok-rests.ensures)).0
 
 pub returns-clause-after : goal.returns-clause-after
 returns-clause-after c =
-    let end : Part = record { free = c.keeping-free.result; rows = c.new-rows.result } in
-    (parts_of_rests _ end (tree_of c.args.p.now) c.keeping-free.ensures c.new-rows.ensures
+    let end : Part = record { free = c.keeping-free.result; legs = c.new-legs.result } in
+    (parts_of_rests _ end (tree_of c.args.p.now) c.keeping-free.ensures c.new-legs.ensures
     (subst (λ o. AreRests o c.rests.new.out (after (tree_of c.args.p.now)) (numbers_of (tree_of c.args.p.now)) end) c.new-after.ensures c.in_ok-rests.ensures)).1
 
 pub returns-clause-within : goal.returns-clause-within
 returns-clause-within c =
-    let end : Part = record { free = c.keeping-free.result; rows = c.new-rows.result } in
-    (parts_of_rests _ end (tree_of c.args.p.now) c.keeping-free.ensures c.new-rows.ensures
+    let end : Part = record { free = c.keeping-free.result; legs = c.new-legs.result } in
+    (parts_of_rests _ end (tree_of c.args.p.now) c.keeping-free.ensures c.new-legs.ensures
     (subst (λ o. AreRests o c.rests.new.out (after (tree_of c.args.p.now)) (numbers_of (tree_of c.args.p.now)) end) c.new-after.ensures c.in_ok-rests.ensures)).2

@@ -34,15 +34,15 @@ pub collected-returns-in_ok-all-in-Seq : goal.collected-returns-in_ok-all-in-Seq
 collected-returns-in_ok-all-in-Seq t c =
     collected_as _ _ _ _ _ (seq_tree _ c.in-Seq.ps _ c.in-Seq.is c.as_slice-members.ensures)
     (collected_seq _ _ _ c.in_ok-states-in-Seq.states _ c.in_ok-states-in-Seq.ensures
-    (subst (AreInTurn c.args.rows.now c.in_turn.new.rows (tree_of c.in_ok-all-in-Seq.all)) c.as_slice-turns.ensures c.in_ok-all-in-Seq.ensures))
+    (subst (AreInTurn c.args.legs.now c.in_turn.new.legs (tree_of c.in_ok-all-in-Seq.all)) c.as_slice-turns.ensures c.in_ok-all-in-Seq.ensures))
 
 pub collected-returns-in_ok-put_behind-in-Star : goal.collected-returns-in_ok-put_behind-in-Star
 collected-returns-in_ok-put_behind-in-Star t c =
     collected_as _ _ _ _ _ (ap (λ x. star_of (tree_of x)) c.deref.ensures ∙ sym (ap tree_of c.in-Star.is))
-    (collected_star _ _ c.collected.new.rows _ (tree_of c.in_ok-round-in-Star.round) (tree_of c.deref.result.now)
-    (subst (λ o. IsCollected o c.collected.new.rows (tree_of c.in_ok-round-in-Star.round) (tree_of c.deref.result.now)) c.new-firsts.ensures c.in_ok-round-in-Star.ensures)
+    (collected_star _ _ c.collected.new.legs _ (tree_of c.in_ok-round-in-Star.round) (tree_of c.deref.result.now)
+    (subst (λ o. IsCollected o c.collected.new.legs (tree_of c.in_ok-round-in-Star.round) (tree_of c.deref.result.now)) c.new-firsts.ensures c.in_ok-round-in-Star.ensures)
     c.in_ok-star-in-Star.ensures
-    (subst (ArePutBehind c.args.rows.now c.put_behind.new.out (tree_of c.in_ok-star-in-Star.star)) c.as_slice-behind.ensures c.in_ok-put_behind-in-Star.ensures))
+    (subst (ArePutBehind c.args.legs.now c.put_behind.new.out (tree_of c.in_ok-star-in-Star.star)) c.as_slice-behind.ensures c.in_ok-put_behind-in-Star.ensures))
 
 pub collected-returns-in_ok-push-in-Dup : goal.collected-returns-in_ok-push-in-Dup
 collected-returns-in_ok-push-in-Dup t c =
@@ -59,7 +59,7 @@ collected_any-loop-q-init t c = summing_none _ _ _ c.new-frees.ensures.items c.r
 
 pub collected_any-loop-q-preserved : goal.collected_any-loop-q-preserved
 collected_any-loop-q-preserved t c =
-    summing_more _ c.loop-q.rows _ _ _ (tree_of c.in_ok-free.free) c.q-item.result c.args.ps.now _ c.loop-q-test.true c.q-item.is
+    summing_more _ c.loop-q.legs _ _ _ (tree_of c.in_ok-free.free) c.q-item.result c.args.ps.now _ c.loop-q-test.true c.q-item.is
     c.in_ok-free.ensures c.in_ok-push_term.ensures c.loop-q.invariant
 
 pub collected_any-collected-requires : goal.collected_any-collected-requires
@@ -68,14 +68,14 @@ collected_any-collected-requires t c =
 
 pub collected_any-returns : goal.collected_any-returns
 collected_any-returns t c =
-    subst (λ f. IsCollected c.args.rows.now c.loop-q.rows f (sum_of (trees_of c.args.ps.now)))
+    subst (λ f. IsCollected c.args.legs.now c.loop-q.legs f (sum_of (trees_of c.args.ps.now)))
     (sym (tree_of_sum c.new-sum.result ∙ ap (λ v. sum_of (trees_of v.items)) c.new-sum.ensures))
     (summing_done _ _ _ _ _ c.loop-q-test.false c.loop-q.invariant)
 
 pub parts_of_all-loop-q-preserved : goal.parts_of_all-loop-q-preserved
 parts_of_all-loop-q-preserved t c = record {
   made = parts_next c.args.ps.now _ c.q-item.result _ _ _ c.loop-q-test.true c.q-item.is c.in_ok-push.ensures.ok
-      (part_is _ _ (subst (λ o. IsCollected o c.collected.new.rows (tree_of c.in_ok-free.free) (tree_of c.q-item.result)) c.new-rows.ensures c.in_ok-free.ensures))
+      (part_is _ _ (subst (λ o. IsCollected o c.collected.new.legs (tree_of c.in_ok-free.free) (tree_of c.q-item.result)) c.new-legs.ensures c.in_ok-free.ensures))
       c.loop-q.invariant.made;
   complements = (complements_at c.q-item.result c.args.ps.now _ c.loop-q-test.true c.q-item.is c.loop-q.invariant.complements).1;
 }

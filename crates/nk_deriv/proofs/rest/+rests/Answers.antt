@@ -53,9 +53,9 @@ rests-returns-in_ok-push_next-in-Dup t c =
 pub rests-returns-in_ok-push_next-in-Link : goal.rests-returns-in_ok-push_next-in-Link
 rests-returns-in_ok-push_next-in-Link t c =
     rests_as_tree _ _ _ _ _ (sym (ap tree_of c.in-Link.is))
-    (rests_link _ c.push.new.self _ _ c.in_ok-crossing-in-Link.crossing c.in_ok-push_next-in-Link.ensures.0 c.in_ok-crossing-in-Link.ensures.rows.0 c.in-Link.field-0 c.in-Link.field-1 c.in-Link.b c.in-Link.n c.in-Link.l
+    (rests_link _ c.push.new.self _ _ c.in_ok-crossing-in-Link.crossing c.in_ok-push_next-in-Link.ensures.0 c.in_ok-crossing-in-Link.ensures.legs.0 c.in-Link.field-0 c.in-Link.field-1 c.in-Link.b c.in-Link.n c.in-Link.l
     c.in_ok-push-in-Link.ensures.ok c.in_ok-push_next-in-Link.ensures.1
-    c.in_ok-crossing-in-Link.ensures.free c.in_ok-crossing-in-Link.ensures.rows.1 c.in_ok-crossing-in-Link.ensures.rows.2 c.in_ok-push_next-in-Link.ensures.2)
+    c.in_ok-crossing-in-Link.ensures.free c.in_ok-crossing-in-Link.ensures.legs.1 c.in_ok-crossing-in-Link.ensures.legs.2 c.in_ok-push_next-in-Link.ensures.2)
 
 pub rests_of_any-loop-q-init : goal.rests_of_any-loop-q-init
 rests_of_any-loop-q-init t c =

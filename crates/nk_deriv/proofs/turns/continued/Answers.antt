@@ -6,7 +6,7 @@ use Rattle.nk_deriv.proofs.turns.continued.Goals as goal
 
 pub returns : goal.returns
 returns c =
-    continued_is _ c.args.next.now c.args.states.now c.in_turn.new.rows (tree_of c.in_ok-free.free)
-    (subst (λ o. AreInTurn o c.in_turn.new.rows (tree_of c.in_ok-free.free) c.args.states.now) c.new-rows.ensures c.in_ok-free.ensures)
-    (subst (ArePutBehind c.in_turn.new.rows c.put_behind.new.out (tree_of c.in_ok-free.free)) c.as_slice.ensures c.in_ok-put_behind.ensures)
+    continued_is _ c.args.next.now c.args.states.now c.in_turn.new.legs (tree_of c.in_ok-free.free)
+    (subst (λ o. AreInTurn o c.in_turn.new.legs (tree_of c.in_ok-free.free) c.args.states.now) c.new-legs.ensures c.in_ok-free.ensures)
+    (subst (ArePutBehind c.in_turn.new.legs c.put_behind.new.out (tree_of c.in_ok-free.free)) c.as_slice.ensures c.in_ok-put_behind.ensures)
     c.in_ok-whole.ensures

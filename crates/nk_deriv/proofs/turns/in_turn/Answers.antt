@@ -12,8 +12,8 @@ returns-then-none c = turning_drop _ _ _ _ _ (sym c.is_drop-none.ensures ∙ c.i
 
 pub loop-state-preserved : goal.loop-state-preserved
 loop-state-preserved c =
-    turning_next _ c.loop-state.rows _ (tree_of c.loop-state.free) _ c.state-item.result c.args.states.now _ c.loop-state-test.true c.state-item.is
-    (subst (ArePutBehind c.loop-state.rows c.put_behind.new.out (tree_of c.loop-state.free)) c.as_slice.ensures c.in_ok-put_behind.ensures)
+    turning_next _ c.loop-state.legs _ (tree_of c.loop-state.free) _ c.state-item.result c.args.states.now _ c.loop-state-test.true c.state-item.is
+    (subst (ArePutBehind c.loop-state.legs c.put_behind.new.out (tree_of c.loop-state.free)) c.as_slice.ensures c.in_ok-put_behind.ensures)
     c.in_ok-free.ensures c.loop-state.invariant
 
 pub returns : goal.returns

@@ -3,6 +3,6 @@ use Rattle.nk_policy.specs.Tree.{tree_of}
 use Rattle.nk_deriv.specs.Turns.{ArePutBehind}
 use Rattle.nk_deriv.proofs.turns.put_behind.Given as goal
 
--- the rows so far are put behind
-abbrev pub invariant-loop-row : goal.invariant-loop-row
-invariant-loop-row l = ArePutBehind l.fn.out l.out (tree_of l.free) (take l.row-index l.rows)
+-- the legs so far are put behind
+abbrev pub invariant-loop-leg : goal.invariant-loop-leg
+invariant-loop-leg l = ArePutBehind l.fn.out l.out (tree_of l.free) (take l.leg-index l.legs)

@@ -13,6 +13,6 @@ send_all-requires-clause-raw c =
 
 pub returns-clause-ok : goal.returns-clause-ok
 returns-clause-ok c =
-    followed_of c.args.st.now c.state_at.new.st c.by_out.new.st c.send_all.new.st c.state_at.new.ss c.args.rows.now (get_or c.args.ss.now c.args.s []) c.args.x c.in_ok-d.d c.in_ok-outs.outs
-    c.args.raw.now.entries c.send_all.new.raw.entries c.requires.rows c.requires.places c.requires.raw c.state_at.ensures.grows c.by_out.ensures.grows
+    followed_of c.args.st.now c.state_at.new.st c.by_out.new.st c.send_all.new.st c.state_at.new.ss c.args.states.now (get_or c.args.ss.now c.args.s []) c.args.x c.in_ok-d.d c.in_ok-outs.outs
+    c.args.raw.now.entries c.send_all.new.raw.entries c.requires.states c.requires.places c.requires.raw c.state_at.ensures.grows c.by_out.ensures.grows
     c.in_ok-d.ensures.ok c.in_ok-outs.ensures.ok c.in_ok-send_all.ensures.ok

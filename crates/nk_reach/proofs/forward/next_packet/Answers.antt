@@ -12,13 +12,13 @@ pub packets_under-p-requires : goal.packets_under-p-requires
 packets_under-p-requires c = under_named c.args.st.now c.args.here.now c.args.s c.args.x.now c.requires.under
 
 pub state_at-requires-clause-set : goal.state_at-requires-clause-set
-state_at-requires-clause-set c = (named_known c.args.st.now c.args.ss.now (length c.args.rows.now) c.args.here.now c.args.s c.requires.here.each (under_named c.args.st.now c.args.here.now c.args.s c.args.x.now c.requires.under)).0
+state_at-requires-clause-set c = (named_known c.args.st.now c.args.ss.now (length c.args.states.now) c.args.here.now c.args.s c.requires.here.each (under_named c.args.st.now c.args.here.now c.args.s c.args.x.now c.requires.under)).0
 
 pub state_at-requires-clause-places : goal.state_at-requires-clause-places
-state_at-requires-clause-places c = (named_known c.args.st.now c.args.ss.now (length c.args.rows.now) c.args.here.now c.args.s c.requires.here.each (under_named c.args.st.now c.args.here.now c.args.s c.args.x.now c.requires.under)).1
+state_at-requires-clause-places c = (named_known c.args.st.now c.args.ss.now (length c.args.states.now) c.args.here.now c.args.s c.requires.here.each (under_named c.args.st.now c.args.here.now c.args.s c.args.x.now c.requires.under)).1
 
 pub state_at-requires-clause-packets : goal.state_at-requires-clause-packets
-state_at-requires-clause-packets c = found_set c.args.st.now c.args.here.now c.args.s c.packets_under-p.result c.packets_under-p.ensures (packets_of c.args.st.now c.args.ss.now (length c.args.rows.now) c.args.here.now c.requires.here.each)
+state_at-requires-clause-packets c = found_set c.args.st.now c.args.here.now c.args.s c.packets_under-p.result c.packets_under-p.ensures (packets_of c.args.st.now c.args.ss.now (length c.args.states.now) c.args.here.now c.requires.here.each)
 
 pub look-outs-requires : goal.look-outs-requires
 look-outs-requires c = c.in_ok-d.ensures.ok.id
@@ -29,13 +29,13 @@ least_ahead-requires-clause-packet c = c.requires.packet.0
 pub least_ahead-requires-clause-next : goal.least_ahead-requires-clause-next
 least_ahead-requires-clause-next c =
     each_weaker (λ p. IsSet c.args.st.now p.1) (λ p. IsSet c.state_at.new.st p.1) c.args.next.now (λ p q. set_grows c.args.st.now c.state_at.new.st p.1 c.state_at.ensures.grows q)
-    (packets_of c.args.st.now c.args.ss.now (length c.args.rows.now) c.args.next.now c.requires.next.each)
+    (packets_of c.args.st.now c.args.ss.now (length c.args.states.now) c.args.next.now c.requires.next.each)
 
 pub returns-clause-ok : goal.returns-clause-ok
 returns-clause-ok c =
     let best : IsBest (IsAhead c.state_at.new.st c.args.next.now c.args.x.now) c.args.x.now c.look-outs.result.now (length c.look-outs.result.now) c.in-Some.b = c.in-Some.ensures in
     let low = best_positive c.state_at.new.st c.args.next.now c.args.x.now c.look-outs.result.now (length c.look-outs.result.now) c.in-Some.b best in
-    next_least_of c.args.st.now c.state_at.new.st c.args.ss.now c.state_at.new.ss c.args.rows.now (get_or c.args.ss.now c.args.s []) c.args.x.now c.packets_under-p.result c.in_ok-d.d c.new-t.result c.args.next.now c.in-Some.b
+    next_least_of c.args.st.now c.state_at.new.st c.args.ss.now c.state_at.new.ss c.args.states.now (get_or c.args.ss.now c.args.s []) c.args.x.now c.packets_under-p.result c.in_ok-d.d c.new-t.result c.args.next.now c.in-Some.b
     c.state_at.ensures.grows c.state_at.ensures.sets c.in_ok-d.ensures.differ c.requires.next c.in_ok-d.ensures.ok c.requires.packet
     (under_found c.args.st.now c.args.here.now c.args.s c.packets_under-p.result c.args.x.now c.requires.here.once c.packets_under-p.ensures c.requires.under)
     (subst (λ (os : List Out). IsBest (IsAhead c.state_at.new.st c.args.next.now c.args.x.now) c.args.x.now os (length os) c.in-Some.b) c.look-outs.ensures best)
@@ -44,7 +44,7 @@ returns-clause-ok c =
 pub unreachable-requires : goal.unreachable-requires
 unreachable-requires c =
     let none : NoneCount (IsAhead c.state_at.new.st c.args.next.now c.args.x.now) c.look-outs.result.now (length c.look-outs.result.now) = c.in-None.ensures in
-    some_ahead c.args.st.now c.state_at.new.st c.args.ss.now c.state_at.new.ss c.args.rows.now (get_or c.args.ss.now c.args.s []) c.args.x.now c.packets_under-p.result c.in_ok-d.d c.args.next.now
+    some_ahead c.args.st.now c.state_at.new.st c.args.ss.now c.state_at.new.ss c.args.states.now (get_or c.args.ss.now c.args.s []) c.args.x.now c.packets_under-p.result c.in_ok-d.d c.args.next.now
     c.state_at.ensures.grows c.state_at.ensures.sets c.in_ok-d.ensures.differ c.requires.next c.in_ok-d.ensures.ok c.requires.packet
     (under_found c.args.st.now c.args.here.now c.args.s c.packets_under-p.result c.args.x.now c.requires.here.once c.packets_under-p.ensures c.requires.under)
     c.requires.ahead

@@ -2,7 +2,7 @@ use Rattle.std.proofs.Common.{◌≡◌, ◌<◌, ◌+◌, ◌-◌, ℕ, suc, Li
 use Rattle.nk_store.proofs.Stores.{grows_on}
 use Rattle.nk_determ.proofs.Interned.{sets_on}
 use Rattle.nk_reach.specs.Pairs.{ArePairs}
-use Rattle.nk_reach.proofs.Growing.{sets_refl, rows_grow, pairs_on}
+use Rattle.nk_reach.proofs.Growing.{sets_refl, states_grow, pairs_on}
 use Rattle.nk_reach.proofs.Ends.{pairs_more}
 use Rattle.nk_reach.specs.Finds.{first_set, first_packets}
 use Rattle.nk_reach.specs.Backs.{AreBacks}
@@ -18,8 +18,8 @@ bad_level-requires-clause-pairs g c =
     let some = c.requires.levels.some in
     let h : ℕ = c.len-last.result - 1 in
     let l : h < length c.args.l.now.levels = last_below c.len-last.result h (length c.args.l.now.levels) some c.len-last.ensures refl in
-    pairs_more c.args.st.now c.args.ss.now (length c.args.rows.now) (g.G.Goal.labels c.args.g.now) c.at-level.result.now c.requires.labels
-    (subst (ArePairs c.args.st.now c.args.ss.now (length c.args.rows.now)) (level_at c.args.l.now.levels h c.at-level.result.now c.at-level.ensures l) (c.requires.levels.pairs h l))
+    pairs_more c.args.st.now c.args.ss.now (length c.args.states.now) (g.G.Goal.labels c.args.g.now) c.at-level.result.now c.requires.labels
+    (subst (ArePairs c.args.st.now c.args.ss.now (length c.args.states.now)) (level_at c.args.l.now.levels h c.at-level.result.now c.at-level.ensures l) (c.requires.levels.pairs h l))
 
 pub loop-k-init : goal.loop-k-init
 loop-k-init g c =
@@ -34,21 +34,21 @@ loop-k-init g c =
       sets = sets_refl c.args.ss.now;
       fits = c.in_ok-first.ensures.fits;
       count = ap (λ (v : List (List (ℕ × ℕ))). length v) is;
-      backs = subst (λ n. AreBacks c.args.st.now c.bad_level.new.st c.args.ss.now c.args.ss.now c.args.rows.now (g.G.Goal.bad_of c.args.g.now c.args.st.now) c.args.l.now.levels n 1 c.push.new.self) e
-          (backs_start c.args.st.now c.bad_level.new.st c.args.ss.now c.args.rows.now (g.G.Goal.bad_of c.args.g.now c.args.st.now) c.args.l.now.levels h c.at-level.result.now c.in_ok-first.first c.push.new.self is at c.in_ok-first.ensures.ok
-          (subst (ArePairs c.args.st.now c.args.ss.now (length c.args.rows.now)) at (c.requires.levels.pairs h l)) c.bad_level.ensures.grows);
+      backs = subst (λ n. AreBacks c.args.st.now c.bad_level.new.st c.args.ss.now c.args.ss.now c.args.states.now (g.G.Goal.bad_of c.args.g.now c.args.st.now) c.args.l.now.levels n 1 c.push.new.self) e
+          (backs_start c.args.st.now c.bad_level.new.st c.args.ss.now c.args.states.now (g.G.Goal.bad_of c.args.g.now c.args.st.now) c.args.l.now.levels h c.at-level.result.now c.in_ok-first.first c.push.new.self is at c.in_ok-first.ensures.ok
+          (subst (ArePairs c.args.st.now c.args.ss.now (length c.args.states.now)) at (c.requires.levels.pairs h l)) c.bad_level.ensures.grows);
     }
 
-pub pull_level-requires-clause-rows : goal.pull_level-requires-clause-rows
-pull_level-requires-clause-rows g c = rows_grow c.args.st.now c.loop-k.st c.args.rows.now c.loop-k.invariant.grows c.requires.rows
+pub pull_level-requires-clause-states : goal.pull_level-requires-clause-states
+pull_level-requires-clause-states g c = states_grow c.args.st.now c.loop-k.st c.args.states.now c.loop-k.invariant.grows c.requires.states
 
 pub pull_level-requires-clause-level : goal.pull_level-requires-clause-level
 pull_level-requires-clause-level g c =
     let i : ℕ = c.len-last.result - 1 - 1 - c.loop-k.k in
     let some = c.requires.levels.some in
     let li : i < length c.args.l.now.levels = omega (arith, some, c.len-last.ensures, c.loop-k-test.true) in
-    subst (ArePairs c.loop-k.st c.loop-k.ss (length c.args.rows.now)) (level_at c.args.l.now.levels i c.at-before.result.now c.at-before.ensures li)
-    (pairs_on c.args.st.now c.loop-k.st c.args.ss.now c.loop-k.ss (length c.args.rows.now) (get_or c.args.l.now.levels i []) c.loop-k.invariant.grows c.loop-k.invariant.sets (c.requires.levels.pairs i li))
+    subst (ArePairs c.loop-k.st c.loop-k.ss (length c.args.states.now)) (level_at c.args.l.now.levels i c.at-before.result.now c.at-before.ensures li)
+    (pairs_on c.args.st.now c.loop-k.st c.args.ss.now c.loop-k.ss (length c.args.states.now) (get_or c.args.l.now.levels i []) c.loop-k.invariant.grows c.loop-k.invariant.sets (c.requires.levels.pairs i li))
 
 pub returns-in_err-push-2-clause-sets : goal.returns-in_err-push-2-clause-sets
 returns-in_err-push-2-clause-sets g c = sets_on c.args.ss.now c.loop-k.ss c.pull_level.new.ss c.loop-k.invariant.sets c.pull_level.ensures.sets
@@ -68,8 +68,8 @@ loop-k-preserved g c =
       sets = sets_on c.args.ss.now c.loop-k.ss c.pull_level.new.ss c.loop-k.invariant.sets c.pull_level.ensures.sets;
       fits = g.met.G.Goal.fits_on c.bad_level.new.g c.loop-k.st c.pull_level.new.st c.loop-k.invariant.fits c.pull_level.ensures.grows;
       count = let q = c.loop-k.invariant.count in let len : length c.push-in-loop-k.new.self ≡ length (c.loop-k.backs ++ c.in_ok-back.back ∷ []) = ap (λ (v : List (List (ℕ × ℕ))). length v) pushed in omega (arith, q, len, length-append c.loop-k.backs (c.in_ok-back.back ∷ []));
-      backs = subst (λ (v : List (List (ℕ × ℕ))). AreBacks c.args.st.now c.pull_level.new.st c.args.ss.now c.pull_level.new.ss c.args.rows.now (g.G.Goal.bad_of c.args.g.now c.args.st.now) c.args.l.now.levels (length c.args.l.now.levels - 1) (c.loop-k.k + 1 + 1) v) (sym pushed)
-          (backs_round c.args.st.now c.loop-k.st c.pull_level.new.st c.args.ss.now c.loop-k.ss c.pull_level.new.ss c.args.rows.now (first_set c.args.l.now.levels) (first_packets c.args.l.now.levels) (g.G.Goal.bad_of c.args.g.now c.args.st.now) c.args.l.now.levels c.args.l.now.broken
-          (length c.args.l.now.levels - 1) c.loop-k.k i c.at-before.result.now c.at-next.result.now c.in_ok-back.back c.loop-k.backs c.requires.rows c.requires.levels count e c.loop-k.invariant.grows c.loop-k.invariant.sets c.pull_level.ensures.grows c.pull_level.ensures.sets
+      backs = subst (λ (v : List (List (ℕ × ℕ))). AreBacks c.args.st.now c.pull_level.new.st c.args.ss.now c.pull_level.new.ss c.args.states.now (g.G.Goal.bad_of c.args.g.now c.args.st.now) c.args.l.now.levels (length c.args.l.now.levels - 1) (c.loop-k.k + 1 + 1) v) (sym pushed)
+          (backs_round c.args.st.now c.loop-k.st c.pull_level.new.st c.args.ss.now c.loop-k.ss c.pull_level.new.ss c.args.states.now (first_set c.args.l.now.levels) (first_packets c.args.l.now.levels) (g.G.Goal.bad_of c.args.g.now c.args.st.now) c.args.l.now.levels c.args.l.now.broken
+          (length c.args.l.now.levels - 1) c.loop-k.k i c.at-before.result.now c.at-next.result.now c.in_ok-back.back c.loop-k.backs c.requires.states c.requires.levels count e c.loop-k.invariant.grows c.loop-k.invariant.sets c.pull_level.ensures.grows c.pull_level.ensures.sets
           c.loop-k.invariant.count c.loop-k.invariant.backs (level_at c.loop-k.backs c.loop-k.k c.at-next.result.now c.at-next.ensures lk) (level_at c.args.l.now.levels i c.at-before.result.now c.at-before.ensures li) c.in_ok-back.ensures.ok);
     }

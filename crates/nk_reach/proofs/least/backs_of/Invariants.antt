@@ -10,5 +10,5 @@ invariant-loop-k g l = record {
   sets : SetsGrow l.fn.ss l.ss;
   fits : g.G.Goal.fits l.g l.st;
   count : length l.backs ≡ l.k + 1;
-  backs : AreBacks l.fn.st l.st l.fn.ss l.ss l.rows (g.G.Goal.bad_of l.fn.g l.fn.st) l.l.levels (length l.l.levels - 1) (l.k + 1) l.backs;
+  backs : AreBacks l.fn.st l.st l.fn.ss l.ss l.states (g.G.Goal.bad_of l.fn.g l.fn.st) l.l.levels (length l.l.levels - 1) (l.k + 1) l.backs;
 }

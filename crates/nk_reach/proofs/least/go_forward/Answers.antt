@@ -8,7 +8,7 @@ use Rattle.nk_determ.proofs.Interned.{sets_on}
 use Rattle.nk_reach.specs.Pairs.{Under}
 use Rattle.nk_reach.specs.Levels.{InLevel}
 use Rattle.nk_reach.proofs.Kept.{packet_on, packet_back}
-use Rattle.nk_reach.proofs.Growing.{rows_grow, packets_of, named_known, under_named}
+use Rattle.nk_reach.proofs.Growing.{states_grow, packets_of, named_known, under_named}
 use Rattle.nk_reach.specs.Backs.{IsBack}
 use Rattle.nk_reach.specs.Histories.{IsBreak}
 use Rattle.nk_reach.specs.Finds.{first_set, first_packets, target_of}
@@ -23,7 +23,7 @@ pub least_under-requires-clause-back : goal.least_under-requires-clause-back
 least_under-requires-clause-back g c =
     let old : Held = c.args.st.now in
     let oss : List (List ℕ) = c.args.ss.now in
-    let rows : List ℕ = c.args.rows.now in
+    let states : List ℕ = c.args.states.now in
     let ls : List (List (ℕ × ℕ)) = c.args.l.now.levels in
     let h : ℕ = length ls - 1 in
     let n : ℕ = c.len-last.result in
@@ -33,14 +33,14 @@ least_under-requires-clause-back g c =
     let count : length ls ≡ h + 1 = omega (arith, some) in
     let many : length made ≡ length ls = c.in_ok-made.ensures.count in
     let whole : List (ℕ × ℕ) = c.at-whole.result.now in
-    let b = start_back old c.backs_of.new.st oss c.backs_of.new.ss rows bad ls n made whole c.len-last.ensures many some c.at-whole.ensures c.in_ok-made.ensures.ok in
-    packets_of c.backs_of.new.st c.backs_of.new.ss (length rows) whole b.pairs.each
+    let b = start_back old c.backs_of.new.st oss c.backs_of.new.ss states bad ls n made whole c.len-last.ensures many some c.at-whole.ensures c.in_ok-made.ensures.ok in
+    packets_of c.backs_of.new.st c.backs_of.new.ss (length states) whole b.pairs.each
 
 pub least_under-requires-clause-some : goal.least_under-requires-clause-some
 least_under-requires-clause-some g c =
     let old : Held = c.args.st.now in
     let oss : List (List ℕ) = c.args.ss.now in
-    let rows : List ℕ = c.args.rows.now in
+    let states : List ℕ = c.args.states.now in
     let ls : List (List (ℕ × ℕ)) = c.args.l.now.levels in
     let h : ℕ = length ls - 1 in
     let n : ℕ = c.len-last.result in
@@ -50,15 +50,15 @@ least_under-requires-clause-some g c =
     let count : length ls ≡ h + 1 = omega (arith, some) in
     let many : length made ≡ length ls = c.in_ok-made.ensures.count in
     let whole : List (ℕ × ℕ) = c.at-whole.result.now in
-    let b = start_back old c.backs_of.new.st oss c.backs_of.new.ss rows bad ls n made whole c.len-last.ensures many some c.at-whole.ensures c.in_ok-made.ensures.ok in
-    let w = start_some old c.backs_of.new.st oss c.backs_of.new.ss rows (first_set ls) (first_packets ls) bad ls c.args.l.now.broken h whole c.requires.levels c.requires.broken count c.backs_of.ensures.grows c.backs_of.ensures.sets c.in_ok-made.ensures.differ b in
+    let b = start_back old c.backs_of.new.st oss c.backs_of.new.ss states bad ls n made whole c.len-last.ensures many some c.at-whole.ensures c.in_ok-made.ensures.ok in
+    let w = start_some old c.backs_of.new.st oss c.backs_of.new.ss states (first_set ls) (first_packets ls) bad ls c.args.l.now.broken h whole c.requires.levels c.requires.broken count c.backs_of.ensures.grows c.backs_of.ensures.sets c.in_ok-made.ensures.differ b in
     (w.0, w.1, subst (λ (v : ℕ). Under c.backs_of.new.st whole v w.0) (sym c.start_set-set.ensures) w.2)
 
 pub loop-i-init : goal.loop-i-init
 loop-i-init g c =
     let old : Held = c.args.st.now in
     let oss : List (List ℕ) = c.args.ss.now in
-    let rows : List ℕ = c.args.rows.now in
+    let states : List ℕ = c.args.states.now in
     let ls : List (List (ℕ × ℕ)) = c.args.l.now.levels in
     let h : ℕ = length ls - 1 in
     let n : ℕ = c.len-last.result in
@@ -68,7 +68,7 @@ loop-i-init g c =
     let count : length ls ≡ h + 1 = omega (arith, some) in
     let many : length made ≡ length ls = c.in_ok-made.ensures.count in
     let whole : List (ℕ × ℕ) = c.at-whole.result.now in
-    let b = start_back old c.backs_of.new.st oss c.backs_of.new.ss rows bad ls n made whole c.len-last.ensures many some c.at-whole.ensures c.in_ok-made.ensures.ok in
+    let b = start_back old c.backs_of.new.st oss c.backs_of.new.ss states bad ls n made whole c.len-last.ensures many some c.at-whole.ensures c.in_ok-made.ensures.ok in
     let set : ℕ = first_set ls in
     let y : List ℕ = c.in_ok-start.start in
     let p : ℕ = c.in_ok-start.ensures.0 in
@@ -79,19 +79,19 @@ loop-i-init g c =
       sets = c.backs_of.ensures.sets;
       fits = c.in_ok-made.ensures.fits;
       backs = c.in_ok-made.ensures.ok;
-      forward = start_forward old c.backs_of.new.st c.backs_of.new.ss rows (first_packets ls) bad h made whole (get_or oss set []) y c.new-records.result c.start_set-set.result set c.new-records.ensures c.start_set-set.ensures at
-          (forward_start old c.backs_of.new.st oss c.backs_of.new.ss rows (first_set ls) (first_packets ls) bad ls c.args.l.now.broken h whole p y c.requires.levels count c.backs_of.ensures.grows c.backs_of.ensures.sets c.in_ok-made.ensures.differ b found c.in_ok-start.ensures.2);
+      forward = start_forward old c.backs_of.new.st c.backs_of.new.ss states (first_packets ls) bad h made whole (get_or oss set []) y c.new-records.result c.start_set-set.result set c.new-records.ensures c.start_set-set.ensures at
+          (forward_start old c.backs_of.new.st oss c.backs_of.new.ss states (first_set ls) (first_packets ls) bad ls c.args.l.now.broken h whole p y c.requires.levels count c.backs_of.ensures.grows c.backs_of.ensures.sets c.in_ok-made.ensures.differ b found c.in_ok-start.ensures.2);
     }
 
-pub next_packet-requires-clause-rows : goal.next_packet-requires-clause-rows
-next_packet-requires-clause-rows g c =
-    rows_grow c.args.st.now c.loop-i.st c.args.rows.now c.loop-i.invariant.grows c.requires.rows
+pub next_packet-requires-clause-states : goal.next_packet-requires-clause-states
+next_packet-requires-clause-states g c =
+    states_grow c.args.st.now c.loop-i.st c.args.states.now c.loop-i.invariant.grows c.requires.states
 
 pub next_packet-requires-clause-here : goal.next_packet-requires-clause-here
 next_packet-requires-clause-here g c =
     let old : Held = c.args.st.now in
     let oss : List (List ℕ) = c.args.ss.now in
-    let rows : List ℕ = c.args.rows.now in
+    let states : List ℕ = c.args.states.now in
     let ls : List (List (ℕ × ℕ)) = c.args.l.now.levels in
     let h : ℕ = length ls - 1 in
     let n : ℕ = c.len-last.result in
@@ -106,13 +106,13 @@ next_packet-requires-clause-here g c =
     let next : List (ℕ × ℕ) = c.at-next.result.now in
     let at_here : get_or made (h - i) [] ≡ here = place_back made n (length ls) i (n - 1 - i) here c.len-last.ensures many some refl c.at-here.ensures in
     let at_next : get_or made (h - i - 1) [] ≡ next = place_next made n (length ls) i next c.len-last.ensures many some c.at-next.ensures in
-    round_here old c.loop-i.st oss c.loop-i.ss rows (first_set ls) (first_packets ls) bad ls c.args.l.now.broken h i made here next c.in_ok-start.start c.loop-i.x c.loop-i.records c.loop-i.s c.requires.rows c.requires.levels count less c.loop-i.invariant.grows c.loop-i.invariant.backs at_here at_next c.loop-i.invariant.forward
+    round_here old c.loop-i.st oss c.loop-i.ss states (first_set ls) (first_packets ls) bad ls c.args.l.now.broken h i made here next c.in_ok-start.start c.loop-i.x c.loop-i.records c.loop-i.s c.requires.states c.requires.levels count less c.loop-i.invariant.grows c.loop-i.invariant.backs at_here at_next c.loop-i.invariant.forward
 
 pub next_packet-requires-clause-next : goal.next_packet-requires-clause-next
 next_packet-requires-clause-next g c =
     let old : Held = c.args.st.now in
     let oss : List (List ℕ) = c.args.ss.now in
-    let rows : List ℕ = c.args.rows.now in
+    let states : List ℕ = c.args.states.now in
     let ls : List (List (ℕ × ℕ)) = c.args.l.now.levels in
     let h : ℕ = length ls - 1 in
     let n : ℕ = c.len-last.result in
@@ -127,7 +127,7 @@ next_packet-requires-clause-next g c =
     let next : List (ℕ × ℕ) = c.at-next.result.now in
     let at_here : get_or made (h - i) [] ≡ here = place_back made n (length ls) i (n - 1 - i) here c.len-last.ensures many some refl c.at-here.ensures in
     let at_next : get_or made (h - i - 1) [] ≡ next = place_next made n (length ls) i next c.len-last.ensures many some c.at-next.ensures in
-    round_next old c.loop-i.st oss c.loop-i.ss rows (first_set ls) (first_packets ls) bad ls c.args.l.now.broken h i made here next c.in_ok-start.start c.loop-i.x c.loop-i.records c.loop-i.s c.requires.rows c.requires.levels count less c.loop-i.invariant.grows c.loop-i.invariant.backs at_here at_next c.loop-i.invariant.forward
+    round_next old c.loop-i.st oss c.loop-i.ss states (first_set ls) (first_packets ls) bad ls c.args.l.now.broken h i made here next c.in_ok-start.start c.loop-i.x c.loop-i.records c.loop-i.s c.requires.states c.requires.levels count less c.loop-i.invariant.grows c.loop-i.invariant.backs at_here at_next c.loop-i.invariant.forward
 
 pub next_packet-requires-clause-packet : goal.next_packet-requires-clause-packet
 next_packet-requires-clause-packet g c =
@@ -137,7 +137,7 @@ pub next_packet-requires-clause-under : goal.next_packet-requires-clause-under
 next_packet-requires-clause-under g c =
     let old : Held = c.args.st.now in
     let oss : List (List ℕ) = c.args.ss.now in
-    let rows : List ℕ = c.args.rows.now in
+    let states : List ℕ = c.args.states.now in
     let ls : List (List (ℕ × ℕ)) = c.args.l.now.levels in
     let h : ℕ = length ls - 1 in
     let n : ℕ = c.len-last.result in
@@ -152,13 +152,13 @@ next_packet-requires-clause-under g c =
     let next : List (ℕ × ℕ) = c.at-next.result.now in
     let at_here : get_or made (h - i) [] ≡ here = place_back made n (length ls) i (n - 1 - i) here c.len-last.ensures many some refl c.at-here.ensures in
     let at_next : get_or made (h - i - 1) [] ≡ next = place_next made n (length ls) i next c.len-last.ensures many some c.at-next.ensures in
-    round_under old c.loop-i.st oss c.loop-i.ss rows (first_set ls) (first_packets ls) bad ls c.args.l.now.broken h i made here next c.in_ok-start.start c.loop-i.x c.loop-i.records c.loop-i.s c.requires.rows c.requires.levels count less c.loop-i.invariant.grows c.loop-i.invariant.backs at_here at_next c.loop-i.invariant.forward
+    round_under old c.loop-i.st oss c.loop-i.ss states (first_set ls) (first_packets ls) bad ls c.args.l.now.broken h i made here next c.in_ok-start.start c.loop-i.x c.loop-i.records c.loop-i.s c.requires.states c.requires.levels count less c.loop-i.invariant.grows c.loop-i.invariant.backs at_here at_next c.loop-i.invariant.forward
 
 pub next_packet-requires-clause-ahead : goal.next_packet-requires-clause-ahead
 next_packet-requires-clause-ahead g c =
     let old : Held = c.args.st.now in
     let oss : List (List ℕ) = c.args.ss.now in
-    let rows : List ℕ = c.args.rows.now in
+    let states : List ℕ = c.args.states.now in
     let ls : List (List (ℕ × ℕ)) = c.args.l.now.levels in
     let h : ℕ = length ls - 1 in
     let n : ℕ = c.len-last.result in
@@ -173,7 +173,7 @@ next_packet-requires-clause-ahead g c =
     let next : List (ℕ × ℕ) = c.at-next.result.now in
     let at_here : get_or made (h - i) [] ≡ here = place_back made n (length ls) i (n - 1 - i) here c.len-last.ensures many some refl c.at-here.ensures in
     let at_next : get_or made (h - i - 1) [] ≡ next = place_next made n (length ls) i next c.len-last.ensures many some c.at-next.ensures in
-    round_ahead old c.loop-i.st oss c.loop-i.ss rows (first_set ls) (first_packets ls) bad ls c.args.l.now.broken h i made here next c.in_ok-start.start c.loop-i.x c.loop-i.records c.loop-i.s c.requires.rows c.requires.levels count less c.loop-i.invariant.grows c.loop-i.invariant.backs at_here at_next c.loop-i.invariant.forward
+    round_ahead old c.loop-i.st oss c.loop-i.ss states (first_set ls) (first_packets ls) bad ls c.args.l.now.broken h i made here next c.in_ok-start.start c.loop-i.x c.loop-i.records c.loop-i.s c.requires.states c.requires.levels count less c.loop-i.invariant.grows c.loop-i.invariant.backs at_here at_next c.loop-i.invariant.forward
 
 pub returns-in_err-step-clause-sets : goal.returns-in_err-step-clause-sets
 returns-in_err-step-clause-sets g c =
@@ -187,7 +187,7 @@ pub loop-i-preserved : goal.loop-i-preserved
 loop-i-preserved g c =
     let old : Held = c.args.st.now in
     let oss : List (List ℕ) = c.args.ss.now in
-    let rows : List ℕ = c.args.rows.now in
+    let states : List ℕ = c.args.states.now in
     let ls : List (List (ℕ × ℕ)) = c.args.l.now.levels in
     let h : ℕ = length ls - 1 in
     let n : ℕ = c.len-last.result in
@@ -206,15 +206,15 @@ loop-i-preserved g c =
       grows = grows_on _ _ _ c.loop-i.invariant.grows c.next_packet.ensures.grows;
       sets = sets_on c.args.ss.now c.loop-i.ss c.next_packet.new.ss c.loop-i.invariant.sets c.next_packet.ensures.sets;
       fits = g.met.G.Goal.fits_on c.backs_of.new.g c.loop-i.st c.next_packet.new.st c.loop-i.invariant.fits c.next_packet.ensures.grows;
-      backs = backs_on old c.loop-i.st c.next_packet.new.st oss c.loop-i.ss c.next_packet.new.ss rows bad ls h (length ls) made c.next_packet.ensures.grows c.next_packet.ensures.sets c.loop-i.invariant.backs;
-      forward = round_on old c.loop-i.st oss c.loop-i.ss rows (first_set ls) (first_packets ls) bad ls c.args.l.now.broken h i made here next c.in_ok-start.start c.loop-i.x c.loop-i.records c.loop-i.s c.requires.rows c.requires.levels count less c.loop-i.invariant.grows c.loop-i.invariant.backs at_here at_next c.loop-i.invariant.forward c.next_packet.new.st c.next_packet.new.ss c.in_ok-step.step.1 c.in_ok-step.step.0 c.push.new.self c.next_packet.ensures.grows c.next_packet.ensures.sets c.in_ok-step.ensures.ok c.in_ok-push.ensures.ok;
+      backs = backs_on old c.loop-i.st c.next_packet.new.st oss c.loop-i.ss c.next_packet.new.ss states bad ls h (length ls) made c.next_packet.ensures.grows c.next_packet.ensures.sets c.loop-i.invariant.backs;
+      forward = round_on old c.loop-i.st oss c.loop-i.ss states (first_set ls) (first_packets ls) bad ls c.args.l.now.broken h i made here next c.in_ok-start.start c.loop-i.x c.loop-i.records c.loop-i.s c.requires.states c.requires.levels count less c.loop-i.invariant.grows c.loop-i.invariant.backs at_here at_next c.loop-i.invariant.forward c.next_packet.new.st c.next_packet.new.ss c.in_ok-step.step.1 c.in_ok-step.step.0 c.push.new.self c.next_packet.ensures.grows c.next_packet.ensures.sets c.in_ok-step.ensures.ok c.in_ok-push.ensures.ok;
     }
 
 pub last_packet-requires-clause-set : goal.last_packet-requires-clause-set
 last_packet-requires-clause-set g c =
     let old : Held = c.args.st.now in
     let oss : List (List ℕ) = c.args.ss.now in
-    let rows : List ℕ = c.args.rows.now in
+    let states : List ℕ = c.args.states.now in
     let ls : List (List (ℕ × ℕ)) = c.args.l.now.levels in
     let h : ℕ = length ls - 1 in
     let n : ℕ = c.len-last.result in
@@ -228,16 +228,16 @@ last_packet-requires-clause-set g c =
     let s : ℕ = c.loop-i.s in
     let x : List ℕ = c.loop-i.x in
     let first : List ℕ = get_or oss (first_set ls) [] in
-    let f = end_forward old c.loop-i.st c.loop-i.ss rows (first_packets ls) bad h i made first c.in_ok-start.start c.loop-i.records s x last c.loop-i.invariant.forward in
-    let b0 : IsBack old c.loop-i.st c.loop-i.ss rows bad (InLevel old oss ls h) 0 (get_or made 0 []) = back_at old c.loop-i.st oss c.loop-i.ss rows bad ls h (length ls) h 0 made c.loop-i.invariant.backs some (omega arith) in
-    let known = named_known c.loop-i.st c.loop-i.ss (length rows) (get_or made 0 []) s b0.pairs.each (under_named c.loop-i.st (get_or made 0 []) s x f.under) in
+    let f = end_forward old c.loop-i.st c.loop-i.ss states (first_packets ls) bad h i made first c.in_ok-start.start c.loop-i.records s x last c.loop-i.invariant.forward in
+    let b0 : IsBack old c.loop-i.st c.loop-i.ss states bad (InLevel old oss ls h) 0 (get_or made 0 []) = back_at old c.loop-i.st oss c.loop-i.ss states bad ls h (length ls) h 0 made c.loop-i.invariant.backs some (omega arith) in
+    let known = named_known c.loop-i.st c.loop-i.ss (length states) (get_or made 0 []) s b0.pairs.each (under_named c.loop-i.st (get_or made 0 []) s x f.under) in
     known.0
 
 pub last_packet-requires-clause-places : goal.last_packet-requires-clause-places
 last_packet-requires-clause-places g c =
     let old : Held = c.args.st.now in
     let oss : List (List ℕ) = c.args.ss.now in
-    let rows : List ℕ = c.args.rows.now in
+    let states : List ℕ = c.args.states.now in
     let ls : List (List (ℕ × ℕ)) = c.args.l.now.levels in
     let h : ℕ = length ls - 1 in
     let n : ℕ = c.len-last.result in
@@ -251,10 +251,10 @@ last_packet-requires-clause-places g c =
     let s : ℕ = c.loop-i.s in
     let x : List ℕ = c.loop-i.x in
     let first : List ℕ = get_or oss (first_set ls) [] in
-    let f = end_forward old c.loop-i.st c.loop-i.ss rows (first_packets ls) bad h i made first c.in_ok-start.start c.loop-i.records s x last c.loop-i.invariant.forward in
-    let b0 : IsBack old c.loop-i.st c.loop-i.ss rows bad (InLevel old oss ls h) 0 (get_or made 0 []) = back_at old c.loop-i.st oss c.loop-i.ss rows bad ls h (length ls) h 0 made c.loop-i.invariant.backs some (omega arith) in
-    let known = named_known c.loop-i.st c.loop-i.ss (length rows) (get_or made 0 []) s b0.pairs.each (under_named c.loop-i.st (get_or made 0 []) s x f.under) in
-    places_more (length rows) (g.G.Goal.labels c.backs_of.new.g) (get_or c.loop-i.ss s []) (omega (arith, c.requires.labels, c.in_ok-made.ensures.labels)) known.1
+    let f = end_forward old c.loop-i.st c.loop-i.ss states (first_packets ls) bad h i made first c.in_ok-start.start c.loop-i.records s x last c.loop-i.invariant.forward in
+    let b0 : IsBack old c.loop-i.st c.loop-i.ss states bad (InLevel old oss ls h) 0 (get_or made 0 []) = back_at old c.loop-i.st oss c.loop-i.ss states bad ls h (length ls) h 0 made c.loop-i.invariant.backs some (omega arith) in
+    let known = named_known c.loop-i.st c.loop-i.ss (length states) (get_or made 0 []) s b0.pairs.each (under_named c.loop-i.st (get_or made 0 []) s x f.under) in
+    places_more (length states) (g.G.Goal.labels c.backs_of.new.g) (get_or c.loop-i.ss s []) (omega (arith, c.requires.labels, c.in_ok-made.ensures.labels)) known.1
 
 pub last_packet-requires-clause-packet : goal.last_packet-requires-clause-packet
 last_packet-requires-clause-packet g c =
@@ -264,7 +264,7 @@ pub last_packet-requires-clause-bad : goal.last_packet-requires-clause-bad
 last_packet-requires-clause-bad g c =
     let old : Held = c.args.st.now in
     let oss : List (List ℕ) = c.args.ss.now in
-    let rows : List ℕ = c.args.rows.now in
+    let states : List ℕ = c.args.states.now in
     let ls : List (List (ℕ × ℕ)) = c.args.l.now.levels in
     let h : ℕ = length ls - 1 in
     let n : ℕ = c.len-last.result in
@@ -278,19 +278,19 @@ last_packet-requires-clause-bad g c =
     let s : ℕ = c.loop-i.s in
     let x : List ℕ = c.loop-i.x in
     let first : List ℕ = get_or oss (first_set ls) [] in
-    let f = end_forward old c.loop-i.st c.loop-i.ss rows (first_packets ls) bad h i made first c.in_ok-start.start c.loop-i.records s x last c.loop-i.invariant.forward in
-    let b0 : IsBack old c.loop-i.st c.loop-i.ss rows bad (InLevel old oss ls h) 0 (get_or made 0 []) = back_at old c.loop-i.st oss c.loop-i.ss rows bad ls h (length ls) h 0 made c.loop-i.invariant.backs some (omega arith) in
-    let known = named_known c.loop-i.st c.loop-i.ss (length rows) (get_or made 0 []) s b0.pairs.each (under_named c.loop-i.st (get_or made 0 []) s x f.under) in
+    let f = end_forward old c.loop-i.st c.loop-i.ss states (first_packets ls) bad h i made first c.in_ok-start.start c.loop-i.records s x last c.loop-i.invariant.forward in
+    let b0 : IsBack old c.loop-i.st c.loop-i.ss states bad (InLevel old oss ls h) 0 (get_or made 0 []) = back_at old c.loop-i.st oss c.loop-i.ss states bad ls h (length ls) h 0 made c.loop-i.invariant.backs some (omega arith) in
+    let known = named_known c.loop-i.st c.loop-i.ss (length states) (get_or made 0 []) s b0.pairs.each (under_named c.loop-i.st (get_or made 0 []) s x f.under) in
     let members : List ℕ = get_or c.loop-i.ss s [] in
     let same : g.G.Goal.bad_of c.backs_of.new.g c.loop-i.st members x ≡ bad members x =
-    c.in_ok-made.ensures.same c.loop-i.st members x ∙ g.met.G.Goal.bad_on c.args.g.now c.args.st.now c.loop-i.st members x c.requires.fits c.loop-i.invariant.grows (places_more (length rows) (g.G.Goal.labels c.args.g.now) members c.requires.labels known.1) in
-    λ z. end_bad old c.loop-i.st c.loop-i.ss rows (first_packets ls) bad (InLevel old oss ls h) h h (get_or made 0 []) first c.in_ok-start.start c.loop-i.records s x b0 f (sym same ∙ z)
+    c.in_ok-made.ensures.same c.loop-i.st members x ∙ g.met.G.Goal.bad_on c.args.g.now c.args.st.now c.loop-i.st members x c.requires.fits c.loop-i.invariant.grows (places_more (length states) (g.G.Goal.labels c.args.g.now) members c.requires.labels known.1) in
+    λ z. end_bad old c.loop-i.st c.loop-i.ss states (first_packets ls) bad (InLevel old oss ls h) h h (get_or made 0 []) first c.in_ok-start.start c.loop-i.records s x b0 f (sym same ∙ z)
 
 pub returns-clause-breaks : goal.returns-clause-breaks
 returns-clause-breaks g c =
     let old : Held = c.args.st.now in
     let oss : List (List ℕ) = c.args.ss.now in
-    let rows : List ℕ = c.args.rows.now in
+    let states : List ℕ = c.args.states.now in
     let ls : List (List (ℕ × ℕ)) = c.args.l.now.levels in
     let h : ℕ = length ls - 1 in
     let n : ℕ = c.len-last.result in
@@ -300,7 +300,7 @@ returns-clause-breaks g c =
     let count : length ls ≡ h + 1 = omega (arith, some) in
     let many : length made ≡ length ls = c.in_ok-made.ensures.count in
     let whole : List (ℕ × ℕ) = c.at-whole.result.now in
-    let b = start_back old c.backs_of.new.st oss c.backs_of.new.ss rows bad ls n made whole c.len-last.ensures many some c.at-whole.ensures c.in_ok-made.ensures.ok in
+    let b = start_back old c.backs_of.new.st oss c.backs_of.new.ss states bad ls n made whole c.len-last.ensures many some c.at-whole.ensures c.in_ok-made.ensures.ok in
     let set : ℕ = first_set ls in
     let y : List ℕ = c.in_ok-start.start in
     let p : ℕ = c.in_ok-start.ensures.0 in
@@ -310,27 +310,27 @@ returns-clause-breaks g c =
     let s : ℕ = c.loop-i.s in
     let x : List ℕ = c.loop-i.x in
     let first : List ℕ = get_or oss (first_set ls) [] in
-    let f = end_forward old c.loop-i.st c.loop-i.ss rows (first_packets ls) bad h i made first c.in_ok-start.start c.loop-i.records s x last c.loop-i.invariant.forward in
-    let b0 : IsBack old c.loop-i.st c.loop-i.ss rows bad (InLevel old oss ls h) 0 (get_or made 0 []) = back_at old c.loop-i.st oss c.loop-i.ss rows bad ls h (length ls) h 0 made c.loop-i.invariant.backs some (omega arith) in
-    let known = named_known c.loop-i.st c.loop-i.ss (length rows) (get_or made 0 []) s b0.pairs.each (under_named c.loop-i.st (get_or made 0 []) s x f.under) in
+    let f = end_forward old c.loop-i.st c.loop-i.ss states (first_packets ls) bad h i made first c.in_ok-start.start c.loop-i.records s x last c.loop-i.invariant.forward in
+    let b0 : IsBack old c.loop-i.st c.loop-i.ss states bad (InLevel old oss ls h) 0 (get_or made 0 []) = back_at old c.loop-i.st oss c.loop-i.ss states bad ls h (length ls) h 0 made c.loop-i.invariant.backs some (omega arith) in
+    let known = named_known c.loop-i.st c.loop-i.ss (length states) (get_or made 0 []) s b0.pairs.each (under_named c.loop-i.st (get_or made 0 []) s x f.under) in
     let members : List ℕ = get_or c.loop-i.ss s [] in
     let same : g.G.Goal.bad_of c.backs_of.new.g c.loop-i.st members x ≡ bad members x =
-    c.in_ok-made.ensures.same c.loop-i.st members x ∙ g.met.G.Goal.bad_on c.args.g.now c.args.st.now c.loop-i.st members x c.requires.fits c.loop-i.invariant.grows (places_more (length rows) (g.G.Goal.labels c.args.g.now) members c.requires.labels known.1) in
-    let one : IsFirst old rows first (first_packets ls) bad h c.in_ok-start.start = first_of old c.backs_of.new.st oss c.backs_of.new.ss rows (first_set ls) (first_packets ls) bad ls c.args.l.now.broken h whole p y c.requires.levels count c.backs_of.ensures.grows c.backs_of.ensures.sets c.in_ok-made.ensures.differ b found c.in_ok-start.ensures.2 in
+    c.in_ok-made.ensures.same c.loop-i.st members x ∙ g.met.G.Goal.bad_on c.args.g.now c.args.st.now c.loop-i.st members x c.requires.fits c.loop-i.invariant.grows (places_more (length states) (g.G.Goal.labels c.args.g.now) members c.requires.labels known.1) in
+    let one : IsFirst old states first (first_packets ls) bad h c.in_ok-start.start = first_of old c.backs_of.new.st oss c.backs_of.new.ss states (first_set ls) (first_packets ls) bad ls c.args.l.now.broken h whole p y c.requires.levels count c.backs_of.ensures.grows c.backs_of.ensures.sets c.in_ok-made.ensures.differ b found c.in_ok-start.ensures.2 in
     let best = c.in_ok-end.ensures.ok in
-    let gr = greedy_of old c.loop-i.st c.loop-i.ss rows (first_packets ls) bad h (get_or made 0 []) first c.in_ok-start.start c.loop-i.records s x (g.G.Goal.bad_of c.backs_of.new.g c.loop-i.st members x) c.in_ok-end.end one f same best in
+    let gr = greedy_of old c.loop-i.st c.loop-i.ss states (first_packets ls) bad h (get_or made 0 []) first c.in_ok-start.start c.loop-i.records s x (g.G.Goal.bad_of c.backs_of.new.g c.loop-i.st members x) c.in_ok-end.end one f same best in
     let has : List Out = g.G.Goal.bad_of c.backs_of.new.g c.loop-i.st members x in
     let sided = best_sided x has c.in_ok-end.end best (g.met.G.Goal.sided c.backs_of.new.g c.loop-i.st members x best.out c.loop-i.invariant.fits f.packet.0 best.among) in
     let told : c.in_ok-end.end.target ≡ target_of c.side_of.result = target_told c.side_of.result c.in_ok-end.end.target c.side_of.ensures.left c.side_of.ensures.right sided in
     let found : Found = record { start = c.in_ok-start.start; records = c.loop-i.records; last = c.in_ok-end.end.packet } in
-    subst (λ (t : ℕ). IsBreak old rows first (first_packets ls) bad t found) told
-    (greedy_breaks old rows first (first_packets ls) bad h found (members, x) c.in_ok-end.end.target gr)
+    subst (λ (t : ℕ). IsBreak old states first (first_packets ls) bad t found) told
+    (greedy_breaks old states first (first_packets ls) bad h found (members, x) c.in_ok-end.end.target gr)
 
 pub returns-clause-least : goal.returns-clause-least
 returns-clause-least g c =
     let old : Held = c.args.st.now in
     let oss : List (List ℕ) = c.args.ss.now in
-    let rows : List ℕ = c.args.rows.now in
+    let states : List ℕ = c.args.states.now in
     let ls : List (List (ℕ × ℕ)) = c.args.l.now.levels in
     let h : ℕ = length ls - 1 in
     let n : ℕ = c.len-last.result in
@@ -340,7 +340,7 @@ returns-clause-least g c =
     let count : length ls ≡ h + 1 = omega (arith, some) in
     let many : length made ≡ length ls = c.in_ok-made.ensures.count in
     let whole : List (ℕ × ℕ) = c.at-whole.result.now in
-    let b = start_back old c.backs_of.new.st oss c.backs_of.new.ss rows bad ls n made whole c.len-last.ensures many some c.at-whole.ensures c.in_ok-made.ensures.ok in
+    let b = start_back old c.backs_of.new.st oss c.backs_of.new.ss states bad ls n made whole c.len-last.ensures many some c.at-whole.ensures c.in_ok-made.ensures.ok in
     let set : ℕ = first_set ls in
     let y : List ℕ = c.in_ok-start.start in
     let p : ℕ = c.in_ok-start.ensures.0 in
@@ -350,22 +350,22 @@ returns-clause-least g c =
     let s : ℕ = c.loop-i.s in
     let x : List ℕ = c.loop-i.x in
     let first : List ℕ = get_or oss (first_set ls) [] in
-    let f = end_forward old c.loop-i.st c.loop-i.ss rows (first_packets ls) bad h i made first c.in_ok-start.start c.loop-i.records s x last c.loop-i.invariant.forward in
-    let b0 : IsBack old c.loop-i.st c.loop-i.ss rows bad (InLevel old oss ls h) 0 (get_or made 0 []) = back_at old c.loop-i.st oss c.loop-i.ss rows bad ls h (length ls) h 0 made c.loop-i.invariant.backs some (omega arith) in
-    let known = named_known c.loop-i.st c.loop-i.ss (length rows) (get_or made 0 []) s b0.pairs.each (under_named c.loop-i.st (get_or made 0 []) s x f.under) in
+    let f = end_forward old c.loop-i.st c.loop-i.ss states (first_packets ls) bad h i made first c.in_ok-start.start c.loop-i.records s x last c.loop-i.invariant.forward in
+    let b0 : IsBack old c.loop-i.st c.loop-i.ss states bad (InLevel old oss ls h) 0 (get_or made 0 []) = back_at old c.loop-i.st oss c.loop-i.ss states bad ls h (length ls) h 0 made c.loop-i.invariant.backs some (omega arith) in
+    let known = named_known c.loop-i.st c.loop-i.ss (length states) (get_or made 0 []) s b0.pairs.each (under_named c.loop-i.st (get_or made 0 []) s x f.under) in
     let members : List ℕ = get_or c.loop-i.ss s [] in
     let same : g.G.Goal.bad_of c.backs_of.new.g c.loop-i.st members x ≡ bad members x =
-    c.in_ok-made.ensures.same c.loop-i.st members x ∙ g.met.G.Goal.bad_on c.args.g.now c.args.st.now c.loop-i.st members x c.requires.fits c.loop-i.invariant.grows (places_more (length rows) (g.G.Goal.labels c.args.g.now) members c.requires.labels known.1) in
-    let one : IsFirst old rows first (first_packets ls) bad h c.in_ok-start.start = first_of old c.backs_of.new.st oss c.backs_of.new.ss rows (first_set ls) (first_packets ls) bad ls c.args.l.now.broken h whole p y c.requires.levels count c.backs_of.ensures.grows c.backs_of.ensures.sets c.in_ok-made.ensures.differ b found c.in_ok-start.ensures.2 in
+    c.in_ok-made.ensures.same c.loop-i.st members x ∙ g.met.G.Goal.bad_on c.args.g.now c.args.st.now c.loop-i.st members x c.requires.fits c.loop-i.invariant.grows (places_more (length states) (g.G.Goal.labels c.args.g.now) members c.requires.labels known.1) in
+    let one : IsFirst old states first (first_packets ls) bad h c.in_ok-start.start = first_of old c.backs_of.new.st oss c.backs_of.new.ss states (first_set ls) (first_packets ls) bad ls c.args.l.now.broken h whole p y c.requires.levels count c.backs_of.ensures.grows c.backs_of.ensures.sets c.in_ok-made.ensures.differ b found c.in_ok-start.ensures.2 in
     let best = c.in_ok-end.ensures.ok in
-    let gr = greedy_of old c.loop-i.st c.loop-i.ss rows (first_packets ls) bad h (get_or made 0 []) first c.in_ok-start.start c.loop-i.records s x (g.G.Goal.bad_of c.backs_of.new.g c.loop-i.st members x) c.in_ok-end.end one f same best in
-    least_of old oss rows (first_set ls) (first_packets ls) bad ls c.args.l.now.broken h (record { start = c.in_ok-start.start; records = c.loop-i.records; last = c.in_ok-end.end.packet }) (members, x) c.in_ok-end.end.target c.requires.levels count gr
+    let gr = greedy_of old c.loop-i.st c.loop-i.ss states (first_packets ls) bad h (get_or made 0 []) first c.in_ok-start.start c.loop-i.records s x (g.G.Goal.bad_of c.backs_of.new.g c.loop-i.st members x) c.in_ok-end.end one f same best in
+    least_of old oss states (first_set ls) (first_packets ls) bad ls c.args.l.now.broken h (record { start = c.in_ok-start.start; records = c.loop-i.records; last = c.in_ok-end.end.packet }) (members, x) c.in_ok-end.end.target c.requires.levels count gr
 
 pub returns-clause-left : goal.returns-clause-left
 returns-clause-left g c = λ w.
     let old : Held = c.args.st.now in
     let oss : List (List ℕ) = c.args.ss.now in
-    let rows : List ℕ = c.args.rows.now in
+    let states : List ℕ = c.args.states.now in
     let ls : List (List (ℕ × ℕ)) = c.args.l.now.levels in
     let h : ℕ = length ls - 1 in
     let n : ℕ = c.len-last.result in
@@ -375,7 +375,7 @@ returns-clause-left g c = λ w.
     let count : length ls ≡ h + 1 = omega (arith, some) in
     let many : length made ≡ length ls = c.in_ok-made.ensures.count in
     let whole : List (ℕ × ℕ) = c.at-whole.result.now in
-    let b = start_back old c.backs_of.new.st oss c.backs_of.new.ss rows bad ls n made whole c.len-last.ensures many some c.at-whole.ensures c.in_ok-made.ensures.ok in
+    let b = start_back old c.backs_of.new.st oss c.backs_of.new.ss states bad ls n made whole c.len-last.ensures many some c.at-whole.ensures c.in_ok-made.ensures.ok in
     let set : ℕ = first_set ls in
     let y : List ℕ = c.in_ok-start.start in
     let p : ℕ = c.in_ok-start.ensures.0 in
@@ -385,17 +385,17 @@ returns-clause-left g c = λ w.
     let s : ℕ = c.loop-i.s in
     let x : List ℕ = c.loop-i.x in
     let first : List ℕ = get_or oss (first_set ls) [] in
-    let f = end_forward old c.loop-i.st c.loop-i.ss rows (first_packets ls) bad h i made first c.in_ok-start.start c.loop-i.records s x last c.loop-i.invariant.forward in
-    let b0 : IsBack old c.loop-i.st c.loop-i.ss rows bad (InLevel old oss ls h) 0 (get_or made 0 []) = back_at old c.loop-i.st oss c.loop-i.ss rows bad ls h (length ls) h 0 made c.loop-i.invariant.backs some (omega arith) in
-    let known = named_known c.loop-i.st c.loop-i.ss (length rows) (get_or made 0 []) s b0.pairs.each (under_named c.loop-i.st (get_or made 0 []) s x f.under) in
+    let f = end_forward old c.loop-i.st c.loop-i.ss states (first_packets ls) bad h i made first c.in_ok-start.start c.loop-i.records s x last c.loop-i.invariant.forward in
+    let b0 : IsBack old c.loop-i.st c.loop-i.ss states bad (InLevel old oss ls h) 0 (get_or made 0 []) = back_at old c.loop-i.st oss c.loop-i.ss states bad ls h (length ls) h 0 made c.loop-i.invariant.backs some (omega arith) in
+    let known = named_known c.loop-i.st c.loop-i.ss (length states) (get_or made 0 []) s b0.pairs.each (under_named c.loop-i.st (get_or made 0 []) s x f.under) in
     let members : List ℕ = get_or c.loop-i.ss s [] in
     let same : g.G.Goal.bad_of c.backs_of.new.g c.loop-i.st members x ≡ bad members x =
-    c.in_ok-made.ensures.same c.loop-i.st members x ∙ g.met.G.Goal.bad_on c.args.g.now c.args.st.now c.loop-i.st members x c.requires.fits c.loop-i.invariant.grows (places_more (length rows) (g.G.Goal.labels c.args.g.now) members c.requires.labels known.1) in
-    let one : IsFirst old rows first (first_packets ls) bad h c.in_ok-start.start = first_of old c.backs_of.new.st oss c.backs_of.new.ss rows (first_set ls) (first_packets ls) bad ls c.args.l.now.broken h whole p y c.requires.levels count c.backs_of.ensures.grows c.backs_of.ensures.sets c.in_ok-made.ensures.differ b found c.in_ok-start.ensures.2 in
+    c.in_ok-made.ensures.same c.loop-i.st members x ∙ g.met.G.Goal.bad_on c.args.g.now c.args.st.now c.loop-i.st members x c.requires.fits c.loop-i.invariant.grows (places_more (length states) (g.G.Goal.labels c.args.g.now) members c.requires.labels known.1) in
+    let one : IsFirst old states first (first_packets ls) bad h c.in_ok-start.start = first_of old c.backs_of.new.st oss c.backs_of.new.ss states (first_set ls) (first_packets ls) bad ls c.args.l.now.broken h whole p y c.requires.levels count c.backs_of.ensures.grows c.backs_of.ensures.sets c.in_ok-made.ensures.differ b found c.in_ok-start.ensures.2 in
     let best = c.in_ok-end.ensures.ok in
-    let gr = greedy_of old c.loop-i.st c.loop-i.ss rows (first_packets ls) bad h (get_or made 0 []) first c.in_ok-start.start c.loop-i.records s x (g.G.Goal.bad_of c.backs_of.new.g c.loop-i.st members x) c.in_ok-end.end one f same best in
+    let gr = greedy_of old c.loop-i.st c.loop-i.ss states (first_packets ls) bad h (get_or made 0 []) first c.in_ok-start.start c.loop-i.records s x (g.G.Goal.bad_of c.backs_of.new.g c.loop-i.st members x) c.in_ok-end.end one f same best in
     let z : c.in_ok-end.end.target ≡ 0 =
-    left_first old rows first (first_packets ls) bad h (record { start = c.in_ok-start.start; records = c.loop-i.records; last = c.in_ok-end.end.packet }) (members, x) c.in_ok-end.end.target (g.G.Goal.bad_of c.backs_of.new.g c.loop-i.st members x) c.in_ok-end.end gr same best refl w in
+    left_first old states first (first_packets ls) bad h (record { start = c.in_ok-start.start; records = c.loop-i.records; last = c.in_ok-end.end.packet }) (members, x) c.in_ok-end.end.target (g.G.Goal.bad_of c.backs_of.new.g c.loop-i.st members x) c.in_ok-end.end gr same best refl w in
     c.side_of.ensures.left z
 
 pub returns-clause-range : goal.returns-clause-range

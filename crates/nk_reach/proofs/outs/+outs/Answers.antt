@@ -3,18 +3,18 @@ use Rattle.nk_store.proofs.Stores.{grows_on}
 use Rattle.nk_algebra.proofs.MadeOf.{on_any}
 use Rattle.nk_algebra.proofs.Turned.{set_within}
 use Rattle.nk_reach.specs.Outs.{IsUpTo}
-use Rattle.nk_reach.proofs.ByOut.{rows_on, rows_put, up_to_found, up_to_all}
+use Rattle.nk_reach.proofs.ByOut.{kept_on, kept_put, up_to_found, up_to_all}
 use Rattle.nk_reach.proofs.outs.+outs.Goals as goal
 
 pub visit-returns-clause-seen : goal.visit-returns-clause-seen
 visit-returns-clause-seen t c =
-    rows_put c.outs_new.new.st c.args.d c.in_ok-made.made c.outs_new.new.seen.entries c.insert.new.self.entries c.in_ok-made.ensures.seen c.in_ok-made.ensures.ok (λ q. c.in_ok-insert.ensures.updates.0 q)
+    kept_put c.outs_new.new.st c.args.d c.in_ok-made.made c.outs_new.new.seen.entries c.insert.new.self.entries c.in_ok-made.ensures.seen c.in_ok-made.ensures.ok (λ q. c.in_ok-insert.ensures.updates.0 q)
 
 pub outs_new-returns-in-None-clause-seen : goal.outs_new-returns-in-None-clause-seen
-outs_new-returns-in-None-clause-seen t c = on_any c.outs_of_leaf.result _ (rows_on c.args.st.now c.outs_of_leaf.new.st c.args.seen.now.entries c.outs_of_leaf.ensures.grows c.requires.seen)
+outs_new-returns-in-None-clause-seen t c = on_any c.outs_of_leaf.result _ (kept_on c.args.st.now c.outs_of_leaf.new.st c.args.seen.now.entries c.outs_of_leaf.ensures.grows c.requires.seen)
 
 pub outs_of_case-returns-clause-seen : goal.outs_of_case-returns-clause-seen
-outs_of_case-returns-clause-seen t c = on_any c.grouped.result _ (rows_on c.outs_of_parts.new.st c.grouped.new.st c.outs_of_parts.new.seen.entries c.grouped.ensures.grows c.in_ok-all.ensures.seen)
+outs_of_case-returns-clause-seen t c = on_any c.grouped.result _ (kept_on c.outs_of_parts.new.st c.grouped.new.st c.outs_of_parts.new.seen.entries c.grouped.ensures.grows c.in_ok-all.ensures.seen)
 
 pub outs_of_parts-returns-then-end-max-clause-ok : goal.outs_of_parts-returns-then-end-max-clause-ok
 outs_of_parts-returns-then-end-max-clause-ok t c =

@@ -5,35 +5,35 @@ use Rattle.nk_sets.proofs.SetLemmas.{set_grows}
 use Rattle.nk_determ.proofs.Interned.{sets_on}
 use Rattle.nk_reach.specs.Pairs.{HavePlaces, IsPair}
 use Rattle.nk_reach.proofs.Kept.{each_at}
-use Rattle.nk_reach.proofs.Growing.{sets_same, sets_known, rows_grow, pairs_on, each_weaker}
+use Rattle.nk_reach.proofs.Growing.{sets_same, sets_known, states_grow, pairs_on, each_weaker}
 use Rattle.nk_reach.proofs.Adding.{take_more, take_whole}
 use Rattle.nk_reach.specs.Pulls.{IsPulledSoFar}
 use Rattle.nk_reach.proofs.Pulling.{pulled_so_far_push}
 use Rattle.nk_reach.proofs.pull.pull_level.Goals as goal
 
-pub pull_pair-requires-clause-rows : goal.pull_pair-requires-clause-rows
-pull_pair-requires-clause-rows c = rows_grow c.args.st.now c.loop-k.st c.args.rows.now c.loop-k.invariant.grows c.requires.rows
+pub pull_pair-requires-clause-states : goal.pull_pair-requires-clause-states
+pull_pair-requires-clause-states c = states_grow c.args.st.now c.loop-k.st c.args.states.now c.loop-k.invariant.grows c.requires.states
 
 pub pull_pair-requires-clause-set : goal.pull_pair-requires-clause-set
 pull_pair-requires-clause-set c =
     let l : c.loop-k.k < length c.args.level.now = omega (arith, c.loop-k-test.true, c.len-k-end.ensures) in
     sets_known c.args.ss.now c.loop-k.ss c.at.result.now.0 c.loop-k.invariant.sets
-    (each_at (IsPair c.args.st.now c.args.ss.now (length c.args.rows.now)) c.args.level.now c.loop-k.k c.at.result.now c.requires.level.each l c.at.ensures).known
+    (each_at (IsPair c.args.st.now c.args.ss.now (length c.args.states.now)) c.args.level.now c.loop-k.k c.at.result.now c.requires.level.each l c.at.ensures).known
 
 pub pull_pair-requires-clause-places : goal.pull_pair-requires-clause-places
 pull_pair-requires-clause-places c =
     let l : c.loop-k.k < length c.args.level.now = omega (arith, c.loop-k-test.true, c.len-k-end.ensures) in
-    let p = each_at (IsPair c.args.st.now c.args.ss.now (length c.args.rows.now)) c.args.level.now c.loop-k.k c.at.result.now c.requires.level.each l c.at.ensures in
-    subst (HavePlaces (length c.args.rows.now)) (sym (sets_same c.args.ss.now c.loop-k.ss c.at.result.now.0 c.loop-k.invariant.sets p.known)) p.places
+    let p = each_at (IsPair c.args.st.now c.args.ss.now (length c.args.states.now)) c.args.level.now c.loop-k.k c.at.result.now c.requires.level.each l c.at.ensures in
+    subst (HavePlaces (length c.args.states.now)) (sym (sets_same c.args.ss.now c.loop-k.ss c.at.result.now.0 c.loop-k.invariant.sets p.known)) p.places
 
 pub pull_pair-requires-clause-packets : goal.pull_pair-requires-clause-packets
 pull_pair-requires-clause-packets c =
     let l : c.loop-k.k < length c.args.level.now = omega (arith, c.loop-k-test.true, c.len-k-end.ensures) in
     set_grows c.args.st.now c.loop-k.st c.at.result.now.1 c.loop-k.invariant.grows
-    (each_at (IsPair c.args.st.now c.args.ss.now (length c.args.rows.now)) c.args.level.now c.loop-k.k c.at.result.now c.requires.level.each l c.at.ensures).packets
+    (each_at (IsPair c.args.st.now c.args.ss.now (length c.args.states.now)) c.args.level.now c.loop-k.k c.at.result.now c.requires.level.each l c.at.ensures).packets
 
 pub pull_pair-requires-clause-next : goal.pull_pair-requires-clause-next
-pull_pair-requires-clause-next c = pairs_on c.args.st.now c.loop-k.st c.args.ss.now c.loop-k.ss (length c.args.rows.now) c.args.next.now c.loop-k.invariant.grows c.loop-k.invariant.sets c.requires.next
+pull_pair-requires-clause-next c = pairs_on c.args.st.now c.loop-k.st c.args.ss.now c.loop-k.ss (length c.args.states.now) c.args.next.now c.loop-k.invariant.grows c.loop-k.invariant.sets c.requires.next
 
 pub add-requires-clause-pairs : goal.add-requires-clause-pairs
 add-requires-clause-pairs c =
@@ -48,18 +48,18 @@ loop-k-preserved c =
     record {
       grows = grows_on _ _ _ c.loop-k.invariant.grows (grows_on _ _ _ c.pull_pair.ensures.grows c.add.ensures.grows);
       sets = sets_on _ _ _ c.loop-k.invariant.sets c.pull_pair.ensures.sets;
-      made = subst (λ q. IsPulledSoFar c.args.st.now c.args.ss.now c.args.rows.now c.args.next.now q c.add.new.st c.add.new.pairs.entries) (sym (take_more c.args.level.now c.loop-k.k c.at.result.now l c.at.ensures))
-          (pulled_so_far_push c.args.st.now c.loop-k.st c.pull_pair.new.st c.add.new.st c.args.ss.now c.loop-k.ss c.args.rows.now c.args.next.now (take c.loop-k.k c.args.level.now) c.loop-k.back.entries c.add.new.pairs.entries c.at.result.now c.in_ok-led.led
-          c.requires.rows c.loop-k.invariant.made c.loop-k.invariant.grows c.loop-k.invariant.sets c.pull_pair.ensures.grows c.requires.next
-          (each_at (IsPair c.args.st.now c.args.ss.now (length c.args.rows.now)) c.args.level.now c.loop-k.k c.at.result.now c.requires.level.each l c.at.ensures)
+      made = subst (λ q. IsPulledSoFar c.args.st.now c.args.ss.now c.args.states.now c.args.next.now q c.add.new.st c.add.new.pairs.entries) (sym (take_more c.args.level.now c.loop-k.k c.at.result.now l c.at.ensures))
+          (pulled_so_far_push c.args.st.now c.loop-k.st c.pull_pair.new.st c.add.new.st c.args.ss.now c.loop-k.ss c.args.states.now c.args.next.now (take c.loop-k.k c.args.level.now) c.loop-k.back.entries c.add.new.pairs.entries c.at.result.now c.in_ok-led.led
+          c.requires.states c.loop-k.invariant.made c.loop-k.invariant.grows c.loop-k.invariant.sets c.pull_pair.ensures.grows c.requires.next
+          (each_at (IsPair c.args.st.now c.args.ss.now (length c.args.states.now)) c.args.level.now c.loop-k.k c.at.result.now c.requires.level.each l c.at.ensures)
           c.in_ok-led.ensures.ok c.in_ok-add.ensures.ok);
     }
 
 pub returns-clause-ok : goal.returns-clause-ok
 returns-clause-ok c =
     let whole : take c.loop-k.k c.args.level.now ≡ c.args.level.now = take_whole c.args.level.now c.loop-k.k (omega (arith, c.loop-k-test.false, c.len-k-end.ensures)) in
-    subst (λ b. IsPulledSoFar c.args.st.now c.args.ss.now c.args.rows.now c.args.next.now c.args.level.now c.loop-k.st b) (sym c.new-done.ensures)
-    (subst (λ q. IsPulledSoFar c.args.st.now c.args.ss.now c.args.rows.now c.args.next.now q c.loop-k.st c.loop-k.back.entries) whole c.loop-k.invariant.made)
+    subst (λ b. IsPulledSoFar c.args.st.now c.args.ss.now c.args.states.now c.args.next.now c.args.level.now c.loop-k.st b) (sym c.new-done.ensures)
+    (subst (λ q. IsPulledSoFar c.args.st.now c.args.ss.now c.args.states.now c.args.next.now q c.loop-k.st c.loop-k.back.entries) whole c.loop-k.invariant.made)
 
 pub returns-in_err-add-clause-sets : goal.returns-in_err-add-clause-sets
 returns-in_err-add-clause-sets c = sets_on c.args.ss.now c.loop-k.ss c.pull_pair.new.ss c.loop-k.invariant.sets c.pull_pair.ensures.sets

@@ -8,5 +8,5 @@ abbrev pub invariant-loop-k : goal.invariant-loop-k
 invariant-loop-k l = record {
   grows : Grows l.fn.st l.st;
   sets : SetsGrow l.fn.ss l.ss;
-  made : IsPulledSoFar l.fn.st l.fn.ss l.rows l.next (take l.k l.level) l.st l.back.entries;
+  made : IsPulledSoFar l.fn.st l.fn.ss l.states l.next (take l.k l.level) l.st l.back.entries;
 }

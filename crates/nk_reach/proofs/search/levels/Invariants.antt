@@ -9,8 +9,8 @@ invariant-loop-all g l = record {
   fits : g.G.Goal.fits l.g l.st;
   labels : g.G.Goal.labels l.g ≡ g.G.Goal.labels l.fn.g;
   same : (st : Held) (set pk : List ℕ) → g.G.Goal.bad_of l.g st set pk ≡ g.G.Goal.bad_of l.fn.g st set pk;
-  going : (h : ℕ) × Going l.fn.st l.fn.ss l.st l.ss l.rows l.fn.s l.fn.start (g.G.Goal.bad_of l.fn.g l.fn.st) l.met.entries l.all h;
+  going : (h : ℕ) × Going l.fn.st l.fn.ss l.st l.ss l.states l.fn.s l.fn.start (g.G.Goal.bad_of l.fn.g l.fn.st) l.met.entries l.all h;
 }
 
 abbrev pub decreases-loop-all : goal.decreases-loop-all
-decreases-loop-all g l = length (all_nodes l.fn.st.maxes (length l.rows)) + 1 - length l.all
+decreases-loop-all g l = length (all_nodes l.fn.st.maxes (length l.states)) + 1 - length l.all

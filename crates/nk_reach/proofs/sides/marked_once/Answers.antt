@@ -3,9 +3,9 @@ use Rattle.nk_reach.proofs.OneSided.{marks_put}
 use Rattle.nk_reach.proofs.sides.marked_once.Goals as goal
 
 pub returns-in-Some-clause-ok : goal.returns-in-Some-clause-ok
-returns-in-Some-clause-ok c = (c.requires.made c.args.row c.in-Some.r (sym c.known.ensures ∙ c.in-Some.is)).leaves
+returns-in-Some-clause-ok c = (c.requires.made c.args.state c.in-Some.r (sym c.known.ensures ∙ c.in-Some.is)).leaves
 
 pub returns-clause-made : goal.returns-clause-made
 returns-clause-made c =
-    marks_put c.args.st.now c.marked_ends.new.st c.args.mark c.args.row c.in_ok-r.r c.args.made.now.entries c.insert.new.self.entries
-    c.marked_ends.ensures.grows c.requires.row c.requires.made c.in_ok-r.ensures.ok (λ q. c.in_ok-insert.ensures.updates.0 q)
+    marks_put c.args.st.now c.marked_ends.new.st c.args.mark c.args.state c.in_ok-r.r c.args.made.now.entries c.insert.new.self.entries
+    c.marked_ends.ensures.grows c.requires.state c.requires.made c.in_ok-r.ensures.ok (λ q. c.in_ok-insert.ensures.updates.0 q)

@@ -6,7 +6,7 @@ use Rattle.nk_sets.specs.PacketSets.{IsSet}
 use Rattle.nk_sets.proofs.Cases.{at_none, other_than, case_sets}
 use Rattle.nk_store.proofs.Children.{item_has}
 use Rattle.nk_sets.proofs.SetLemmas.{on_any, both_ok, set_grows}
-use Rattle.nk_sets.proofs.Forgetting.{rows_grow, rows_put, stays, Made, made_more, made_parts, parts_forgotten}
+use Rattle.nk_sets.proofs.Forgetting.{entries_grow, entries_put, stays, Made, made_more, made_parts, parts_forgotten}
 use Rattle.nk_sets.proofs.forgets.+forget.Goals as goal
 
 pub forget_new-returns-in-None-clause-ok : goal.forget_new-returns-in-None-clause-ok
@@ -28,11 +28,11 @@ forget_once-returns-in-Some-clause-ok t c = c.requires.seen c.args.s c.in-Some.r
 
 pub forget_case-returns-then-eq-clause-seen : goal.forget_case-returns-then-eq-clause-seen
 forget_case-returns-then-eq-clause-seen t c =
-    on_any c.forget_here.result _ (rows_grow c.args.st.now c.forget_here.new.st c.args.f c.args.seen.now.entries c.forget_here.ensures.grows c.requires.seen)
+    on_any c.forget_here.result _ (entries_grow c.args.st.now c.forget_here.new.st c.args.f c.args.seen.now.entries c.forget_here.ensures.grows c.requires.seen)
 
 pub forget_once-returns-clause-seen : goal.forget_once-returns-clause-seen
 forget_once-returns-clause-seen t c =
-    rows_put c.forget_new.new.st c.args.f c.args.s c.in_ok-r.r c.forget_new.new.seen.entries c.insert.new.self.entries c.in_ok-r.ensures.seen c.in_ok-r.ensures.ok (λ q. c.in_ok-insert.ensures.updates.0 q)
+    entries_put c.forget_new.new.st c.args.f c.args.s c.in_ok-r.r c.forget_new.new.seen.entries c.insert.new.self.entries c.in_ok-r.ensures.seen c.in_ok-r.ensures.ok (λ q. c.in_ok-insert.ensures.updates.0 q)
 
 pub forget_parts-forget_once-requires : goal.forget_parts-forget_once-requires
 forget_parts-forget_once-requires t c =
@@ -63,4 +63,4 @@ forget_parts-returns-clause-ok t c =
 
 pub forget_parts-returns-clause-seen : goal.forget_parts-returns-clause-seen
 forget_parts-returns-clause-seen t c =
-    on_any c.case.result _ (rows_grow c.loop-end.st c.case.new.self c.args.f c.loop-end.seen.entries c.case.ensures.grows c.loop-end.invariant.seen)
+    on_any c.case.result _ (entries_grow c.loop-end.st c.case.new.self c.args.f c.loop-end.seen.entries c.case.ensures.grows c.loop-end.invariant.seen)

@@ -11,7 +11,7 @@ use Rattle.nk_switches.proofs.switches.switch_tables.Goals as goal
 
 pub all_states-requires-clause-places : goal.all_states-requires-clause-places
 all_states-requires-clause-places c = λ k d lt.
-    stop_places c.args.st.now c.args.ss.now c.args.rows.now c.args.tags.now c.requires.frame.0 _ (c.requires.stops c.requires.frame.0 c.requires.frame.1 k d lt)
+    stop_places c.args.st.now c.args.ss.now c.args.states.now c.args.tags.now c.requires.frame.0 _ (c.requires.stops c.requires.frame.0 c.requires.frame.1 k d lt)
 
 pub all_tables-requires-clause-frame : goal.all_tables-requires-clause-frame
 all_tables-requires-clause-frame c =
@@ -23,14 +23,14 @@ all_tables-requires-clause-printable c = λ tag is.
     let before = sym c.all_states.ensures.grows.tag ∙ is in
     let past = subst (λ f. 2 ≤ f) (same_some c.requires.frame.0 tag (sym c.requires.frame.1 ∙ before)) c.requires.frame.2.past_port in
     subst (All (ArePrintableStates c.all_states.new.st tag)) (sym c.as_slice-2.ensures)
-    (all_printable c.args.st.now c.all_states.new.st c.args.ss.now c.all_states.new.ss c.args.rows.now c.args.tags.now tag c.all_states.ensures.grows c.all_states.ensures.sets c.requires.rows c.requires.known
-    c.differ.ensures.differ c.differ.ensures.ascend past c.laws.ensures.tidy c.args.stops.now c.in_ok-states.states (c.requires.stops tag before) c.in_ok-states.ensures.states)
+    (all_printable c.args.st.now c.all_states.new.st c.args.ss.now c.all_states.new.ss c.args.states.now c.args.tags.now tag c.all_states.ensures.grows c.all_states.ensures.sets c.requires.states c.requires.known
+    c.differ.ensures.differ c.differ.ensures.ascend past c.laws.ensures.tidy c.args.stops.now c.in_ok-tag_states.tag_states (c.requires.stops tag before) c.in_ok-tag_states.ensures.tag_states)
 
 pub returns : goal.returns
 returns c = IfOk-weaker c.all_tables.result _ _ (λ ts k tag is.
-    tables_are c.args.st.now c.all_states.new.st c.args.ss.now c.all_states.new.ss c.args.rows.now c.args.tags.now tag c.all_states.ensures.grows c.all_states.ensures.sets c.requires.rows c.requires.known
+    tables_are c.args.st.now c.all_states.new.st c.args.ss.now c.all_states.new.ss c.args.states.now c.args.tags.now tag c.all_states.ensures.grows c.all_states.ensures.sets c.requires.states c.requires.known
     c.differ.ensures.differ c.differ.ensures.ascend c.as_slice.result.now
     (subst (IsTagTable (length c.args.tags.now) c.args.tags.now) (sym c.as_slice.ensures) c.in_ok-table.ensures)
     c.args.stops.now c.as_slice-2.result.now ts (c.requires.stops tag is)
-    (subst (Matched (AreStatesAt c.all_states.new.st c.all_states.new.ss c.args.rows.now c.args.tags.now) c.args.stops.now) (sym c.as_slice-2.ensures) c.in_ok-states.ensures.states)
+    (subst (Matched (AreStatesAt c.all_states.new.st c.all_states.new.ss c.args.states.now c.args.tags.now) c.args.stops.now) (sym c.as_slice-2.ensures) c.in_ok-tag_states.ensures.tag_states)
     (k tag (c.all_states.ensures.grows.tag ∙ is))) c.all_tables.ensures.tables

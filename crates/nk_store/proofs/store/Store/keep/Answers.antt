@@ -1,6 +1,6 @@
 use Rattle.std.proofs.Common.{sym, subst}
 use Rattle.nk_store.specs.Held.{Held}
-use Rattle.nk_store.specs.Rows.{IsAnswer, key_of}
+use Rattle.nk_store.specs.KeptAnswers.{IsAnswer, key_of}
 use Rattle.nk_store.proofs.Kept.{answers_after}
 use Rattle.nk_store.proofs.store.Store.keep.Goals as goal
 

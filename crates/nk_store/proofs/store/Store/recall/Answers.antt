@@ -1,6 +1,6 @@
 use Rattle.std.proofs.Common.{subst}
 use Rattle.nk_store.specs.Held.{Held}
-use Rattle.nk_store.specs.Rows.{AreAnswers, key_of}
+use Rattle.nk_store.specs.KeptAnswers.{AreAnswers, key_of}
 use Rattle.nk_store.proofs.Kept.{recalled}
 use Rattle.nk_store.proofs.store.Store.recall.Goals as goal
 

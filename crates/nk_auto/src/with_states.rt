@@ -1,0 +1,266 @@
+//! The states of a policy's dups: what is left after each of them, continued by a diagram.
+ghost use Rattle.std.specs.Prelude.{◌≡◌, ℕ, ◌+◌, ◌-◌, ◌<◌, ◌≤◌, ◌∷◌, [], IfOk, OnOk, length, slice_set};
+ghost use Rattle.nk_policy.specs.Policy.{sum_of, seq_of, star_of, dup, link};
+ghost use Rattle.nk_policy.specs.Tree.{tree_of, trees_of};
+ghost use Rattle.nk_store.specs.Held.{IsId, Grows};
+ghost use Rattle.nk_auto.specs.Continued.{IsContinued, AreWritten, IsPut};
+
+use crate::going_on::{
+    after_not, after_predicate, after_range, after_set, after_test, before_dup, continued_star,
+    is_predicate_sum, link_rest, link_start,
+};
+use nk_algebra::union_all;
+use nk_field::List;
+use nk_policy::{Pol, dups};
+use nk_store::{Id, Store};
+use std::alloc::AllocError;
+
+/// The same diagram as that of `continued`, in the same pass from the right; meanwhile the state of each dup of the policy
+/// is written, where it has a place. The state of the dup l stands at the place l - base, and becomes the diagram of what is left of the policy
+/// after l, continued by the same diagram. Dups behind which the same is left have one diagram. The only error is that
+/// memory ran out.
+#[cycle(with_states)]
+#[tactic(auto, using(nk_policy::proofs::Trees::tree_of_sum, nk_policy::proofs::Trees::tree_of_seq, crate::proofs::Writing::test_written, crate::proofs::Writing::range_written, crate::proofs::Writing::set_written, crate::proofs::Writing::not_written))]
+pub fn continued_with_states(
+    st: &mut Store,
+    p: &Pol,
+    next: Id,
+    base: u32,
+    states: &mut List<Id>,
+) -> Result<Id, AllocError>
+    requires { IsId st.old next }
+    ensures grows { Grows st.old st.new }
+    ensures ok { IfOk result (λ d. IsContinued st.new d (tree_of p.now) next) }
+    ensures written { OnOk result (AreWritten st.new states.old states.new base (tree_of p.now) next) }
+{
+    if is_predicate_sum(p) {
+        return after_predicate(st, p, next);
+    }
+    match p {
+        Pol::Test(f, n) => after_test(st, *f, *n, next),
+        Pol::Range(f, lo, hi) => after_range(st, *f, (*lo, *hi), next),
+        Pol::Set(f, n) => after_set(st, *f, *n, next),
+        Pol::Sum(ps) => any_with_states(st, ps.as_slice(), next, base, states),
+        Pol::Seq(ps) => all_with_states(st, ps.as_slice(), next, base, states),
+        Pol::Not(q) => after_not(st, q, next),
+        Pol::Star(q) => star_with_states(st, q, next, base, states),
+        Pol::Dup(l) => dup_with_state(st, *l, next, base, states),
+        Pol::Link(a, m, b, n, l) => link_with_states(
+            st,
+            (*a, *m),
+            (*b, *n),
+            *l,
+            next,
+            base,
+            states,
+        ),
+    }
+}
+
+/// A star: its body goes on as the star does.
+#[cycle(with_states)]
+fn star_with_states(
+    st: &mut Store,
+    q: &Pol,
+    next: Id,
+    base: u32,
+    states: &mut List<Id>,
+) -> Result<Id, AllocError>
+    requires { IsId st.old next }
+    ensures grows { Grows st.old st.new }
+    ensures ok { IfOk result (λ d. IsContinued st.new d (star_of (tree_of q.now)) next) }
+    ensures written { OnOk result (AreWritten st.new states.old states.new base (star_of (tree_of q.now)) next) }
+{
+    let again = continued_star(st, q, next)?;
+    write_states(st, q, again, base, states)?;
+    Ok(again)
+}
+
+/// The states of a policy's dups alone, as `continued_with_states` writes them. The first part of a sequence isn't drawn where it
+/// has no dup.
+#[cycle(with_states)]
+#[tactic(auto, using(nk_policy::proofs::Trees::tree_of_sum, nk_policy::proofs::Trees::tree_of_seq, crate::proofs::Writing::test_written, crate::proofs::Writing::range_written, crate::proofs::Writing::set_written, crate::proofs::Writing::not_written))]
+fn write_states(
+    st: &mut Store,
+    p: &Pol,
+    next: Id,
+    base: u32,
+    states: &mut List<Id>,
+) -> Result<(), AllocError>
+    requires { IsId st.old next }
+    ensures grows { Grows st.old st.new }
+    ensures written { OnOk result (AreWritten st.new states.old states.new base (tree_of p.now) next) }
+{
+    if dups(p) == 0 {
+        return Ok(());
+    }
+    match p {
+        Pol::Test(_, _) => Ok(()),
+        Pol::Range(_, _, _) => Ok(()),
+        Pol::Set(_, _) => Ok(()),
+        Pol::Sum(ps) => write_any(st, ps.as_slice(), next, base, states),
+        Pol::Seq(ps) => write_all(st, ps.as_slice(), next, base, states),
+        Pol::Not(_) => Ok(()),
+        Pol::Star(q) => {
+            star_with_states(st, q, next, base, states)?;
+            Ok(())
+        }
+        Pol::Dup(l) => {
+            dup_with_state(st, *l, next, base, states)?;
+            Ok(())
+        }
+        Pol::Link(a, m, b, n, l) => {
+            link_with_states(st, (*a, *m), (*b, *n), *l, next, base, states)?;
+            Ok(())
+        }
+    }
+}
+
+/// The states of a sum's dups alone.
+#[cycle(with_states)]
+fn write_any(
+    st: &mut Store,
+    ps: &[Pol],
+    next: Id,
+    base: u32,
+    states: &mut List<Id>,
+) -> Result<(), AllocError>
+    requires { IsId st.old next }
+    ensures grows { Grows st.old st.new }
+    ensures written { OnOk result (AreWritten st.new states.old states.new base (sum_of (trees_of ps.now)) next) }
+{
+    let mut i = ps.len();
+    while i > 0 {
+        i -= 1;
+        write_states(st, &ps[i], next, base, states)?;
+    }
+    Ok(())
+}
+
+/// The states of a sequence's dups alone.
+#[cycle(with_states)]
+fn write_all(
+    st: &mut Store,
+    ps: &[Pol],
+    next: Id,
+    base: u32,
+    states: &mut List<Id>,
+) -> Result<(), AllocError>
+    requires { IsId st.old next }
+    ensures grows { Grows st.old st.new }
+    ensures written { OnOk result (AreWritten st.new states.old states.new base (seq_of (trees_of ps.now)) next) }
+{
+    let mut behind = next;
+    let mut i = ps.len();
+    while i > 1 {
+        i -= 1;
+        behind = continued_with_states(st, &ps[i], behind, base, states)?;
+    }
+    if i == 1 {
+        return write_states(st, &ps[0], behind, base, states);
+    }
+    Ok(())
+}
+
+/// A dup: behind it the diagram is left.
+fn dup_with_state(
+    st: &mut Store,
+    l: u32,
+    next: Id,
+    base: u32,
+    states: &mut List<Id>,
+) -> Result<Id, AllocError>
+    requires { IsId st.old next }
+    ensures grows { Grows st.old st.new }
+    ensures ok { IfOk result (λ d. IsContinued st.new d (dup l) next) }
+    ensures written { OnOk result (AreWritten st.new states.old states.new base (dup l) next) }
+{
+    let d = before_dup(st, l, next)?;
+    write_state(states, base, u64::from(l), next);
+    Ok(d)
+}
+
+/// A link literal: behind its first dup its assignments and its second dup are left, and behind that one the diagram.
+fn link_with_states(
+    st: &mut Store,
+    source: (u16, u16),
+    target: (u16, u16),
+    l: u32,
+    next: Id,
+    base: u32,
+    states: &mut List<Id>,
+) -> Result<Id, AllocError>
+    requires { IsId st.old next }
+    ensures grows { Grows st.old st.new }
+    ensures ok { IfOk result (λ d. IsContinued st.new d (link source.0 source.1 target.0 target.1 l) next) }
+    ensures written { OnOk result (AreWritten st.new states.old states.new base (link source.0 source.1 target.0 target.1 l) next) }
+{
+    let d = link_start(st, source.0, source.1, l)?;
+    let moved = link_rest(st, target.0, target.1, l)?;
+    write_state(states, base, u64::from(l) + 1, next);
+    write_state(states, base, u64::from(l), moved);
+    Ok(d)
+}
+
+/// Writes the state of a dup, if it has a place.
+#[tactic(auto, using(crate::proofs::Writing::set_past))]
+fn write_state(states: &mut List<Id>, base: u32, l: u64, d: Id)
+    ensures { IsPut states.old states.new base l d }
+{
+    let from = u64::from(base);
+    if l < from {
+        return;
+    }
+    let place = (l - from) as usize;
+    if place >= states.len() {
+        return;
+    }
+    states.put(place, d);
+}
+
+/// The parts of a sum, each continued by the diagram.
+#[cycle(with_states)]
+fn any_with_states(
+    st: &mut Store,
+    ps: &[Pol],
+    next: Id,
+    base: u32,
+    states: &mut List<Id>,
+) -> Result<Id, AllocError>
+    requires { IsId st.old next }
+    ensures grows { Grows st.old st.new }
+    ensures ok { IfOk result (λ d. IsContinued st.new d (sum_of (trees_of ps.now)) next) }
+    ensures written { OnOk result (AreWritten st.new states.old states.new base (sum_of (trees_of ps.now)) next) }
+{
+    let mut ids = List::new(st.alloc());
+    let mut i = ps.len();
+    while i > 0 {
+        i -= 1;
+        let d = continued_with_states(st, &ps[i], next, base, states)?;
+        ids.push(d)?;
+    }
+    union_all(st, ids.as_slice())
+}
+
+/// The parts of a sequence, each continued by the parts behind it.
+#[cycle(with_states)]
+fn all_with_states(
+    st: &mut Store,
+    ps: &[Pol],
+    next: Id,
+    base: u32,
+    states: &mut List<Id>,
+) -> Result<Id, AllocError>
+    requires { IsId st.old next }
+    ensures grows { Grows st.old st.new }
+    ensures ok { IfOk result (λ d. IsContinued st.new d (seq_of (trees_of ps.now)) next) }
+    ensures written { OnOk result (AreWritten st.new states.old states.new base (seq_of (trees_of ps.now)) next) }
+{
+    let mut rest = next;
+    let mut i = ps.len();
+    while i > 0 {
+        i -= 1;
+        rest = continued_with_states(st, &ps[i], rest, base, states)?;
+    }
+    Ok(rest)
+}

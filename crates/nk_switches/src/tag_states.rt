@@ -1,0 +1,88 @@
+//! The diagrams of the tags of all switches.
+ghost use Rattle.std.specs.Prelude.{◌<◌, ◌≤◌, All, IfOk, length};
+ghost use Rattle.nk_store.specs.Held.{Grows};
+ghost use Rattle.nk_algebra.specs.Unions.{AreIds};
+ghost use Rattle.nk_determ.specs.Sets.{SetsGrow};
+ghost use Rattle.nk_switches.specs.Matched.{Matched};
+ghost use Rattle.nk_switches.specs.States.{IsStateAt};
+ghost use Rattle.nk_switches.specs.Tagged.{members_of};
+ghost use Rattle.nk_switches.specs.Made.{AreStatesAt, HavePlaces};
+
+use crate::at_switch::state_at;
+use crate::members::members;
+use crate::stop::{Stop, SwitchStates, TagState};
+use nk_determ::{SetId, Sets};
+use nk_field::List;
+use nk_store::{Id, Store};
+use std::alloc::AllocError;
+
+/// The diagram of one tag's states at a switch.
+fn tag_state(
+    st: &mut Store,
+    ss: &mut Sets,
+    states: &[Id],
+    tags: &[SetId],
+    sw: u16,
+    tag: u64,
+) -> Result<Id, AllocError>
+    requires states { AreIds st.old states.now }
+    requires known { All (λ s. s < length ss.old) tags.now }
+    requires within { tag ≤ length tags.now }
+    requires places { All (λ l. l < length states.now) (members_of ss.old tags.now tag) }
+    ensures grows { Grows st.old st.new }
+    ensures sets { SetsGrow ss.old ss.new }
+    ensures state { IfOk result (λ d. IsStateAt st.new ss.new states.now (members_of ss.old tags.now tag) sw d) }
+{
+    let places = members(st.alloc(), ss, tags, states.len(), tag)?;
+    let d = state_at(st, ss, states, places.as_slice(), sw)?;
+    Ok(d)
+}
+
+/// The diagrams of a switch's tags.
+fn switch_states(
+    st: &mut Store,
+    ss: &mut Sets,
+    states: &[Id],
+    tags: &[SetId],
+    stop: &Stop,
+) -> Result<SwitchStates, AllocError>
+    requires states { AreIds st.old states.now }
+    requires known { All (λ s. s < length ss.old) tags.now }
+    requires places { HavePlaces ss.old (length states.now) tags.now stop.now }
+    ensures grows { Grows st.old st.new }
+    ensures sets { SetsGrow ss.old ss.new }
+    ensures tag_states { IfOk result (AreStatesAt st.new ss.new states.now tags.now stop.now) }
+{
+    let mut tag_states = List::new(st.alloc());
+    for tag in stop.tags.as_slice() {
+        let diagram = tag_state(st, ss, states, tags, stop.switch, *tag)?;
+        tag_states.push(TagState { tag: *tag, diagram })?;
+    }
+    Ok(SwitchStates {
+        switch: stop.switch,
+        tag_states,
+    })
+}
+
+/// The diagrams of the tags of each switch.
+pub fn all_states(
+    st: &mut Store,
+    ss: &mut Sets,
+    states: &[Id],
+    tags: &[SetId],
+    stops: &[Stop],
+) -> Result<List<SwitchStates>, AllocError>
+    requires states { AreIds st.old states.now }
+    requires known { All (λ s. s < length ss.old) tags.now }
+    requires places { All (HavePlaces ss.old (length states.now) tags.now) stops.now }
+    ensures grows { Grows st.old st.new }
+    ensures sets { SetsGrow ss.old ss.new }
+    ensures tag_states { IfOk result (Matched (AreStatesAt st.new ss.new states.now tags.now) stops.now) }
+{
+    let mut all = List::new(st.alloc());
+    for stop in stops {
+        let tag_states = switch_states(st, ss, states, tags, stop)?;
+        all.push(tag_states)?;
+    }
+    Ok(all)
+}
