@@ -14,8 +14,8 @@ use Rattle.nk_names.specs.declared.Program.{Program}
 use Rattle.nk_names.specs.ProgramOf.{said_by}
 use Rattle.nk_table.specs.declared.Tables.{Tables}
 use Rattle.nk_tabtext.specs.Values.{tables_of}
-use Rattle.nk_tabtext.specs.declared.written.ReadError.{ReadError}
-use Rattle.nk_tabtext.specs.declared.written.ReadError.TheVariants as text
+use Rattle.nk_tabgrammar.specs.declared.written.ReadError.{ReadError}
+use Rattle.nk_tabgrammar.specs.declared.written.ReadError.TheVariants as text
 use Rattle.nk_cert.specs.Certificates.{CertificateValue, IsCertificate}
 use Rattle.nk_cert.specs.Equality.{AreSame}
 use Rattle.nk_cert.specs.Verdicts.{RowPart, valid, invalid, IsFinding}

@@ -14,7 +14,8 @@ use Rattle.nk_cert.specs.Certificates.{CertificateValue}
 use Rattle.nk_certtext.specs.declared.error.CertError.{CertError}
 use Rattle.nk_certtext.specs.declared.error.CertError.TheVariants as rows
 use Rattle.nk_certtext.specs.Rows.{certificate_of}
-use Rattle.nk.specs.Messages.{fault_line, fault_words}
+use Rattle.nk_names.specs.Words.{fault_words}
+use Rattle.nk.specs.Messages.{fault_line}
 use Rattle.nk.specs.ProgramText.{TellsGrammar, TellsLexical, TellsNames}
 
 -- the bytes are a text that declares this, with rows that make this certificate

@@ -3,8 +3,6 @@ use Rattle.std.specs.Prelude.{◌≡◌, ℕ, List, true, ◌++◌, codes, decim
 use Rattle.nk_field.specs.Packet.{FieldTable}
 use Rattle.nk_field.specs.Order.{Found}
 use Rattle.nk_field.specs.Texts.{history_bytes, packet_bytes}
-use Rattle.nk_names.specs.declared.fault.FaultKind.{FaultKind}
-use Rattle.nk_names.specs.declared.fault.FaultKind.TheVariants as kind
 use Rattle.nk_compile.specs.declared.refusal.Refusal.{Refusal}
 use Rattle.nk_compile.specs.declared.refusal.Refusal.TheVariants as refusal
 use Rattle.nk_compile.specs.Refusals.{found_from}
@@ -14,25 +12,6 @@ use Rattle.nk_query.specs.declared.error.QueryError.TheVariants as query
 -- the line of a text's fault
 abbrev pub fault_line : ℕ → List ℕ → List ℕ
 fault_line line words = codes "line " ++ decimal line ++ codes ": " ++ words ++ codes "\n"
-
--- the words for a declaration's fault
-abbrev pub fault_words : FaultKind → List ℕ
-fault_words kind.FieldTwice = codes "field twice"
-fault_words kind.TooManyFields = codes "too many fields"
-fault_words kind.TagTwice = codes "tag twice"
-fault_words kind.TagUnknown = codes "tag unknown"
-fault_words kind.SwitchTwice = codes "switch twice"
-fault_words kind.PortTwice = codes "port twice"
-fault_words kind.NoSuchPort = codes "no such port"
-fault_words kind.SourceTwice = codes "source twice"
-fault_words kind.TargetTwice = codes "target twice"
-fault_words kind.LetTwice = codes "let twice"
-fault_words kind.UnknownName = codes "unknown name"
-fault_words kind.UnknownField = codes "unknown field"
-fault_words kind.ValueOutOfRange = codes "value out of range"
-fault_words kind.NotAPredicate = codes "not a predicate"
-fault_words kind.TooDeep = codes "too deep"
-fault_words kind.TooLarge = codes "too large"
 
 -- the packet that a history starts at and the history, with every field
 abbrev pub found_lines : FieldTable → Found → List ℕ

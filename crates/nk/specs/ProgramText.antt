@@ -12,7 +12,8 @@ use Rattle.nk_grammar.specs.FileMachine.{file_of}
 use Rattle.nk_names.specs.declared.fault.NamesError.{NamesError}
 use Rattle.nk_names.specs.declared.fault.NamesError.TheVariants as naming
 use Rattle.nk_names.specs.ProgramOf.{Said, program_of}
-use Rattle.nk.specs.Messages.{fault_line, fault_words}
+use Rattle.nk_names.specs.Words.{fault_words}
+use Rattle.nk.specs.Messages.{fault_line}
 
 -- the bytes are a text that declares this
 pub record Declares (bytes : List ℕ) (said : Said) : Type 0 where

@@ -1,5 +1,5 @@
 //! The program and the certificate of a text, or the text's first fault.
-ghost use Rattle.std.specs.Prelude.{◌≡◌, ◌≤◌, All, IfOk, IsUtf8, Ok, map};
+ghost use Rattle.std.specs.Prelude.{◌≡◌, ◌≤◌, All, IfOk, Ok, map};
 ghost use Rattle.nk_lex.specs.Lex.{largest};
 ghost use Rattle.nk_grammar.specs.Certified.{certified, row_value};
 ghost use Rattle.nk_grammar.specs.File.{declaration_of, IsWritten};
@@ -7,7 +7,7 @@ ghost use Rattle.nk_names.specs.ProgramOf.{program_of, said_by};
 ghost use Rattle.nk_certtext.specs.Rows.{HasStartRow};
 ghost use Rattle.nk.specs.ReadCertified.{IsFaultLine, IsReadOf, IsReadOfCertified, IsReadOfTokens};
 
-use crate::messages::{fault_message, words_of};
+use crate::messages::fault_message;
 use nk_cert::Certificate;
 use nk_certtext::laws::certified_texts_have_a_start_row;
 use nk_certtext::{CertError, read_cert};
@@ -41,7 +41,6 @@ pub(crate) fn read_certified(alloc: Global, bytes: &[u8]) -> Result<ReadCertifie
 
 /// The same of the tokens of a text.
 fn read_tokens(alloc: Global, tokens: &[Token]) -> Result<ReadCertified, AllocError>
-    requires texts { All (λ t. IsUtf8 t.text) tokens.now }
     requires small { All (λ t. t.value ≤ largest) tokens.now }
     ensures { IfOk result (λ r. IsReadOfTokens tokens.now r) }
 {
@@ -64,7 +63,7 @@ fn read_file(alloc: Global, file: &File) -> Result<ReadCertified, AllocError>
 {
     match program(alloc, file) {
         Ok(program) => read_rows(alloc, program, file),
-        Err(NamesError::Fault { kind, line }) => fault(alloc, line, words_of(kind)),
+        Err(NamesError::Fault { kind, line }) => fault(alloc, line, kind.words()),
         Err(NamesError::NoMemory) => Err(AllocError),
     }
 }
@@ -79,7 +78,7 @@ fn read_rows(alloc: Global, program: Program, file: &File) -> Result<ReadCertifi
     match read_cert(alloc, &program, file) {
         Ok(certificate) => Ok(ReadCertified::Certified(program, certificate)),
         Err(CertError::CertFault { line }) => fault(alloc, line, "certificate fault"),
-        Err(CertError::Fault { kind, line }) => fault(alloc, line, words_of(kind)),
+        Err(CertError::Fault { kind, line }) => fault(alloc, line, kind.words()),
         Err(CertError::NoMemory) => Err(AllocError),
     }
 }

@@ -8,7 +8,7 @@ ghost use Rattle.nk.specs.Asking.{broken_lines};
 ghost use Rattle.nk.specs.Checking.{invalid_line, part_word};
 ghost use Rattle.nk.specs.Comparing.{difference_lines, side_line};
 ghost use Rattle.nk.specs.Outcome.{text_refused};
-ghost use Rattle.nk.specs.Messages.{TellsQuery, fault_line, fault_words, found_lines, refusal_line};
+ghost use Rattle.nk.specs.Messages.{TellsQuery, fault_line, found_lines, refusal_line};
 ghost use Rattle.nk.specs.Reply.{said};
 
 use crate::Said;
@@ -16,7 +16,6 @@ use itoa::Buffer;
 use nk_cert::CertPart;
 use nk_compile::Refusal;
 use nk_field::{Fields, History, Packet, history_text, packet_text};
-use nk_names::FaultKind;
 use nk_query::QueryError;
 use nk_reach::{Found, Side};
 use std::alloc::{AllocError, Global};
@@ -33,30 +32,6 @@ pub(crate) fn fault_message(alloc: Global, line: u64, words: &str) -> Result<Vec
     message.extend_from_slice(words.as_bytes())?;
     message.extend_from_slice(b"\n")?;
     Ok(message)
-}
-
-/// The words for what is wrong with a declaration.
-pub(crate) fn words_of(kind: FaultKind) -> &'static str
-    ensures { result.now ≡ fault_words kind }
-{
-    match kind {
-        FaultKind::FieldTwice => "field twice",
-        FaultKind::TooManyFields => "too many fields",
-        FaultKind::TagTwice => "tag twice",
-        FaultKind::TagUnknown => "tag unknown",
-        FaultKind::SwitchTwice => "switch twice",
-        FaultKind::PortTwice => "port twice",
-        FaultKind::NoSuchPort => "no such port",
-        FaultKind::SourceTwice => "source twice",
-        FaultKind::TargetTwice => "target twice",
-        FaultKind::LetTwice => "let twice",
-        FaultKind::UnknownName => "unknown name",
-        FaultKind::UnknownField => "unknown field",
-        FaultKind::ValueOutOfRange => "value out of range",
-        FaultKind::NotAPredicate => "not a predicate",
-        FaultKind::TooDeep => "too deep",
-        FaultKind::TooLarge => "too large",
-    }
 }
 
 /// The message for a policy that needs too many tags.

@@ -1,11 +1,11 @@
 //! The program of a text, or the text's first fault.
-ghost use Rattle.std.specs.Prelude.{◌≡◌, ◌≤◌, All, IfOk, IsUtf8, map};
+ghost use Rattle.std.specs.Prelude.{◌≡◌, ◌≤◌, All, IfOk, map};
 ghost use Rattle.nk_lex.specs.Lex.{largest};
 ghost use Rattle.nk_grammar.specs.File.{declaration_of, IsWritten};
 ghost use Rattle.nk.specs.Declarable.{SayDeclared, TokensSayDeclared};
 ghost use Rattle.nk.specs.ReadText.{IsFaultLine, IsReadOf, IsReadOfNames, IsReadOfTokens};
 
-use crate::messages::{fault_message, words_of};
+use crate::messages::fault_message;
 use nk_grammar::{File, GrammarError, file};
 use nk_lex::{LexError, Token, tokens};
 use nk_names::laws::{declared_fields_are_writable, declared_topologies_are_declarable};
@@ -39,7 +39,6 @@ pub(crate) fn read_program(alloc: Global, bytes: &[u8]) -> Result<ReadText, Allo
 
 /// The same of the tokens of a text.
 fn read_tokens(alloc: Global, tokens: &[Token]) -> Result<ReadText, AllocError>
-    requires texts { All (λ t. IsUtf8 t.text) tokens.now }
     requires small { All (λ t. t.value ≤ largest) tokens.now }
     requires declared { TokensSayDeclared tokens.now }
     ensures { IfOk result (λ r. IsReadOfTokens tokens.now r) }
@@ -60,7 +59,7 @@ fn read_file(alloc: Global, file: &File) -> Result<ReadText, AllocError>
 {
     match program(alloc, file) {
         Ok(program) => Ok(ReadText::Program(program)),
-        Err(NamesError::Fault { kind, line }) => fault(alloc, line, words_of(kind)),
+        Err(NamesError::Fault { kind, line }) => fault(alloc, line, kind.words()),
         Err(NamesError::NoMemory) => Err(AllocError),
     }
 }

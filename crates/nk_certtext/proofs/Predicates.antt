@@ -1,6 +1,7 @@
 -- The rows that are read have predicates.
 use Rattle.std.proofs.Common.{◌≡◌, ℕ, Bool, true, false, cond, List, [], ◌∷◌, ◌++◌, map, None, Some, Ok, Err, inl, inr, refl, sym, ap, subst, ◌∙◌}
 use Rattle.std.specs.declared.result.Result.{Result}
+use Rattle.nk_lex.specs.Faults.{and_then, unless}
 use Rattle.nk_field.specs.Packet.{FieldTable}
 use Rattle.nk_field.proofs.Lists.{In, in_from_contains}
 use Rattle.nk_policy.specs.Policy.{Policy, dup, is_predicate, marked_from}
@@ -9,13 +10,13 @@ use Rattle.nk_grammar.specs.Tree.{Tree}
 use Rattle.nk_grammar.specs.Certified.{Row, row}
 use Rattle.nk_names.specs.declared.fault.NamesError.{NamesError}
 use Rattle.nk_names.specs.Meant.{MaybeFault, policy_for}
-use Rattle.nk_names.specs.ProgramOf.{predicate_fault, unless, row_policy}
+use Rattle.nk_names.specs.ProgramOf.{predicate_fault, row_policy}
 use Rattle.nk_names.proofs.Predicates.{faultless_row}
 use Rattle.nk_cert.specs.Certificates.{RowValue, CertRow, later_row, rows_of}
 use Rattle.nk_cert.specs.Verdicts.{HasPredicates}
 use Rattle.nk_certtext.specs.declared.error.CertError.{CertError}
 use Rattle.nk_certtext.specs.declared.error.CertError.TheVariants.{CertFault}
-use Rattle.nk_certtext.specs.Rows.{is_misplaced, with_predicate, with_row, going_on, rows_after}
+use Rattle.nk_certtext.specs.Rows.{is_misplaced, with_predicate, with_row, rows_after}
 
 -- each row's predicate is one
 abbrev HavePredicates : List RowValue → Type 0
@@ -68,7 +69,7 @@ with_all fields (r ∷ rs) before after h e =
   where
     by : (x : Result (List RowValue) CertError) → with_row fields before r ≡ x
         → ((mid : List RowValue) → HavePredicates mid → rows_after fields rs mid ≡ Ok after → HavePredicates after)
-        → going_on x (rows_after fields rs) ≡ Ok after → HavePredicates after
+        → and_then x (rows_after fields rs) ≡ Ok after → HavePredicates after
     by (Ok mid) is rest e = rest mid (with_one fields before r mid h is) e
     by (Err f) is rest e = absurd cc
 

@@ -16,7 +16,8 @@ use Rattle.nk_lex.specs.Spans.{line_feeds}
 use Rattle.nk_lex.specs.Spelling.{Lexeme, text_of}
 use Rattle.nk_policy.specs.Policy.{Policy}
 use Rattle.nk_policy.specs.Text.{pol_bytes}
-use Rattle.nk_grammar.specs.declared.ast.Number.{Number}
+use Rattle.nk_lex.specs.declared.word.Number.{Number}
+use Rattle.nk_lex.specs.Faults.{and_then}
 use Rattle.nk_grammar.specs.Grammar.{Pol, pol_tree}
 use Rattle.nk_grammar.specs.Text.{lexemes_of_pol, IsNumberOn}
 use Rattle.nk_grammar.specs.File.{Declaration}
@@ -29,7 +30,7 @@ use Rattle.nk_names.specs.ReadBack.{IsWritable, DeclaresWritable, IsPredicateRea
 use Rattle.nk_names.proofs.Printed.{text_append}
 use Rattle.nk_cert.specs.Certificates.{RowValue, CertificateValue}
 use Rattle.nk_certtext.specs.Text.{position_bytes, predicate_bytes, row_bytes, cert_bytes}
-use Rattle.nk_certtext.specs.Rows.{ascend, ascend_after, have_positions, is_misplaced, with_row, going_on, rows_after, with_rows, from_start}
+use Rattle.nk_certtext.specs.Rows.{ascend, ascend_after, have_positions, is_misplaced, with_row, rows_after, with_rows, from_start}
 use Rattle.nk_certtext.specs.ReadBack.{IsRowOf, IsPrintable, IsReadBack}
 use Rattle.nk_certtext.proofs.RowsRead.{row_read}
 
@@ -190,8 +191,8 @@ module _ (reads : ReadsPrintedPredicates) (fields : FieldTable) (writable : IsWr
           let moved : (before ++ r ∷ []) ++ rs ≡ before ++ r ∷ rs = append_assoc before (r ∷ []) rs in
           let read = row_read fields before r.positions t at r.predicate (before ++ r ∷ [])
           (not_misplaced before r rs h.ascend apart) (one.predicate.meant lines at) refl in
-          ap (λ l. going_on (with_row fields before (row l t at)) (rows_after fields later)) one.positions
-          ∙ ap (λ x. going_on x (rows_after fields later)) read
+          ap (λ l. and_then (with_row fields before (row l t at)) (rows_after fields later)) one.positions
+          ∙ ap (λ x. and_then x (rows_after fields later)) read
           ∙ rest.meant lines (before ++ r ∷ []) (subst StandApart (sym moved) apart)
           ∙ ap Ok moved
 

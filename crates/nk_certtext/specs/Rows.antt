@@ -3,6 +3,7 @@ use Rattle.std.specs.Prelude.{◌≡◌, ℕ, Bool, true, not, ◌&&◌, ◌||�
 use Rattle.std.specs.declared.result.Result.{Result}
 use Rattle.std.specs.List.{list_any}
 use Rattle.std.specs.Str.{bytes_eq}
+use Rattle.nk_lex.specs.Faults.{and_then}
 use Rattle.nk_field.specs.Packet.{FieldTable}
 use Rattle.nk_policy.specs.Policy.{Policy}
 use Rattle.nk_grammar.specs.Certified.{Row, row}
@@ -51,15 +52,10 @@ with_row fields before (row ns t line) = if is_misplaced before ns
     then Err (CertFault line)
     else with_predicate before ns (row_policy fields t line)
 
--- the rest is read where there was no fault so far
-abbrev pub going_on : {X Y : Type 0} → Result X CertError → (X → Result Y CertError) → Result Y CertError
-going_on (Ok x) rest = rest x
-going_on (Err e) rest = Err e
-
 -- the rows behind those that were read before
 abbrev pub rows_after : FieldTable → List Row → (before : List RowValue) → Result (List RowValue) CertError
 rows_after fields [] before = Ok before
-rows_after fields (r ∷ rs) before = going_on (with_row fields before r) (rows_after fields rs)
+rows_after fields (r ∷ rs) before = and_then (with_row fields before r) (rows_after fields rs)
 
 -- a certificate of the start row's predicate and the later rows
 abbrev pub with_rows : Policy → Result (List RowValue) CertError → Result CertificateValue CertError

@@ -5,12 +5,13 @@ use Rattle.std.specs.Prelude.{nat_lt, nat_eq, ◌==◌, IsErrAnd, MatchResult}
 use Rattle.std.specs.List.{list_any}
 use Rattle.std.proofs.lemmas.List.Folds.{list_any-append}
 use Rattle.nk_topo.specs.Topology.{has_double}
-use Rattle.nk_grammar.specs.declared.ast.Number.{Number}
+use Rattle.nk_lex.specs.declared.word.Number.{Number}
+use Rattle.nk_lex.specs.Faults.{first_of}
 use Rattle.nk_declare.specs.declared.fault.DeclareFault.{DeclareFault}
 use Rattle.nk_declare.specs.declared.fault.DeclareFault.TheVariants as fault
 use Rattle.nk_declare.specs.declared.fault.DeclareError.{DeclareError}
 use Rattle.nk_declare.specs.declared.fault.DeclareError.TheVariants.{Fault, NoMemory}
-use Rattle.nk_declare.specs.Declarations.{MaybeFault, fault_if, first_of, above, ports_fault, IsFirst}
+use Rattle.nk_declare.specs.Declarations.{MaybeFault, fault_if, above, ports_fault, IsFirst}
 
 -- of faults that have no first there is none
 pub none_both : {E : Type 0} (a b : Option E) → first_of a b ≡ None → (a ≡ None) × (b ≡ None)

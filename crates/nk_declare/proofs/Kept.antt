@@ -15,10 +15,11 @@ use Rattle.nk_topo.specs.Topology.{Topology, SwitchPorts, Link, IsTopology, AreL
 use Rattle.nk_topo.proofs.Members.{In, in_from_contains, all_from_members, pairs_from_order, placed_behind, placed_front, in_placed}
 use Rattle.nk_topo.proofs.Orders.{ascending_rises}
 use Rattle.nk_topo.proofs.Kept.{kept_with_switch, kept_with_link}
-use Rattle.nk_grammar.specs.declared.ast.Word.{Word}
-use Rattle.nk_grammar.specs.declared.ast.Number.{Number}
+use Rattle.nk_lex.specs.declared.word.Word.{Word}
+use Rattle.nk_lex.specs.declared.word.Number.{Number}
+use Rattle.nk_lex.specs.Faults.{and_then, unless}
 use Rattle.nk_declare.specs.declared.fault.DeclareFault.TheVariants as fault
-use Rattle.nk_declare.specs.Declarations.{Declaration, field, tag, switch, link, DeclaredValue, is_from, field_fault, tag_fault, ports_fault, links_ends, link_with, unless, values_of, and_then, declared_with, declared_after}
+use Rattle.nk_declare.specs.Declarations.{Declaration, field, tag, switch, link, DeclaredValue, is_from, field_fault, tag_fault, ports_fault, links_ends, link_with, values_of, declared_with, declared_after}
 use Rattle.nk_declare.specs.Kept.{IsWritable, IsDeclarable, HasFieldOfText, HasPort}
 use Rattle.nk_declare.proofs.Checks.{none_both, not_wrong, in_bound, once_more}
 

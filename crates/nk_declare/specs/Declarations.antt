@@ -2,12 +2,12 @@
 -- links; or the first fault, with the line of the name or number that is at fault.
 use Rattle.std.specs.Prelude.{◌≡◌, ℕ, ◌==◌, not, nat_lt, nat_le, Bool, false, ⊤, Option, Some, None, Ok, Err, is_some, if◌then◌else◌, unwrap_or, List, [], ◌∷◌, ◌++◌, length, map, slice_index}
 use Rattle.std.specs.declared.result.Result.{Result}
-use Rattle.std.specs.Option.{option_or}
 use Rattle.std.specs.List.{list_any}
 use Rattle.nk_field.specs.Packet.{FieldTable, built_in, field_named, with_field}
 use Rattle.nk_topo.specs.Topology.{Topology, Link, no_topology, is_switch, is_port, is_target, link_from, with_switch, with_link}
-use Rattle.nk_grammar.specs.declared.ast.Word.{Word}
-use Rattle.nk_grammar.specs.declared.ast.Number.{Number}
+use Rattle.nk_lex.specs.declared.word.Word.{Word}
+use Rattle.nk_lex.specs.declared.word.Number.{Number}
+use Rattle.nk_lex.specs.Faults.{and_then, first_of, unless}
 use Rattle.nk_declare.specs.declared.fault.DeclareFault.{DeclareFault}
 use Rattle.nk_declare.specs.declared.fault.DeclareFault.TheVariants as fault
 use Rattle.nk_declare.specs.declared.fault.DeclareError.{DeclareError}
@@ -39,10 +39,6 @@ MaybeFault = Option DeclareError
 -- the fault of this kind, where a test passes
 abbrev pub fault_if : Bool → DeclareFault → ℕ → MaybeFault
 fault_if wrong k line = if wrong then Some (Fault k line) else None
-
--- the first, else the second
-abbrev pub first_of : {E : Type 0} → Option E → Option E → Option E
-first_of first second = option_or first second
 
 -- a number above a bound
 abbrev pub above : ℕ → Number → MaybeFault
@@ -109,11 +105,6 @@ link_fault topo a m b n =
 
 -- ---- what is declared
 
--- this value, unless there is a fault
-abbrev pub unless : {E X : Type 0} → Option E → X → Result X E
-unless None x = Ok x
-unless (Some e) x = Err e
-
 -- the numbers
 abbrev pub values_of : List Number → List ℕ
 values_of ps = map (λ p. p.value) ps
@@ -130,11 +121,6 @@ declared_with s (tag w) =
 declared_with s (switch n ps) =
     unless (switch_fault s.topo n ps) (record s { topo = with_switch s.topo n.value (values_of ps) })
 declared_with s (link a m b n) = unless (link_fault s.topo a m b n) (record s { topo = with_link s.topo (link_with a m b n) })
-
--- the rest, where there is no fault so far
-abbrev pub and_then : {X Y E : Type 0} → Result X E → (X → Result Y E) → Result Y E
-and_then (Ok x) rest = rest x
-and_then (Err e) rest = Err e
 
 -- what is declared after these declarations
 abbrev pub declared_after : List Declaration → DeclaredValue → Result DeclaredValue DeclareError

@@ -1,3 +1,4 @@
 pub mod Declarations
 pub mod InMemory
 pub mod Kept
+pub mod Words

@@ -4,7 +4,7 @@ ghost use Rattle.nk_topo.specs.Topology.{has_double};
 ghost use Rattle.nk_declare.specs.Declarations.{IsFirst, fault_if, above, links_ends, ports_fault};
 
 use crate::fault::{DeclareError, DeclareFault};
-use nk_grammar::Number;
+use nk_lex::Number;
 use std::alloc::Global;
 use std::collections::HashSet;
 

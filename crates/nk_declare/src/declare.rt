@@ -1,15 +1,13 @@
 //! What is declared after one more declaration.
 ghost use Rattle.std.specs.Prelude.{◌≡◌, IfOk};
-ghost use Rattle.std.specs.Str.{IsUtf8};
 ghost use Rattle.nk_declare.specs.Declarations.{Returns, field, tag, switch, link, declared_with, nothing_declared};
 ghost use Rattle.nk_declare.specs.InMemory.{declared_in};
 
 use crate::check::{ends_of, place_of, ports_of, refuse_if};
 use crate::fault::{DeclareError, DeclareFault};
 use crate::names::field_with;
-use crate::word::text_of;
 use nk_field::{Fields, FieldsError};
-use nk_grammar::{Number, Word};
+use nk_lex::{Number, Word};
 use nk_topo::{LinkEnd, TopoBuilder, TopoError};
 use std::alloc::{AllocError, Global};
 
@@ -35,14 +33,13 @@ impl Declared {
         Ok(Declared { fields, topo })
     }
 
-    /// One more field, whose name is text: its name is new, and there are fewer than sixteen.
+    /// One more field: its name is new, and there are fewer than sixteen.
     pub fn with_field(self, w: &Word, n: Number) -> Result<Declared, DeclareError>
-        requires { IsUtf8 w.now.text }
         ensures { Returns declared_in result (declared_with (declared_in self) (field w.now n)) }
     {
         let Declared { fields, topo } = self;
         let mut fields = fields;
-        let kind = match fields.add(text_of(w), n.value) {
+        let kind = match fields.add(w.text.as_str(), n.value) {
             Ok(_) => return Ok(Declared { fields, topo }),
             Err(FieldsError::FieldTwice) => DeclareFault::FieldTwice,
             Err(FieldsError::TooManyFields) => DeclareFault::TooManyFields,

@@ -7,36 +7,27 @@ use thiserror::Error;
 
 /// What is wrong with a declaration.
 #[derive(Clone, Copy, Debug, PartialEq, Eq, Error)]
+#[error("{}", self.words())]
 pub enum DeclareFault {
     /// A field has the name already; the switch is `sw` and the port `pt`.
-    #[error("field twice")]
     FieldTwice,
     /// Sixteen fields are declared already.
-    #[error("too many fields")]
     TooManyFields,
     /// A tag is declared already.
-    #[error("tag twice")]
     TagTwice,
     /// The tag is no field declared above.
-    #[error("tag unknown")]
     TagUnknown,
     /// The switch is declared already.
-    #[error("switch twice")]
     SwitchTwice,
     /// The port stands before in the same declaration.
-    #[error("port twice")]
     PortTwice,
     /// An end of a link is no declared port.
-    #[error("no such port")]
     NoSuchPort,
     /// A link begins at the port already.
-    #[error("source twice")]
     SourceTwice,
     /// A link leads to the port already.
-    #[error("target twice")]
     TargetTwice,
     /// A switch or a port above 65,535.
-    #[error("value out of range")]
     ValueOutOfRange,
 }
 

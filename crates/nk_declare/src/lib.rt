@@ -8,7 +8,7 @@ mod check;
 mod declare;
 mod fault;
 mod names;
-mod word;
+mod words;
 
 pub use declare::Declared;
 pub use fault::{DeclareError, DeclareFault};

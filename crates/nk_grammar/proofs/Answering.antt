@@ -6,8 +6,10 @@ use Rattle.nk_lex.specs.declared.token.Token.{Token}
 use Rattle.nk_grammar.specs.declared.decl.GrammarError.TheVariants as error
 use Rattle.nk_grammar.specs.Terminal.{Terminal, terminal_of}
 use Rattle.nk_grammar.specs.File.{Declaration, HasDeclarations}
-use Rattle.nk_grammar.specs.FileMachine.{Reading, read_one, read_all, first_reading, declarations_at_end, open_count, judged, ended_at, and_then_read, rest_of_file, file_of}
-use Rattle.nk_grammar.specs.Answer.{terminals, last_line, IsShallow, IsUnexpectedEnd, IsAnswer}
+use Rattle.nk_grammar.specs.FileMachine.{Reading, read_one, read_all, first_reading, declarations_at_end, open_count, judged, ended_at, rest_of_file, file_of}
+use Rattle.nk_lex.specs.Spans.{last_line}
+use Rattle.nk_lex.specs.Faults.{and_then}
+use Rattle.nk_grammar.specs.Answer.{terminals, IsShallow, IsUnexpectedEnd, IsAnswer}
 use Rattle.nk_grammar.proofs.Texts.{reads_file, ends_file, file_goes_on, file_stops, read_append}
 use Rattle.nk_grammar.proofs.Fronts.{none_some}
 
@@ -105,7 +107,7 @@ rest_answers whole (t ∷ rest) before r parts read shallow = by_step (read_one 
 
     by_step : (o : Option Reading) → read_one r (terminal_of t) ≡ o
         → ((s : Reading) → read_all (terminals (before ++ t ∷ [])) first_reading ≡ Some s → IsShallow (terminals (before ++ t ∷ [])) → IsAnswer whole (rest_of_file rest s (last_line 1 (before ++ t ∷ []))))
-        → IsAnswer whole (and_then_read (judged t.line o) (λ s. rest_of_file rest s t.line))
+        → IsAnswer whole (and_then (judged t.line o) (λ s. rest_of_file rest s t.line))
     by_step None e go = inl (record {
       before = before;
       token = t;
@@ -119,7 +121,7 @@ rest_answers whole (t ∷ rest) before r parts read shallow = by_step (read_one 
     by_step (Some s) e go = by_count (nat_le (open_count s) 256) refl
       where
         by_count : (b : Bool) → nat_le (open_count s) 256 ≡ b
-            → IsAnswer whole (and_then_read (if b then Ok s else Err (error.TooDeep t.line)) (λ s. rest_of_file rest s t.line))
+            → IsAnswer whole (and_then (if b then Ok s else Err (error.TooDeep t.line)) (λ s. rest_of_file rest s t.line))
         by_count true f =
             subst (λ line. IsAnswer whole (rest_of_file rest s line)) (last_more 1 before t)
             (go s (all_read (Some s) e) (subst IsShallow (sym (terminals_more before t))

@@ -5,7 +5,8 @@ use Rattle.std.proofs.lemmas.List.{map-append}
 use Rattle.std.specs.declared.result.Result.{Result}
 use Rattle.nk_lex.specs.declared.token.Token.{Token}
 use Rattle.nk_lex.specs.Joined.{token_moved}
-use Rattle.nk_grammar.specs.declared.ast.Number.{Number}
+use Rattle.nk_lex.specs.declared.word.Number.{Number}
+use Rattle.nk_lex.specs.Faults.{and_then}
 use Rattle.nk_grammar.specs.declared.decl.GrammarError.{GrammarError}
 use Rattle.nk_grammar.specs.declared.decl.GrammarError.TheVariants as error
 use Rattle.nk_grammar.specs.Terminal.{Terminal, name, number, tilde, opening, closing, plus_sign, semicolon, star_sign, equal, becomes, colon, fat_arrow, id_word, drop_word, dup_word, in_word, dots, outside, field_word, tag_word, switch_word, ports_word, link_word, let_word, arrow, comma, certificate_word, row_word, start_word, no_terminal, is_colon, terminal_of}
@@ -13,7 +14,7 @@ use Rattle.nk_grammar.specs.Tree.{Tree}
 use Rattle.nk_grammar.specs.Machine.{State, start, in_option, number_in, with_number, step, ended}
 use Rattle.nk_grammar.specs.File.{Declaration}
 use Rattle.nk_grammar.specs.Certified.{Row, row, Certified, certified}
-use Rattle.nk_grammar.specs.CertifiedMachine.{CertifiedPhase, declaring, row_wanted, start_wanted, start_read, number_wanted, numbers_read, in_row, Certifying, certifying, is_start, row_in, in_line, row_on, next_certifying, certify_one, certificate_ends, certified_ended, certified_at_end, open_certified, judged_certified, certified_end_at, and_then_certify, rest_of_certified}
+use Rattle.nk_grammar.specs.CertifiedMachine.{CertifiedPhase, declaring, row_wanted, start_wanted, start_read, number_wanted, numbers_read, in_row, Certifying, certifying, is_start, row_in, in_line, row_on, next_certifying, certify_one, certificate_ends, certified_ended, certified_at_end, open_certified, judged_certified, certified_end_at, rest_of_certified}
 use Rattle.nk_grammar.specs.Moved.{number_moved, tree_moved, row_moved}
 use Rattle.nk_grammar.proofs.Moves.{terminal_moved, token_terminal, state_moved, open_moves, step_moves, end_moves, number_in_moves, colon_moves}
 
@@ -84,22 +85,22 @@ module _ (g : Certifying → Certifying) (h : Token → Token) (k : Certified �
       at_end None = refl
       at_end (Some x) = refl
   rest_carried (t ∷ us) c line i =
-      ap (λ n. and_then_certify (judged_certified n (certify_one (g c) (terminal_of (h t)))) (λ d. rest_of_certified (map h us) d n)) (lines t)
-      ∙ ap (λ o. and_then_certify (judged_certified (l t.line) o) (λ d. rest_of_certified (map h us) d (l t.line))) (steps c t i)
+      ap (λ n. and_then (judged_certified n (certify_one (g c) (terminal_of (h t)))) (λ d. rest_of_certified (map h us) d n)) (lines t)
+      ∙ ap (λ o. and_then (judged_certified (l t.line) o) (λ d. rest_of_certified (map h us) d (l t.line))) (steps c t i)
       ∙ by_step (certify_one c (terminal_of t)) (stays_in_rows c.phase c.declarations c.rows (terminal_of t) i) (λ s j. rest_carried us s t.line j)
     where
       by_step : (o : Option Certifying) → IfInRows o
           → ((s : Certifying) → IsInRows s.phase → rest_of_certified (map h us) (g s) (l t.line) ≡ result_carried (rest_of_certified us s t.line))
-          → and_then_certify (judged_certified (l t.line) (option_map g o)) (λ d. rest_of_certified (map h us) d (l t.line))
-          ≡ result_carried (and_then_certify (judged_certified t.line o) (λ d. rest_of_certified us d t.line))
+          → and_then (judged_certified (l t.line) (option_map g o)) (λ d. rest_of_certified (map h us) d (l t.line))
+          ≡ result_carried (and_then (judged_certified t.line o) (λ d. rest_of_certified us d t.line))
       by_step None j more = refl
       by_step (Some s) j more =
-          ap (λ n. and_then_certify (if nat_le n 256 then Ok (g s) else Err (error.TooDeep (l t.line))) (λ d. rest_of_certified (map h us) d (l t.line))) (opens s)
+          ap (λ n. and_then (if nat_le n 256 then Ok (g s) else Err (error.TooDeep (l t.line))) (λ d. rest_of_certified (map h us) d (l t.line))) (opens s)
           ∙ by_test (nat_le (open_certified s) 256)
         where
           by_test : (b : Bool)
-              → and_then_certify (if b then Ok (g s) else Err (error.TooDeep (l t.line))) (λ d. rest_of_certified (map h us) d (l t.line))
-              ≡ result_carried (and_then_certify (if b then Ok s else Err (error.TooDeep t.line)) (λ d. rest_of_certified us d t.line))
+              → and_then (if b then Ok (g s) else Err (error.TooDeep (l t.line))) (λ d. rest_of_certified (map h us) d (l t.line))
+              ≡ result_carried (and_then (if b then Ok s else Err (error.TooDeep t.line)) (λ d. rest_of_certified us d t.line))
           by_test true = more s j
           by_test false = refl
 

@@ -3,7 +3,7 @@ use Rattle.std.proofs.Common.{◌≡◌, ◌≤◌, ◌+◌, ℕ, List, [], ◌�
 use Rattle.std.proofs.lemmas.List.Elements.{All-tail}
 use Rattle.std.specs.Prelude.{All}
 use Rattle.nk_lex.specs.Spelling.{Lexeme, IsApart, AreApart, text_of, tokens_from, CutsLexemes}
-use Rattle.nk_grammar.specs.declared.ast.Number.{Number}
+use Rattle.nk_lex.specs.declared.word.Number.{Number}
 use Rattle.nk_grammar.specs.Terminal.{Terminal, colon, outside, certificate_word, row_word, start_word}
 use Rattle.nk_grammar.specs.Grammar.{Pol, spell_pol}
 use Rattle.nk_grammar.specs.Answer.{terminals}

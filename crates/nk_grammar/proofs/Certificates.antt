@@ -11,9 +11,10 @@ use Rattle.nk_grammar.specs.Reader.{IsDeep}
 use Rattle.nk_grammar.specs.File.{Declaration}
 use Rattle.nk_grammar.specs.FileMachine.{Fails, Reading, judged, open_count}
 use Rattle.nk_grammar.specs.Certified.{Row}
-use Rattle.nk_grammar.specs.CertifiedMachine.{Certifying, certifying, declaring, in_row, judged_certified, row_on, open_certified, certify_one, rest_of_certified, certified_of, and_then_certify, still_declaring}
+use Rattle.nk_grammar.specs.CertifiedMachine.{Certifying, certifying, declaring, in_row, judged_certified, row_on, open_certified, certify_one, rest_of_certified, certified_of, still_declaring}
 use Rattle.nk_lex.specs.declared.token.Token.{Token}
 use Rattle.std.specs.declared.result.Result.{Result}
+use Rattle.nk_lex.specs.Faults.{and_then}
 use Rattle.nk_grammar.proofs.Files.{within, beyond, left_is}
 
 -- a token that a row's policy takes is taken
@@ -74,7 +75,7 @@ pub one_certified : (xs : List Token) (i : ℕ) (t : Token) (r r' : Certifying) 
     → judged_certified t.line (certify_one r (terminal_of t)) ≡ Ok r' → IsCertifiedRead xs i r line → IsCertifiedRead xs (i + 1) r' t.line
 one_certified xs i t r r' line lt is e inv = (
   shallow t.line (certify_one r (terminal_of t)) r' e,
-  sym (ap (λ x. and_then_certify x (λ s. rest_of_certified (drop (i + 1) xs) s t.line)) e) ∙ sym (ap (λ l. rest_of_certified l r line) (left_is xs i t lt is)) ∙ inv.1,
+  sym (ap (λ x. and_then x (λ s. rest_of_certified (drop (i + 1) xs) s t.line)) e) ∙ sym (ap (λ l. rest_of_certified l r line) (left_is xs i t lt is)) ∙ inv.1,
 )
 
 -- a token that is refused is the fault of the whole
@@ -82,6 +83,6 @@ pub one_refused : (xs : List Token) (i : ℕ) (t : Token) (r : Certifying) (line
     → Fails e (judged_certified t.line (certify_one r (terminal_of t))) → IsCertifiedRead xs i r line → Fails e (certified_of xs)
 one_refused xs i t r line error.NoMemory lt is f inv = tt
 one_refused xs i t r line (error.Unexpected at) lt is f inv =
-    sym inv.1 ∙ ap (λ l. rest_of_certified l r line) (left_is xs i t lt is) ∙ ap (λ x. and_then_certify x (λ s. rest_of_certified (drop (i + 1) xs) s t.line)) f
+    sym inv.1 ∙ ap (λ l. rest_of_certified l r line) (left_is xs i t lt is) ∙ ap (λ x. and_then x (λ s. rest_of_certified (drop (i + 1) xs) s t.line)) f
 one_refused xs i t r line (error.TooDeep at) lt is f inv =
-    sym inv.1 ∙ ap (λ l. rest_of_certified l r line) (left_is xs i t lt is) ∙ ap (λ x. and_then_certify x (λ s. rest_of_certified (drop (i + 1) xs) s t.line)) f
+    sym inv.1 ∙ ap (λ l. rest_of_certified l r line) (left_is xs i t lt is) ∙ ap (λ x. and_then x (λ s. rest_of_certified (drop (i + 1) xs) s t.line)) f

@@ -6,8 +6,10 @@ use Rattle.nk_lex.specs.declared.token.Token.{Token}
 use Rattle.nk_grammar.specs.declared.decl.GrammarError.TheVariants as error
 use Rattle.nk_grammar.specs.Terminal.{Terminal, terminal_of}
 use Rattle.nk_grammar.specs.Certified.{Certified, HasCertificate}
-use Rattle.nk_grammar.specs.CertifiedMachine.{Certifying, certify_one, certify_all, first_certifying, certified_at_end, open_certified, judged_certified, certified_end_at, and_then_certify, rest_of_certified, certified_of}
-use Rattle.nk_grammar.specs.Answer.{terminals, last_line}
+use Rattle.nk_grammar.specs.CertifiedMachine.{Certifying, certify_one, certify_all, first_certifying, certified_at_end, open_certified, judged_certified, certified_end_at, rest_of_certified, certified_of}
+use Rattle.nk_grammar.specs.Answer.{terminals}
+use Rattle.nk_lex.specs.Spans.{last_line}
+use Rattle.nk_lex.specs.Faults.{and_then}
 use Rattle.nk_grammar.specs.CertifiedAnswer.{IsCertifiedShallow, IsCertifiedUnexpectedEnd, IsCertifiedAnswer}
 use Rattle.nk_grammar.proofs.CertifiedTexts.{reads_certified, ends_certified, certified_goes_on, certified_stops, certify_append}
 use Rattle.nk_grammar.proofs.Fronts.{none_some}
@@ -101,7 +103,7 @@ rest_answers whole (t ∷ rest) before r parts read shallow = by_step (certify_o
 
     by_step : (o : Option Certifying) → certify_one r (terminal_of t) ≡ o
         → ((s : Certifying) → certify_all (terminals (before ++ t ∷ [])) first_certifying ≡ Some s → IsCertifiedShallow (terminals (before ++ t ∷ [])) → IsCertifiedAnswer whole (rest_of_certified rest s (last_line 1 (before ++ t ∷ []))))
-        → IsCertifiedAnswer whole (and_then_certify (judged_certified t.line o) (λ s. rest_of_certified rest s t.line))
+        → IsCertifiedAnswer whole (and_then (judged_certified t.line o) (λ s. rest_of_certified rest s t.line))
     by_step None e go = inl (record {
       before = before;
       token = t;
@@ -114,7 +116,7 @@ rest_answers whole (t ∷ rest) before r parts read shallow = by_step (certify_o
     })
     by_step (Some s) e go = by_count (nat_le (open_certified s) 256) refl
       where
-        by_count : (b : Bool) → nat_le (open_certified s) 256 ≡ b → IsCertifiedAnswer whole (and_then_certify (if b then Ok s else Err (error.TooDeep t.line)) (λ s. rest_of_certified rest s t.line))
+        by_count : (b : Bool) → nat_le (open_certified s) 256 ≡ b → IsCertifiedAnswer whole (and_then (if b then Ok s else Err (error.TooDeep t.line)) (λ s. rest_of_certified rest s t.line))
         by_count true f =
             subst (λ line. IsCertifiedAnswer whole (rest_of_certified rest s line)) (last_more 1 before t)
             (go s (all_read (Some s) e) (subst IsCertifiedShallow (sym (terminals_more before t))

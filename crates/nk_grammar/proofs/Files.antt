@@ -2,7 +2,7 @@
 use Rattle.std.proofs.Common.{◌+◌, suc, drop, get_or, drop-cons, add-one, ◌≡◌, ◌≤◌, ◌<◌, ℕ, List, ◌∷◌, Bool, true, false, length, refl, ap, sym, subst, ◌∙◌, arith, Option}
 use Rattle.std.specs.Prelude.{Some, None, Ok, Err, nat_le, if◌then◌else◌}
 use Rattle.std.proofs.lemmas.Bool.Decides.{nat_tests}
-use Rattle.nk_grammar.specs.declared.ast.Word.{Word}
+use Rattle.nk_lex.specs.declared.word.Word.{Word}
 use Rattle.nk_grammar.specs.declared.decl.GrammarError.{GrammarError}
 use Rattle.nk_grammar.specs.declared.decl.GrammarError.TheVariants as error
 use Rattle.nk_grammar.specs.Terminal.{Terminal}
@@ -10,10 +10,11 @@ use Rattle.nk_grammar.specs.Tree.{Tree}
 use Rattle.nk_grammar.specs.Machine.{State}
 use Rattle.nk_grammar.specs.Reader.{IsDeep}
 use Rattle.nk_grammar.specs.File.{Declaration}
-use Rattle.nk_grammar.specs.FileMachine.{Reading, reading, in_policy, judged, policy_on, open_count, read_one, rest_of_file, file_of, and_then_read, Fails}
+use Rattle.nk_grammar.specs.FileMachine.{Reading, reading, in_policy, judged, policy_on, open_count, read_one, rest_of_file, file_of, Fails}
 use Rattle.nk_lex.specs.declared.token.Token.{Token}
 use Rattle.nk_grammar.specs.Terminal.{terminal_of}
 use Rattle.std.specs.declared.result.Result.{Result}
+use Rattle.nk_lex.specs.Faults.{and_then}
 
 -- the test of the limit, where it passes
 pub within : (n : ℕ) → n ≤ 256 → nat_le n 256 ≡ true
@@ -74,7 +75,7 @@ pub one_read : (xs : List Token) (i : ℕ) (t : Token) (r r' : Reading) (line : 
     → judged t.line (read_one r (terminal_of t)) ≡ Ok r' → IsRead xs i r line → IsRead xs (i + 1) r' t.line
 one_read xs i t r r' line lt is e inv = (
   shallow t.line (read_one r (terminal_of t)) r' e,
-  sym (ap (λ x. and_then_read x (λ s. rest_of_file (drop (i + 1) xs) s t.line)) e) ∙ sym (ap (λ l. rest_of_file l r line) (left_is xs i t lt is)) ∙ inv.1,
+  sym (ap (λ x. and_then x (λ s. rest_of_file (drop (i + 1) xs) s t.line)) e) ∙ sym (ap (λ l. rest_of_file l r line) (left_is xs i t lt is)) ∙ inv.1,
 )
 
 -- a token that is refused is the fault of the whole
@@ -83,6 +84,6 @@ pub one_refused : (xs : List Token) (i : ℕ) (t : Token) (r : Reading) (line : 
     → Fails e (judged t.line (read_one r (terminal_of t))) → IsRead xs i r line → Fails e (file_of xs)
 one_refused xs i t r line error.NoMemory lt is f inv = tt
 one_refused xs i t r line (error.Unexpected at) lt is f inv =
-    sym inv.1 ∙ ap (λ l. rest_of_file l r line) (left_is xs i t lt is) ∙ ap (λ x. and_then_read x (λ s. rest_of_file (drop (i + 1) xs) s t.line)) f
+    sym inv.1 ∙ ap (λ l. rest_of_file l r line) (left_is xs i t lt is) ∙ ap (λ x. and_then x (λ s. rest_of_file (drop (i + 1) xs) s t.line)) f
 one_refused xs i t r line (error.TooDeep at) lt is f inv =
-    sym inv.1 ∙ ap (λ l. rest_of_file l r line) (left_is xs i t lt is) ∙ ap (λ x. and_then_read x (λ s. rest_of_file (drop (i + 1) xs) s t.line)) f
+    sym inv.1 ∙ ap (λ l. rest_of_file l r line) (left_is xs i t lt is) ∙ ap (λ x. and_then x (λ s. rest_of_file (drop (i + 1) xs) s t.line)) f

@@ -3,7 +3,8 @@
 use Rattle.std.proofs.Common.{◌≡◌, ◌≤◌, ◌+◌, ℕ, List, [], ◌∷◌, ◌++◌, true, length, refl, sym, subst, ◌∙◌, ap, append_assoc, append-nil, arith, Option, cond}
 use Rattle.std.specs.Prelude.{Some, None, Ok, Err, IfSome, option_and_then, option_map}
 use Rattle.nk_lex.specs.declared.token.Token.{Token}
-use Rattle.nk_grammar.specs.declared.ast.Word.{Word}
+use Rattle.nk_lex.specs.declared.word.Word.{Word}
+use Rattle.nk_lex.specs.Faults.{and_then}
 use Rattle.nk_grammar.specs.declared.decl.GrammarError.TheVariants as error
 use Rattle.nk_grammar.specs.declared.place.Place.TheVariants as place
 use Rattle.nk_grammar.specs.Terminal.{Terminal, name, equal, outside, let_word, plus_sign, semicolon, star_sign, closing, terminal_of}
@@ -11,7 +12,7 @@ use Rattle.nk_grammar.specs.Tree.{Tree, Trees, name_of, no_part, with_part, sum_
 use Rattle.nk_grammar.specs.Grammar.{Pol, Term, Factor, Atom, one_term, plus, one_factor, semi, plain, starred, written_not, written_id, written_drop, written_dup, written_name, written_test, written_range, written_set, written_link, paren, spell_pol, spell_term, spell_factor, spell_atom, terms_of, factors_of, factor_tree, atom_tree, pol_tree}
 use Rattle.nk_grammar.specs.Machine.{Open, group, negation, State, state, start, atom_ended, run, step, ended, HasNoNegation}
 use Rattle.nk_grammar.specs.File.{definition}
-use Rattle.nk_grammar.specs.FileMachine.{Reading, reading, let_read, let_named, in_policy, judged, policy_on, open_count, read_one, first_reading, one_more, ended_at, rest_of_file, file_of, and_then_read}
+use Rattle.nk_grammar.specs.FileMachine.{Reading, reading, let_read, let_named, in_policy, judged, policy_on, open_count, read_one, first_reading, one_more, ended_at, rest_of_file, file_of}
 use Rattle.nk_grammar.specs.Answer.{terminals}
 use Rattle.nk_grammar.specs.Nesting.{nesting_of_pol, nesting_of_term, nesting_of_factor, nesting_of_atom}
 use Rattle.nk_grammar.proofs.Spelled.{IsFree, has_star, term_has_star, pol_has_star, early, late, early_late, one_star, step_atom, reads_tree}
@@ -94,9 +95,9 @@ module _ (n : ℕ) where
 one_step : (t : Token) (x : Terminal) (r s : Reading) (ts : List Token) (line : ℕ) → terminal_of t ≡ x
     → read_one r x ≡ Some s → open_count s ≤ 256 → rest_of_file (t ∷ ts) r line ≡ rest_of_file ts s t.line
 one_step t x r s ts line e f le =
-    ap (λ y. and_then_read (judged t.line (read_one r y)) (λ q. rest_of_file ts q t.line)) e
-    ∙ ap (λ o. and_then_read (judged t.line o) (λ q. rest_of_file ts q t.line)) f
-    ∙ ap (λ b. and_then_read (cond b (Ok s) (Err (error.TooDeep t.line))) (λ q. rest_of_file ts q t.line)) (within (open_count s) le)
+    ap (λ y. and_then (judged t.line (read_one r y)) (λ q. rest_of_file ts q t.line)) e
+    ∙ ap (λ o. and_then (judged t.line o) (λ q. rest_of_file ts q t.line)) f
+    ∙ ap (λ b. and_then (cond b (Ok s) (Err (error.TooDeep t.line))) (λ q. rest_of_file ts q t.line)) (within (open_count s) le)
 
 -- what is not there is no tree
 no_tree : {A : Type 0} (t : Tree) → ◌≡◌ {A = Option Tree} None (Some t) → A

@@ -3,7 +3,8 @@ use Rattle.std.proofs.Common.{◌≡◌, ◌≤◌, ℕ, List, [], ◌∷◌, �
 use Rattle.std.proofs.lemmas.List.Elements.{All-tail}
 use Rattle.std.specs.Prelude.{Some, None, Ok, Err, All, IfSome, option_and_then}
 use Rattle.nk_lex.specs.declared.token.Token.{Token}
-use Rattle.nk_grammar.specs.declared.ast.Number.{Number}
+use Rattle.nk_lex.specs.declared.word.Number.{Number}
+use Rattle.nk_lex.specs.Faults.{and_then}
 use Rattle.nk_grammar.specs.declared.decl.GrammarError.TheVariants as error
 use Rattle.nk_grammar.specs.declared.place.Place.TheVariants as place
 use Rattle.nk_grammar.specs.Terminal.{Terminal, number, colon, outside, certificate_word, row_word, terminal_of}
@@ -14,7 +15,7 @@ use Rattle.nk_grammar.specs.File.{Declaration}
 use Rattle.nk_grammar.specs.Answer.{terminals}
 use Rattle.nk_grammar.specs.Nesting.{nesting_of_pol}
 use Rattle.nk_grammar.specs.Certified.{Row, row, WrittenRow, written_row, spell_numbers, spell_rows, spell_certificate, rows_of, Certified, certified}
-use Rattle.nk_grammar.specs.CertifiedMachine.{in_row, numbers_read, Certifying, certifying, row_done, row_on, certify_one, certify_all, first_certifying, certified_at_end, open_certified, judged_certified, certified_end_at, and_then_certify, rest_of_certified, certified_of}
+use Rattle.nk_grammar.specs.CertifiedMachine.{in_row, numbers_read, Certifying, certifying, row_done, row_on, certify_one, certify_all, first_certifying, certified_at_end, open_certified, judged_certified, certified_end_at, rest_of_certified, certified_of}
 use Rattle.nk_grammar.specs.Moved.{nesting_of_row}
 use Rattle.nk_grammar.proofs.Files.{within}
 use Rattle.nk_grammar.proofs.Spelled.{IsFree, pol_has_star, early, late}
@@ -44,10 +45,10 @@ read_low (t ∷ ts) c line x low e = by_step (certify_one c (terminal_of t)) low
     by_step : (o : Option Certifying) → IfSome o (λ d. LowRows (terminals ts) d)
         → option_and_then certified_at_end (option_and_then (certify_all (terminals ts)) o) ≡ Some x
         → ((d : Certifying) → LowRows (terminals ts) d → option_and_then certified_at_end (certify_all (terminals ts) d) ≡ Some x → rest_of_certified ts d t.line ≡ Ok x)
-        → and_then_certify (judged_certified t.line o) (λ d. rest_of_certified ts d t.line) ≡ Ok x
+        → and_then (judged_certified t.line o) (λ d. rest_of_certified ts d t.line) ≡ Ok x
     by_step None l f more = nothing x f
     by_step (Some d) l f more =
-        ap (λ b. and_then_certify (cond b (Ok d) (Err (error.TooDeep t.line))) (λ q. rest_of_certified ts q t.line)) (within (open_certified d) (low_now ts d l))
+        ap (λ b. and_then (cond b (Ok d) (Err (error.TooDeep t.line))) (λ q. rest_of_certified ts q t.line)) (within (open_certified d) (low_now ts d l))
         ∙ more d l f
 
 -- the tokens of a policy in a row, and those behind it

@@ -1,7 +1,7 @@
 -- What is spelled passes, and leaves its syntax tree.
 use Rattle.std.proofs.Common.{◌≡◌, List, [], ◌∷◌, ◌++◌, Bool, true, false, refl, sym, ◌∙◌, ap, append_assoc, append-nil, Option}
 use Rattle.std.specs.Prelude.{Some, None, option_and_then, option_map, if◌then◌else◌}
-use Rattle.nk_grammar.specs.declared.ast.Word.{Word}
+use Rattle.nk_lex.specs.declared.word.Word.{Word}
 use Rattle.nk_grammar.specs.declared.place.Place.TheVariants as place
 use Rattle.nk_grammar.specs.Terminal.{Terminal, plus_sign, semicolon, star_sign, closing, is_equal, is_in, is_becomes}
 use Rattle.nk_grammar.specs.Tree.{Tree, Trees, name_of, not_of, star_of, no_part, part, with_part, with_star, sum_from, seq_from}

@@ -6,14 +6,15 @@ use Rattle.nk_lex.specs.declared.token.Token.{Token}
 use Rattle.nk_lex.specs.Lex.{tokens_of}
 use Rattle.nk_lex.specs.Spans.{line_feeds}
 use Rattle.nk_lex.specs.Joined.{token_moved, behind, JoinsTexts}
+use Rattle.nk_lex.specs.Faults.{and_then}
 use Rattle.nk_grammar.specs.declared.decl.GrammarError.{GrammarError}
 use Rattle.nk_grammar.specs.declared.decl.GrammarError.TheVariants as error
 use Rattle.nk_grammar.specs.Terminal.{Terminal, outside, certificate_word, terminal_of}
 use Rattle.nk_grammar.specs.File.{Declaration, Written, declared, spell_file}
-use Rattle.nk_grammar.specs.FileMachine.{Reading, read_one, first_reading, declarations_at_end, open_count, judged, ended_at, and_then_read, rest_of_file, file_of}
+use Rattle.nk_grammar.specs.FileMachine.{Reading, read_one, first_reading, declarations_at_end, open_count, judged, ended_at, rest_of_file, file_of}
 use Rattle.nk_grammar.specs.Answer.{terminals}
 use Rattle.nk_grammar.specs.Certified.{Row, certified, spell_certificate}
-use Rattle.nk_grammar.specs.CertifiedMachine.{declaring, row_wanted, certifying, certificate_begins, still_declaring, certify_one, judged_certified, and_then_certify, rest_of_certified, certified_of}
+use Rattle.nk_grammar.specs.CertifiedMachine.{declaring, row_wanted, certifying, certificate_begins, still_declaring, certify_one, judged_certified, rest_of_certified, certified_of}
 use Rattle.nk_grammar.specs.CertifiedAnswer.{IsCertifiedAnswer}
 use Rattle.nk_grammar.specs.Moved.{row_moved, IsReadTogether}
 use Rattle.nk_grammar.proofs.Certificates.{as_declaring, declaring_judged}
@@ -46,13 +47,13 @@ front_read [] us r ds line e = record { left = r; last = line; ends = at_end (de
         same f = cc
 front_read (t ∷ ts) us r ds line e = by_step (read_one r (terminal_of t)) refl e (λ s f. front_read ts us s ds t.line f)
   where
-    by_step : (o : Option Reading) → read_one r (terminal_of t) ≡ o → and_then_read (judged t.line o) (λ s. rest_of_file ts s t.line) ≡ Ok ds
+    by_step : (o : Option Reading) → read_one r (terminal_of t) ≡ o → and_then (judged t.line o) (λ s. rest_of_file ts s t.line) ≡ Ok ds
         → ((s : Reading) → rest_of_file ts s t.line ≡ Ok ds → IsRead ts us s ds t.line) → IsRead (t ∷ ts) us r ds line
     by_step None f g more = no_value (error.Unexpected t.line) ds g
     by_step (Some s) f g more = by_test (nat_le (open_count s) 256) refl g
       where
         by_test : (b : Bool) → nat_le (open_count s) 256 ≡ b
-            → and_then_read (if b then Ok s else Err (error.TooDeep t.line)) (λ q. rest_of_file ts q t.line) ≡ Ok ds → IsRead (t ∷ ts) us r ds line
+            → and_then (if b then Ok s else Err (error.TooDeep t.line)) (λ q. rest_of_file ts q t.line) ≡ Ok ds → IsRead (t ∷ ts) us r ds line
         by_test false h i = no_value (error.TooDeep t.line) ds i
         by_test true h i =
             let next = more s i in record {
@@ -60,11 +61,11 @@ front_read (t ∷ ts) us r ds line e = by_step (read_one r (terminal_of t)) refl
               last = next.last;
               ends = next.ends;
               rest =
-                  ap (λ b. and_then_certify (judged_certified t.line (if b then certificate_begins [] (declarations_at_end r) else still_declaring [] (read_one r (terminal_of t)))) (λ c. rest_of_certified (ts ++ us) c t.line))
+                  ap (λ b. and_then (judged_certified t.line (if b then certificate_begins [] (declarations_at_end r) else still_declaring [] (read_one r (terminal_of t)))) (λ c. rest_of_certified (ts ++ us) c t.line))
                   (not_certificate r s (terminal_of t) f)
-                  ∙ ap (λ o. and_then_certify (judged_certified t.line (still_declaring [] o)) (λ c. rest_of_certified (ts ++ us) c t.line)) f
-                  ∙ ap (λ x. and_then_certify x (λ c. rest_of_certified (ts ++ us) c t.line)) (declaring_judged [] t.line (Some s))
-                  ∙ ap (λ b. and_then_certify (as_declaring [] (if b then Ok s else Err (error.TooDeep t.line))) (λ c. rest_of_certified (ts ++ us) c t.line)) h
+                  ∙ ap (λ o. and_then (judged_certified t.line (still_declaring [] o)) (λ c. rest_of_certified (ts ++ us) c t.line)) f
+                  ∙ ap (λ x. and_then x (λ c. rest_of_certified (ts ++ us) c t.line)) (declaring_judged [] t.line (Some s))
+                  ∙ ap (λ b. and_then (as_declaring [] (if b then Ok s else Err (error.TooDeep t.line))) (λ c. rest_of_certified (ts ++ us) c t.line)) h
                   ∙ next.rest;
             }
 
@@ -103,8 +104,8 @@ word_read : (u : Token) (us : List Token) (r : Reading) (ds : List Declaration) 
     → declarations_at_end r ≡ Some ds
     → rest_of_certified (u ∷ us) (certifying (declaring r) [] []) line ≡ rest_of_certified us (certifying row_wanted ds []) u.line
 word_read u us r ds line e f =
-    ap (λ x. and_then_certify (judged_certified u.line (certify_one (certifying (declaring r) [] []) x)) (λ c. rest_of_certified us c u.line)) e
-    ∙ ap (λ o. and_then_certify (judged_certified u.line (certificate_begins [] o)) (λ c. rest_of_certified us c u.line)) f
+    ap (λ x. and_then (judged_certified u.line (certify_one (certifying (declaring r) [] []) x)) (λ c. rest_of_certified us c u.line)) e
+    ∙ ap (λ o. and_then (judged_certified u.line (certificate_begins [] o)) (λ c. rest_of_certified us c u.line)) f
 
 -- ---- the laws
 

@@ -1,37 +1,18 @@
 -- What is read from tokens of a text with a certificate: its declarations and positions are those of a text.
-use Rattle.std.proofs.Common.{◌≡◌, ◌≤◌, ℕ, subst, List, [], ◌∷◌, ◌++◌, sym, ap, arith}
+use Rattle.std.proofs.Common.{◌≡◌, ◌≤◌, subst, List, [], ◌∷◌, ◌++◌, sym, ap, arith}
 use Rattle.std.proofs.lemmas.List.Elements.{All-nil, All-cons, All-tail}
-use Rattle.std.specs.Prelude.{Ok, map, All, ⊤, IsUtf8}
-use Rattle.nk_lex.specs.declared.kind.Kind.{Kind}
-use Rattle.nk_lex.specs.declared.kind.Kind.TheVariants as kind
+use Rattle.std.specs.Prelude.{Ok, map, All}
 use Rattle.nk_lex.specs.declared.token.Token.{Token}
 use Rattle.nk_lex.specs.Lex.{largest}
-use Rattle.nk_grammar.specs.declared.ast.Number.{Number}
-use Rattle.nk_grammar.specs.Terminal.{Terminal, number, opening, colon, outside, certificate_word, row_word, start_word, terminal_from, terminal_of}
+use Rattle.nk_lex.specs.declared.word.Number.{Number}
+use Rattle.nk_grammar.specs.Terminal.{Terminal, number, opening, colon, outside, certificate_word, row_word, start_word}
 use Rattle.nk_grammar.specs.Grammar.{spell_pol, pol_tree}
 use Rattle.nk_grammar.specs.File.{Declaration, IsWritten, spell_file}
 use Rattle.nk_grammar.specs.Certified.{Row, row, IsWrittenRow, WrittenRow, written_row, spell_numbers, spell_row, spell_rows, value_of, row_of, spell_certificate, certified}
 use Rattle.nk_grammar.specs.CertifiedMachine.{certified_of}
-use Rattle.nk_grammar.specs.Answer.{terminals}
 use Rattle.nk_grammar.specs.CertifiedAnswer.{IsCertifiedAnswer}
 use Rattle.nk_grammar.proofs.CertifiedAnswering.{answers}
-use Rattle.nk_grammar.proofs.Written.{IsText, are_text, written_all}
-
--- a number is one of a text
-abbrev IsSmall : Terminal → Type 0
-IsSmall (number n) = n.value ≤ largest
-IsSmall t = ⊤
-
-small_from : (k : Kind) (line value : ℕ) (text : List ℕ) → value ≤ largest → IsSmall (terminal_from k line value text)
-small_from kind.Number line value text v = v
-small_from k line value text v = tt
-
--- the terminals of tokens with such values
-are_small : (ts : List Token) → All (λ t. t.value ≤ largest) ts → All IsSmall (terminals ts)
-are_small [] v = All-nil IsSmall
-are_small (t ∷ ts) v =
-    All-cons IsSmall (terminal_of t) (terminals ts) (small_from t.kind t.line t.value t.text (v 0 t (omega arith)))
-    (are_small ts (All-tail (λ x. x.value ≤ largest) t ts v))
+use Rattle.nk_grammar.proofs.Written.{IsSmall, are_small, written_all}
 
 -- what stands in front
 all_before : (P : Terminal → Type 0) (xs ys : List Terminal) → All P (xs ++ ys) → All P xs
@@ -67,14 +48,14 @@ rows_small (w ∷ ws) h =
 
 -- the declarations that are read
 pub declarations_written : (ts : List Token) (ds : List Declaration) (rs : List Row) → certified_of ts ≡ Ok (certified ds rs)
-    → All (λ t. IsUtf8 t.text) ts → All (λ t. t.value ≤ largest) ts → All IsWritten ds
-declarations_written ts ds rs e u v =
+    → All (λ t. t.value ≤ largest) ts → All IsWritten ds
+declarations_written ts ds rs e v =
     let answer : IsCertifiedAnswer ts (Ok (certified ds rs)) = subst (IsCertifiedAnswer ts) e (answers ts) in
     let h = answer.0 in
     let behind : List Terminal = outside certificate_word ∷ spell_certificate h.line h.pred h.others in
-    let spelled : All IsText (spell_file h.decls ++ behind) = subst (All IsText) h.tokens (are_text ts u v) in
+    let spelled : All IsSmall (spell_file h.decls ++ behind) = subst (All IsSmall) h.tokens (are_small ts v) in
     subst (All IsWritten) (sym (ap (λ c. c.declarations) h.value))
-    (written_all h.decls (all_before IsText (spell_file h.decls) behind spelled))
+    (written_all h.decls (all_before IsSmall (spell_file h.decls) behind spelled))
 
 -- the rows that are read
 pub rows_written : (ts : List Token) (ds : List Declaration) (rs : List Row) → certified_of ts ≡ Ok (certified ds rs)

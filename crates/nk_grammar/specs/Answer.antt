@@ -2,6 +2,7 @@
 use Rattle.std.specs.Prelude.{◌≡◌, ◌<◌, ℕ, List, [], ◌∷◌, ◌++◌, map, Some, Ok, Err, ◌⊎◌}
 use Rattle.std.specs.declared.result.Result.{Result}
 use Rattle.nk_lex.specs.declared.token.Token.{Token}
+use Rattle.nk_lex.specs.Spans.{last_line}
 use Rattle.nk_grammar.specs.declared.decl.GrammarError.{GrammarError}
 use Rattle.nk_grammar.specs.declared.decl.GrammarError.TheVariants as error
 use Rattle.nk_grammar.specs.Terminal.{Terminal, terminal_of}
@@ -11,11 +12,6 @@ use Rattle.nk_grammar.specs.FileMachine.{Reading, read_all, first_reading, open_
 -- the tokens as the grammar sees them
 abbrev pub terminals : List Token → List Terminal
 terminals ts = map terminal_of ts
-
--- the last token's line, or the one given where there is no token
-abbrev pub last_line : ℕ → List Token → ℕ
-last_line line [] = line
-last_line line (t ∷ ts) = last_line t.line ts
 
 -- behind these tokens more than 256 parentheses and `~` are open
 abbrev pub IsTooDeep : List Terminal → Type 0

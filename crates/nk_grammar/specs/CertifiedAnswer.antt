@@ -6,7 +6,8 @@ use Rattle.nk_grammar.specs.declared.decl.GrammarError.{GrammarError}
 use Rattle.nk_grammar.specs.declared.decl.GrammarError.TheVariants as error
 use Rattle.nk_grammar.specs.Terminal.{Terminal}
 use Rattle.nk_grammar.specs.Certified.{Certified, HasCertificate, CertifiedGoesOn}
-use Rattle.nk_grammar.specs.Answer.{terminals, last_line}
+use Rattle.nk_grammar.specs.Answer.{terminals}
+use Rattle.nk_lex.specs.Spans.{last_line}
 use Rattle.nk_grammar.specs.CertifiedMachine.{Certifying, certify_all, first_certifying, open_certified, certified_of}
 
 -- behind these tokens more than 256 parentheses and `~` are open

@@ -2,6 +2,7 @@
 use Rattle.std.specs.Prelude.{ℕ, List, [], ◌∷◌, ◌++◌, Option, Some, None, Ok, Err, if◌then◌else◌, length, Bool, true, false, option_and_then, nat_le}
 use Rattle.std.specs.declared.result.Result.{Result}
 use Rattle.nk_lex.specs.declared.token.Token.{Token}
+use Rattle.nk_lex.specs.Faults.{and_then}
 use Rattle.nk_grammar.specs.declared.decl.GrammarError.{GrammarError}
 use Rattle.nk_grammar.specs.declared.decl.GrammarError.TheVariants as error
 use Rattle.nk_grammar.specs.Terminal.{Terminal, outside, certificate_word, row_word, start_word, is_colon, terminal_of}
@@ -139,17 +140,11 @@ abbrev pub certified_end_at : ℕ → Option Certified → Result Certified Gram
 certified_end_at line None = Err (error.Unexpected line)
 certified_end_at line (Some c) = Ok c
 
--- go on, or stop at the fault
-abbrev pub and_then_certify : Result Certifying GrammarError → (Certifying → Result Certified GrammarError)
-    → Result Certified GrammarError
-and_then_certify (Ok c) f = f c
-and_then_certify (Err e) f = Err e
-
 -- the declarations and rows of the tokens that are left, or the first fault; `line` is that of the last token before
 abbrev pub rest_of_certified : List Token → Certifying → ℕ → Result Certified GrammarError
 rest_of_certified [] c line = certified_end_at line (certified_at_end c)
 rest_of_certified (t ∷ ts) c line =
-    and_then_certify (judged_certified t.line (certify_one c (terminal_of t))) (λ c. rest_of_certified ts c t.line)
+    and_then (judged_certified t.line (certify_one c (terminal_of t))) (λ c. rest_of_certified ts c t.line)
 
 -- the declarations and rows of a text's tokens, or the first fault
 abbrev pub certified_of : List Token → Result Certified GrammarError

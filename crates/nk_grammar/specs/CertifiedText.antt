@@ -3,7 +3,7 @@ use Rattle.std.specs.Prelude.{◌≡◌, ◌≤◌, ◌+◌, ℕ, List, [], ◌�
 use Rattle.nk_lex.specs.declared.token.Token.{Token}
 use Rattle.nk_lex.specs.Lex.{tokens_of}
 use Rattle.nk_lex.specs.Spelling.{Sign, Lexeme, text_of}
-use Rattle.nk_grammar.specs.declared.ast.Number.{Number}
+use Rattle.nk_lex.specs.declared.word.Number.{Number}
 use Rattle.nk_grammar.specs.Grammar.{Pol}
 use Rattle.nk_grammar.specs.Nesting.{nesting_of_pol}
 use Rattle.nk_grammar.specs.Text.{lexemes_of_pol, IsNumberOn, IsPolOn}

@@ -1,8 +1,8 @@
 -- The grammar of texts: declarations are written one after the other.
-use Rattle.std.specs.Prelude.{◌≡◌, ◌≤◌, ℕ, List, [], ◌∷◌, ◌++◌, map, ⊤, IsUtf8}
+use Rattle.std.specs.Prelude.{◌≡◌, ◌≤◌, ℕ, List, [], ◌∷◌, ◌++◌, map, ⊤}
 use Rattle.nk_lex.specs.Lex.{largest}
-use Rattle.nk_grammar.specs.declared.ast.Word.{Word}
-use Rattle.nk_grammar.specs.declared.ast.Number.{Number}
+use Rattle.nk_lex.specs.declared.word.Word.{Word}
+use Rattle.nk_lex.specs.declared.word.Number.{Number}
 use Rattle.nk_grammar.specs.declared.decl.Decl.{Decl}
 use Rattle.nk_grammar.specs.declared.decl.Decl.TheVariants as decl
 use Rattle.nk_grammar.specs.Terminal.{Terminal, name, number, equal, colon, outside, field_word, tag_word, switch_word, ports_word, link_word, let_word, arrow, comma}
@@ -68,7 +68,7 @@ HasDeclarations ts ds = (ws : List Written) × (ts ≡ spell_file ws) × (ds ≡
 abbrev pub FileGoesOn : List Terminal → Type 0
 FileGoesOn ts = (more : List Terminal) × (ws : List Written) × (ts ++ more ≡ spell_file ws)
 
--- what is read from the tokens of a text: a field's name is text, and its largest value a number of a text
+-- what is read from the tokens of a text: a field's largest value is a number of a text
 abbrev pub IsWritten : Declaration → Type 0
-IsWritten (field w n) = IsUtf8 w.text × (n.value ≤ largest)
+IsWritten (field w n) = n.value ≤ largest
 IsWritten d = ⊤

@@ -2,8 +2,9 @@
 use Rattle.std.specs.Prelude.{◌≡◌, ℕ, List, [], ◌∷◌, ◌++◌, Option, Some, None, Ok, Err, if◌then◌else◌, length, Bool, true, false, option_map, option_and_then, nat_le, ⊤}
 use Rattle.std.specs.declared.result.Result.{Result}
 use Rattle.nk_lex.specs.declared.token.Token.{Token}
-use Rattle.nk_grammar.specs.declared.ast.Word.{Word}
-use Rattle.nk_grammar.specs.declared.ast.Number.{Number}
+use Rattle.nk_lex.specs.declared.word.Word.{Word}
+use Rattle.nk_lex.specs.declared.word.Number.{Number}
+use Rattle.nk_lex.specs.Faults.{and_then}
 use Rattle.nk_grammar.specs.declared.place.Quad.{Quad}
 use Rattle.nk_grammar.specs.declared.place.Quad.TheVariants as quad
 use Rattle.nk_grammar.specs.declared.place.QuadNext.{QuadNext}
@@ -151,17 +152,11 @@ abbrev pub ended_at : ℕ → Option (List Declaration) → Result (List Declara
 ended_at line None = Err (error.Unexpected line)
 ended_at line (Some ds) = Ok ds
 
--- go on, or stop at the fault
-abbrev pub and_then_read : Result Reading GrammarError
-    → (Reading → Result (List Declaration) GrammarError) → Result (List Declaration) GrammarError
-and_then_read (Ok r) f = f r
-and_then_read (Err e) f = Err e
-
 -- the declarations of the tokens that are left, or the first fault; `line` is that of the last
 -- token before
 abbrev pub rest_of_file : List Token → Reading → ℕ → Result (List Declaration) GrammarError
 rest_of_file [] r line = ended_at line (declarations_at_end r)
-rest_of_file (t ∷ ts) r line = and_then_read (judged t.line (read_one r (terminal_of t))) (λ r. rest_of_file ts r t.line)
+rest_of_file (t ∷ ts) r line = and_then (judged t.line (read_one r (terminal_of t))) (λ r. rest_of_file ts r t.line)
 
 -- the declarations of a text's tokens, or the first fault
 abbrev pub file_of : List Token → Result (List Declaration) GrammarError

@@ -1,6 +1,6 @@
 -- A policy read token by token: what may come next, and what is open.
 use Rattle.std.specs.Prelude.{◌≡◌, ℕ, List, [], ◌∷◌, Bool, true, false, Option, Some, None, if◌then◌else◌, option_and_then}
-use Rattle.nk_grammar.specs.declared.ast.Number.{Number}
+use Rattle.nk_lex.specs.declared.word.Number.{Number}
 use Rattle.nk_grammar.specs.declared.place.Quad.{Quad}
 use Rattle.nk_grammar.specs.declared.place.Quad.TheVariants as quad
 use Rattle.nk_grammar.specs.declared.place.QuadNext.{QuadNext}

@@ -1,7 +1,7 @@
 -- How many parentheses and `~` are open at once in a policy as it is written, and that a `let` with at most 256 is read.
 use Rattle.std.specs.Prelude.{◌≡◌, ◌≤◌, ◌+◌, ℕ, max, List, [], ◌∷◌, Ok}
 use Rattle.nk_lex.specs.declared.token.Token.{Token}
-use Rattle.nk_grammar.specs.declared.ast.Word.{Word}
+use Rattle.nk_lex.specs.declared.word.Word.{Word}
 use Rattle.nk_grammar.specs.Grammar.{Pol, Term, Factor, Atom, one_term, plus, one_factor, semi, plain, starred, written_not, written_id, written_drop, written_dup, written_name, written_test, written_range, written_set, written_link, paren, pol_tree}
 use Rattle.nk_grammar.specs.File.{definition, written_let, spell_declaration}
 use Rattle.nk_grammar.specs.FileMachine.{file_of}

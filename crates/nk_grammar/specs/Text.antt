@@ -4,8 +4,8 @@ use Rattle.std.specs.Prelude.{◌≡◌, ◌≤◌, ℕ, List, [], ◌∷◌, �
 use Rattle.nk_lex.specs.declared.token.Token.{Token}
 use Rattle.nk_lex.specs.Lex.{largest, tokens_of}
 use Rattle.nk_lex.specs.Spelling.{Sign, Lexeme, IsName, text_of}
-use Rattle.nk_grammar.specs.declared.ast.Word.{Word}
-use Rattle.nk_grammar.specs.declared.ast.Number.{Number}
+use Rattle.nk_lex.specs.declared.word.Word.{Word}
+use Rattle.nk_lex.specs.declared.word.Number.{Number}
 use Rattle.nk_grammar.specs.Grammar.{Pol, Term, Factor, Atom, one_term, plus, one_factor, semi, plain, starred, written_not, written_id, written_drop, written_dup, written_name, written_test, written_range, written_set, written_link, paren, pol_tree}
 use Rattle.nk_grammar.specs.File.{definition}
 use Rattle.nk_grammar.specs.FileMachine.{file_of}

@@ -1,25 +1,7 @@
 //! The syntax trees of policies, with a line for each name, number and `~`.
 ghost use Rattle.std.specs.Prelude.{◌≡◌};
 
-use nk_lex::Bytes;
-
-/// A name with its line.
-#[derive(Drop)]
-pub struct Word {
-    /// The name's bytes.
-    pub text: Bytes,
-    /// The line that it stands on.
-    pub line: u64,
-}
-
-/// A number with its line.
-#[derive(Clone, Copy, Debug, PartialEq, Eq)]
-pub struct Number {
-    /// The number's value.
-    pub value: u64,
-    /// The line that it stands on.
-    pub line: u64,
-}
+use nk_lex::{Number, Word};
 
 /// The parts of a sum or a sequence, in order.
 #[derive(Drop)]

@@ -12,7 +12,6 @@ ghost use Rattle.std.specs.Prelude.{
   OnOk,
   IfErr,
   All,
-  IsUtf8,
 };
 ghost use Rattle.nk_lex.specs.Lex.{largest};
 ghost use Rattle.nk_grammar.specs.Certified.{IsWrittenRow, certified, row, row_value};
@@ -331,8 +330,8 @@ fn read_certified(alloc: Global, tokens: &[Token]) -> Result<File, GrammarError>
 pub fn file_with_certificate(alloc: Global, tokens: &[Token]) -> Result<File, GrammarError>
     ensures read { Returns (λ f. certified (map declaration_of f.decls) (map row_value f.rows)) result
         (certified_of tokens.now) }
-    // From the tokens of a text come names that are text, and numbers of a text.
-    ensures written { All (λ t. IsUtf8 t.text) tokens.now → All (λ t. t.value ≤ largest) tokens.now
+    // From the tokens of a text come numbers of a text.
+    ensures written { All (λ t. t.value ≤ largest) tokens.now
         → IfOk result (λ f. All IsWritten (map declaration_of f.decls)) }
     ensures positions { All (λ t. t.value ≤ largest) tokens.now
         → IfOk result (λ f. All IsWrittenRow (map row_value f.rows)) }

@@ -2,9 +2,10 @@
 ghost use Rattle.std.specs.Prelude.{◌≡◌};
 ghost use Rattle.nk_grammar.specs.declared.decl.GrammarError.TheVariants.{NoMemory};
 
-use crate::ast::{Ast, Number, Word};
+use crate::ast::Ast;
 use crate::place::Quad;
 use nk_field::List;
+use nk_lex::{Number, Word};
 use std::alloc::AllocError;
 use thiserror::Error;
 

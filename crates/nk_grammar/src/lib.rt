@@ -35,7 +35,7 @@ mod place;
 mod reader;
 mod text;
 
-pub use ast::{Ast, Asts, Number, Word};
+pub use ast::{Ast, Asts};
 pub use certified::file_with_certificate;
 pub use decl::{CertRow, Decl, File, GrammarError};
 pub use laws::{

@@ -4,9 +4,8 @@ ghost use Rattle.nk_grammar.specs.FileMachine.{name_in};
 ghost use Rattle.nk_grammar.specs.Machine.{number_in, quad_step};
 ghost use Rattle.nk_grammar.specs.Terminal.{is_between, is_colon, is_dots, terminal_of};
 
-use crate::ast::{Number, Word};
 use crate::place::{Quad, QuadNext};
-use nk_lex::{Bytes, Kind, Token};
+use nk_lex::{Kind, Number, Token, Word, word_of};
 use std::alloc::{AllocError, Global};
 
 /// The number that a token is.
@@ -20,16 +19,6 @@ pub fn number_of(token: &Token) -> Option<Number>
         }),
         _ => None,
     }
-}
-
-/// The name that a token is.
-pub fn word_of(alloc: Global, token: &Token) -> Result<Word, AllocError>
-    ensures { IfOk result (λ w. (w.text ≡ token.now.text) × (w.line ≡ token.now.line)) }
-{
-    Ok(Word {
-        text: Bytes::of(alloc, token.text.as_slice())?,
-        line: token.line,
-    })
 }
 
 /// The sign `..`.

@@ -1,5 +1,5 @@
 //! What may come next in a policy.
-use crate::ast::{Number, Word};
+use nk_lex::{Number, Word};
 
 /// How much of `NUMBER : NUMBER => NUMBER : NUMBER` stands there.
 #[derive(Clone, Copy, Debug, PartialEq, Eq)]

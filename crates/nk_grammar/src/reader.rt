@@ -41,12 +41,12 @@ ghost use Rattle.nk_grammar.specs.Reader.{
 ghost use Rattle.nk_grammar.specs.Terminal.{terminal_of};
 ghost use Rattle.nk_grammar.specs.Tree.{tree_of, trees_of};
 
-use crate::ast::{Ast, Number, Word};
+use crate::ast::Ast;
 use crate::build::{join, push, sequence, star_on_last, sum};
 use crate::frame::{Frame, Took, pop_negation};
-use crate::parts::{is_dots_token, number_of, quad_after, word_of};
+use crate::parts::{is_dots_token, number_of, quad_after};
 use crate::place::{Place, Quad, QuadNext};
-use nk_lex::{Kind, Token};
+use nk_lex::{Kind, Number, Token, Word, word_of};
 use std::alloc::{AllocError, Global};
 use std::mem::replace;
 

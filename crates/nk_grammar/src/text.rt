@@ -14,7 +14,6 @@ ghost use Rattle.std.specs.Prelude.{
   OnOk,
   IfErr,
   All,
-  IsUtf8,
 };
 ghost use Rattle.nk_lex.specs.Lex.{largest};
 ghost use Rattle.nk_grammar.specs.File.{
@@ -58,14 +57,14 @@ ghost use Rattle.nk_grammar.specs.Reader.{reader_state, stack_in};
 ghost use Rattle.nk_grammar.specs.Terminal.{terminal_of};
 ghost use Rattle.nk_grammar.specs.Tree.{tree_of, trees_of};
 
-use crate::ast::{Ast, Number, Word};
+use crate::ast::Ast;
 use crate::decl::{Decl, File, GrammarError, Stage};
 use crate::frame::Took;
 use crate::parts::{name_of, number_of, quad_after};
 use crate::place::{Quad, QuadNext};
 use crate::reader::PolicyReader;
 use nk_field::List;
-use nk_lex::{Kind, Token};
+use nk_lex::{Kind, Number, Token, Word};
 use std::alloc::{AllocError, AllocFailed, Global};
 use std::mem::replace;
 
@@ -370,8 +369,8 @@ fn read_file(alloc: Global, tokens: &[Token]) -> Result<File, GrammarError>
 #[tactic(auto, using(crate::proofs::Written::written_of))]
 pub fn file(alloc: Global, tokens: &[Token]) -> Result<File, GrammarError>
     ensures read { Returns (λ f. map declaration_of f.decls) result (file_of tokens.now) }
-    // From the tokens of a text come names that are text, and numbers of a text.
-    ensures written { All (λ t. IsUtf8 t.text) tokens.now → All (λ t. t.value ≤ largest) tokens.now
+    // From the tokens of a text come numbers of a text.
+    ensures written { All (λ t. t.value ≤ largest) tokens.now
         → IfOk result (λ f. All IsWritten (map declaration_of f.decls)) }
     ensures rows { IfOk result (λ f. f.rows ≡ []) }
 {

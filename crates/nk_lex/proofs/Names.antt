@@ -1,5 +1,5 @@
 -- The texts of tokens are bytes of names, so they are text.
-use Rattle.std.proofs.Common.{◌≡◌, ◌<◌, ◌+◌, ◌-◌, ◌==◌, ℕ, zero, suc, List, [], ◌∷◌, ◌++◌, Bool, true, false, length, take, refl, sym, ap, arith, cond, Option, subst, get_or}
+use Rattle.std.proofs.Common.{◌≡◌, ◌<◌, ◌+◌, ◌-◌, ◌==◌, ℕ, zero, suc, List, [], ◌∷◌, ◌++◌, Bool, true, false, length, take, drop, refl, sym, ap, arith, cond, Option, subst, get_or}
 use Rattle.std.proofs.lemmas.Bool.Decides.{nat_tests}
 use Rattle.std.proofs.Math.ListN.{get_or-append}
 use Rattle.std.proofs.lemmas.List.{length-append}
@@ -80,6 +80,13 @@ front_names b rest =
         → IsNameFront (b ∷ rest) (cond t (front.Name (length (take_while is_name_byte rest) + 1)) other)
     by_start true h other o = run_ascii b rest h
     by_start false h other o = o
+
+-- a name at the front is UTF-8
+pub a_name_is_text : (bytes : List ℕ) (n : ℕ) → 0 < length bytes → front.Name n ≡ front_of (get_or bytes 0 0) (drop 1 bytes)
+    → IsUtf8 (take n bytes)
+a_name_is_text [] n some e = absurd (omega arith)
+a_name_is_text (b ∷ rest) n some e =
+    IsUtf8-from_ascii (take n (b ∷ rest)) (subst (IsNameFront (b ∷ rest)) (sym e) (front_names b rest))
 
 -- the token of a lexeme has a text of bytes of names
 abbrev IsCutName : Result (ℕ × Option Token) LexError → Type 0

@@ -4,3 +4,4 @@ pub mod Lex
 pub mod Spans
 pub mod Spelling
 pub mod Joined
+pub mod Faults

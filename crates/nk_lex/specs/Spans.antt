@@ -13,6 +13,11 @@ tokens_before_fault text = (scan text 0 1 0).0
 abbrev pub span_of : List ℕ → Token → List ℕ
 span_of text t = take (t.end - t.start) (drop t.start text)
 
+-- the last token's line, or the one given where there is no token
+abbrev pub last_line : ℕ → List Token → ℕ
+last_line line [] = line
+last_line line (t ∷ ts) = last_line t.line ts
+
 -- how many line feeds there are
 abbrev pub line_feeds : List ℕ → ℕ
 line_feeds text = count_by (λ b. b == 10) text

@@ -67,13 +67,25 @@ fn plain(alloc: Global, kind: Kind, at: usize, len: usize, line: u64, value: u64
     }
 }
 
+/// A name's bytes as text.
+fn text_of(name: &[u8]) -> &str
+    requires { IsUtf8 name.now }
+    ensures { result.now ≡ name.now }
+{
+    match str::from_utf8(name) {
+        Ok(text) => text,
+        Err(_) => unreachable!(),
+    }
+}
+
 /// The token of a name or a keyword.
 fn word(alloc: Global, name: &[u8], at: usize, line: u64) -> Result<Token, AllocError>
     requires room { at + length name.now < 2 ^ 63 }
+    requires text { IsUtf8 name.now }
     ensures { IfOk result
         (λ t. t ≡ token (kind_of_name name.now) at (length name.now) line 0 name.now) }
 {
-    let text = Bytes::of(alloc, name)?;
+    let text = Bytes::of_text(alloc, text_of(name))?;
     Ok(Token {
         kind: kind_of_name(name),
         start: at,

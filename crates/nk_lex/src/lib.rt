@@ -13,6 +13,7 @@ mod kind;
 mod laws;
 mod lexemes;
 mod token;
+mod word;
 
 pub use bytes::Bytes;
 pub use kind::Kind;
@@ -23,3 +24,4 @@ pub use laws::{
 };
 pub use lexemes::tokens;
 pub use token::{LARGEST, LexError, Token};
+pub use word::{Number, Word, word_of};

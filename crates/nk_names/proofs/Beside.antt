@@ -2,15 +2,16 @@
 use Rattle.std.proofs.Common.{◌≡◌, Ok, Err, List, [], ◌∷◌, map, refl, sym, ap, subst, ◌∙◌}
 use Rattle.std.specs.List.{AllByRecursion}
 use Rattle.std.specs.declared.result.Result.{Result}
+use Rattle.nk_lex.specs.Faults.{and_then}
 use Rattle.nk_declare.specs.declared.fault.DeclareError.{DeclareError}
 use Rattle.nk_declare.specs.declared.fault.DeclareError.TheVariants as refused
-use Rattle.nk_declare.specs.Declarations.{DeclaredValue, and_then, declared_with, declared_after}
+use Rattle.nk_declare.specs.Declarations.{DeclaredValue, declared_with, declared_after}
 use Rattle.nk_declare.specs.Declarations as declare
 use Rattle.nk_grammar.specs.File.{Declaration}
 use Rattle.nk_names.specs.declared.fault.NamesError.{NamesError}
 use Rattle.nk_names.specs.Alike.{in_program, SaysDeclared}
 use Rattle.nk_names.specs.Meant.{Lets}
-use Rattle.nk_names.specs.ProgramOf.{Said, nothing_said, declared_part, fault_of, said_beside, said_with, said_after, going_on, IsFault}
+use Rattle.nk_names.specs.ProgramOf.{Said, nothing_said, declared_part, fault_of, said_beside, said_with, said_after, IsFault}
 
 -- what is declared with these policies
 abbrev pub beside : Lets → DeclaredValue → Said
@@ -39,7 +40,7 @@ beside_is lets (Ok d) s h = (d, refl, ok_is (beside lets d) s h)
 beside_is lets (Err e) s h = absurd (not_ok (fault_of e) s h)
 
 -- going on, both steps are without fault
-both_said : (r : Result Said NamesError) (rest : Said → Result Said NamesError) (t : Said) → going_on r rest ≡ Ok t
+both_said : (r : Result Said NamesError) (rest : Said → Result Said NamesError) (t : Said) → and_then r rest ≡ Ok t
     → (s : Said) × (r ≡ Ok s) × (rest s ≡ Ok t)
 both_said (Ok s) rest t h = (s, refl, h)
 both_said (Err e) rest t h = absurd (not_ok e t h)
@@ -64,12 +65,12 @@ one_alike s (declare.link a m b n) = refl
 after_alike : (ds : List declare.Declaration) (s : Said) → said_after (map in_program ds) s ≡ said_beside s.lets (declared_after ds (declared_part s))
 after_alike [] s = refl
 after_alike (d ∷ ds) s =
-    ap (λ r. going_on r (said_after (map in_program ds))) (one_alike s d)
+    ap (λ r. and_then r (said_after (map in_program ds))) (one_alike s d)
     ∙ by (declared_with (declared_part s) d) (λ x. after_alike ds (beside s.lets x))
   where
     by : (r : Result DeclaredValue DeclareError)
         → ((x : DeclaredValue) → said_after (map in_program ds) (beside s.lets x) ≡ said_beside s.lets (declared_after ds x))
-        → going_on (said_beside s.lets r) (said_after (map in_program ds)) ≡ said_beside s.lets (and_then r (declared_after ds))
+        → and_then (said_beside s.lets r) (said_after (map in_program ds)) ≡ said_beside s.lets (and_then r (declared_after ds))
     by (Ok x) h = h x
     by (Err e) h = refl
 

@@ -12,7 +12,7 @@ use Rattle.nk_grammar.specs.declared.ast.Ast.TheViews.{Sum, Seq}
 use Rattle.nk_grammar.specs.declared.ast.Asts.{Asts}
 use Rattle.nk_grammar.proofs.Trees.{tree_of_sum, tree_of_seq}
 use Rattle.nk_names.specs.Meant.{Lets, policy_for, policies_for}
-use Rattle.nk_names.proofs.Finding.{rest_is}
+use Rattle.nk_declare.proofs.Places.{rest_is}
 
 module _ (fields : FieldTable) (lets : Lets) where
   -- the policies of a list of trees

@@ -3,8 +3,8 @@ use Rattle.std.proofs.Common.{◌≡◌, ℕ, ◌<◌, ◌≤◌, Bool, true, fa
 use Rattle.std.specs.Prelude.{nat_lt}
 use Rattle.nk_field.specs.Packet.{FieldTable}
 use Rattle.nk_policy.specs.Policy.{depth_of, size_of, dups_of}
-use Rattle.nk_grammar.specs.declared.ast.Word.{Word}
-use Rattle.nk_grammar.specs.declared.ast.Number.{Number}
+use Rattle.nk_lex.specs.declared.word.Word.{Word}
+use Rattle.nk_lex.specs.declared.word.Number.{Number}
 use Rattle.nk_declare.proofs.Checks.{none_both}
 use Rattle.nk_grammar.specs.Tree.{Tree}
 use Rattle.nk_names.specs.declared.fault.FaultKind.{FaultKind}

@@ -8,13 +8,14 @@ use Rattle.nk_field.specs.Packet.{FieldTable, IsFieldTable, IsValue, field_named
 use Rattle.nk_policy.specs.Policy.{Policy, marked_from}
 use Rattle.nk_policy.specs.Tree.{tree_of}
 use Rattle.nk_policy.specs.declared.policy.Pol.{Pol}
-use Rattle.nk_grammar.specs.declared.ast.Word.{Word}
+use Rattle.nk_lex.specs.declared.word.Word.{Word}
+use Rattle.nk_lex.specs.Faults.{and_then}
 use Rattle.nk_grammar.specs.declared.decl.Decl.{Decl}
 use Rattle.nk_grammar.specs.Tree.{Tree}
 use Rattle.nk_grammar.specs.File.{Declaration, field, tag, switch, declared_link, definition, declaration_of, IsWritten}
 use Rattle.nk_names.specs.declared.fault.NamesError.{NamesError}
 use Rattle.nk_names.specs.Meant.{Lets, lets_of, policy_for}
-use Rattle.nk_names.specs.ProgramOf.{Said, declared_part, going_on, said_with, said_after, let_fault}
+use Rattle.nk_names.specs.ProgramOf.{Said, declared_part, said_with, said_after, let_fault}
 use Rattle.nk_names.specs.ProgramValue.{IsLet}
 use Rattle.nk_policy.specs.Ranges.{IsOver}
 use Rattle.nk_names.specs.Complements.{NegatesPredicates}
@@ -22,7 +23,7 @@ use Rattle.nk_declare.specs.Declarations.{DeclaredValue, declared_with}
 use Rattle.nk_declare.specs.Declarations as declare
 use Rattle.nk_declare.proofs.Kept.{unless_ok}
 use Rattle.nk_names.proofs.Beside.{beside, beside_is}
-use Rattle.nk_names.proofs.Finding.{rest_is}
+use Rattle.nk_declare.proofs.Places.{rest_is}
 use Rattle.nk_names.proofs.Places.{image_at}
 use Rattle.nk_names.proofs.Good.{marked_again, size_marked, depth_marked, over_marked, over_in_range, negates_marked, over_more}
 use Rattle.nk_names.proofs.Declarations.{faultless}
@@ -38,7 +39,7 @@ pub said_more : (ds : List Decl) (i : ℕ) (d : Decl) (s s' : Said) (all : Resul
     → said_with s (declaration_of d) ≡ Ok s' → said_after (map declaration_of (drop i ds)) s ≡ all
     → said_after (map declaration_of (drop (i + 1) ds)) s' ≡ all
 said_more ds i d s s' all lt is e h =
-    sym (ap (λ l. said_after l s) (rest_declared ds i d lt is) ∙ ap (λ r. going_on r (said_after (map declaration_of (drop (i + 1) ds)))) e) ∙ h
+    sym (ap (λ l. said_after l s) (rest_declared ds i d lt is) ∙ ap (λ r. and_then r (said_after (map declaration_of (drop (i + 1) ds)))) e) ∙ h
 
 -- each declaration is written as the grammar has it
 pub written_at : (ds : List Decl) (i : ℕ) (d : Decl) → All IsWritten (map declaration_of ds) → i < length ds → d ≡ get_or ds i d → IsWritten (declaration_of d)
@@ -102,7 +103,7 @@ lets_kept s t (field w n) table written h good =
     let u = unless_ok _ _ r.0 r.1 in
     subst HasLets r.2
     (subst (λ (d : DeclaredValue). HasLets (beside s.lets d)) u.1 (record {
-      maxima = All-push (λ m. m ≤ 281474976710655) s.fields.maxima n.value good.maxima written.1;
+      maxima = All-push (λ m. m ≤ 281474976710655) s.fields.maxima n.value good.maxima written;
       policies = all_kept (λ l. IsLet s.fields l.1) (λ l. IsLet (with_field s.fields w.text n.value) l.1) s.lets (λ l g. more_fields s.fields (with_field s.fields w.text n.value) (one_wider s.fields w.text n.value) l.1 g) good.policies;
     }))
 lets_kept s t (tag w) table written h good =

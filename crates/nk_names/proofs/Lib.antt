@@ -2,7 +2,6 @@ pub mod Beside
 pub mod Building
 pub mod Declarations
 pub mod Declared
-pub mod Finding
 pub mod Going
 pub mod Good
 pub mod Keys

@@ -7,8 +7,8 @@ use Rattle.std.proofs.lemmas.List.Quantifiers.{position-Some}
 use Rattle.nk_field.specs.Packet.{FieldTable, IsFieldTable, IsValue, field_named}
 use Rattle.nk_policy.specs.Policy.{Policy, is_predicate}
 use Rattle.nk_policy.specs.Policy as policy
-use Rattle.nk_grammar.specs.declared.ast.Word.{Word}
-use Rattle.nk_grammar.specs.declared.ast.Number.{Number}
+use Rattle.nk_lex.specs.declared.word.Word.{Word}
+use Rattle.nk_lex.specs.declared.word.Number.{Number}
 use Rattle.nk_grammar.specs.Tree.{Tree, Trees, name_of, test, range, assign, sum_of, seq_of, not_of, star_of, dup, link, no_part, part}
 use Rattle.nk_names.specs.declared.fault.FaultKind.TheVariants as kind
 use Rattle.nk_names.specs.Meant.{Lets, policy_among, no_value, no_range, place_in, most_in, policy_for, policies_for, unknown_in, unknown_among, misplaced_in, misplaced_among}

@@ -1,12 +1,13 @@
 -- In a predicate no `~` is misplaced.
 use Rattle.std.proofs.Common.{◌≡◌, ℕ, Bool, true, false, None, not, refl, sym, ap, ◌∙◌}
 use Rattle.std.specs.Option.{option_or}
+use Rattle.nk_lex.specs.Faults.{first_of}
 use Rattle.nk_field.specs.Packet.{FieldTable}
 use Rattle.nk_policy.specs.Policy.{is_predicate, are_predicates}
 use Rattle.nk_policy.proofs.Tests.{both_true}
 use Rattle.nk_grammar.specs.Tree.{Tree, Trees, name_of, test, range, assign, sum_of, seq_of, not_of, star_of, dup, link, no_part, part}
 use Rattle.nk_names.specs.declared.fault.FaultKind.TheVariants as kind
-use Rattle.nk_names.specs.Meant.{Lets, MaybeFault, fault_if, first_of, policy_for, policies_for, misplaced_in, misplaced_among}
+use Rattle.nk_names.specs.Meant.{Lets, MaybeFault, fault_if, policy_for, policies_for, misplaced_in, misplaced_among}
 
 module _ (fields : FieldTable) (lets : Lets) where
   -- two that are none have no first

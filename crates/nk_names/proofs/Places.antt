@@ -1,36 +1,17 @@
 -- Places in lists: where the first element stands that passes a test.
-use Rattle.std.proofs.Common.{◌≡◌, ℕ, ◌+◌, ◌<◌, Bool, true, false, cond, Option, Some, None, List, [], ◌∷◌, ◌++◌, length, get_or, drop, suc, zero, refl, sym, ap, subst, ◌∙◌, arith, rules, option_map, IfSome}
-use Rattle.std.specs.Prelude.{map, position}
+use Rattle.std.proofs.Common.{◌≡◌, ℕ, ◌+◌, ◌<◌, Bool, true, false, cond, Option, Some, None, List, [], ◌∷◌, ◌++◌, length, get_or, suc, zero, refl, sym, ap, subst, ◌∙◌, arith, rules, option_map, IfSome}
+use Rattle.std.specs.Prelude.{map}
 use Rattle.std.specs.Cmp.Lexicographic.{bytes_decides}
 use Rattle.std.specs.Option.{option_or}
 use Rattle.std.specs.List.{position_from}
 use Rattle.std.specs.Str.{bytes_eq}
-use Rattle.std.proofs.lemmas.Iterator.Adapters.{position_from-zero}
 use Rattle.nk_policy.specs.Tree.{tree_of}
 use Rattle.nk_policy.specs.declared.policy.Pol.{Pol, Dup}
 use Rattle.nk_names.specs.declared.shape.Shape.{Shape}
 use Rattle.nk_names.specs.Shape.{shape_of}
 use Rattle.nk_names.specs.Meant.{lets_of, policy_among}
-use Rattle.nk_names.proofs.Finding.{rest_is}
 
 module _ {A : Type 0} (test : A → Bool) where
-  -- the element at the place passes
-  pub passes_here : (xs : List A) (i : ℕ) (x d : A) → i < length xs → x ≡ get_or xs i d → test x ≡ true
-      → position_from test i (drop i xs) ≡ Some i
-  passes_here xs i x d lt is h =
-      ap (position_from test i) (rest_is xs i x d lt is) ∙ ap (λ b. cond b (Some i) (position_from test (i + 1) (drop (i + 1) xs))) h
-
-  -- the element at the place fails
-  pub fails_here : (xs : List A) (i : ℕ) (x d : A) → i < length xs → x ≡ get_or xs i d → test x ≡ false
-      → position_from test i (drop i xs) ≡ position_from test (i + 1) (drop (i + 1) xs)
-  fails_here xs i x d lt is h =
-      ap (position_from test i) (rest_is xs i x d lt is)
-      ∙ ap (λ b. cond b (Some i) (position_from test (i + 1) (drop (i + 1) xs))) h
-
-  -- the place from the front
-  pub from_front : (xs : List A) → position_from test 0 xs ≡ position test xs
-  from_front xs = sym (position_from-zero test xs)
-
   -- one more element behind the others
   pub place_behind : (xs : List A) (i : ℕ) (y : A)
       → position_from test i (xs ++ y ∷ []) ≡ option_or (position_from test i xs) (cond (test y) (Some (i + length xs)) None)

@@ -1,6 +1,7 @@
 -- What is printed of a predicate is read back as that predicate, on any line and in a text of any length.
 use Rattle.std.proofs.Common.{◌≡◌, ◌+◌, ℕ, true, [], None, not, refl, ap, ◌∙◌, arith}
 use Rattle.std.specs.Prelude.{nat_lt, Ok}
+use Rattle.nk_lex.specs.Faults.{unless}
 use Rattle.nk_field.specs.Packet.{FieldTable}
 use Rattle.nk_policy.specs.Policy.{Policy, Policies, test, range, assign, sum_of, seq_of, not_of, star_of, dup, link, no_part, part, depth_of, dups_of, is_predicate, are_predicates, marked_from, all_marked_from}
 use Rattle.nk_policy.proofs.Tests.{both_true}
@@ -9,7 +10,7 @@ use Rattle.nk_grammar.specs.Moved.{tree_moved, trees_moved}
 use Rattle.nk_names.specs.declared.fault.FaultKind.TheVariants as kind
 use Rattle.nk_names.specs.Complements.{NegatesPredicates, AllNegatePredicates}
 use Rattle.nk_names.specs.Meant.{policy_for}
-use Rattle.nk_names.specs.ProgramOf.{unless, predicate_fault, row_policy}
+use Rattle.nk_names.specs.ProgramOf.{predicate_fault, row_policy}
 use Rattle.nk_names.specs.ReadBack.{IsWritable, IsReadablePredicate, IsPredicateReadBack}
 use Rattle.nk_names.proofs.Printed.{pol_from, form_of, text_is}
 use Rattle.nk_names.proofs.ReadingBack.{pol_within, nests, pol_on, fits, tree_for, trees_for, tree_is, none_first, no_fault, not_over, known, meant, same_depth, same_predicate}

@@ -4,8 +4,8 @@ use Rattle.nk_field.specs.Packet.{FieldTable}
 use Rattle.nk_lex.specs.Spelling.{Sign, Lexeme, bytes_of, text_of}
 use Rattle.nk_policy.specs.Policy.{Policy, Policies, test, range, assign, sum_of, seq_of, not_of, star_of, dup, link, no_part, part, is_predicate}
 use Rattle.nk_policy.specs.Text.{is_sum, is_seq, is_star, enclosed, name_of, pol_bytes, sum_bytes, seq_bytes}
-use Rattle.nk_grammar.specs.declared.ast.Word.{Word}
-use Rattle.nk_grammar.specs.declared.ast.Number.{Number}
+use Rattle.nk_lex.specs.declared.word.Word.{Word}
+use Rattle.nk_lex.specs.declared.word.Number.{Number}
 use Rattle.nk_grammar.specs.Grammar.{Pol, Term, Factor, Atom, one_term, plus, one_factor, semi, plain, starred, written_not, written_id, written_drop, written_dup, written_test, written_range, written_set, written_link, paren}
 use Rattle.nk_grammar.specs.Text.{lexemes_of_pol, lexemes_of_term, lexemes_of_factor, lexemes_of_atom}
 use Rattle.nk_names.specs.Complements.{NegatesPredicates, AllNegatePredicates}

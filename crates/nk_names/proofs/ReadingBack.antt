@@ -1,10 +1,8 @@
 -- What is printed of a policy is read back as that policy.
-use Rattle.std.proofs.Common.{◌≡◌, ◌≢◌, ◌≤◌, ◌<◌, ◌+◌, ℕ, zero, suc, max, min, List, [], ◌∷◌, ◌++◌, Bool, true, false, Some, None, not, length, refl, sym, ap, subst, ◌∙◌, append_assoc, arith, cond, codes}
-use Rattle.std.specs.Prelude.{AllPairs, Ok, is_none, is_some, nat_lt, slice_index, slice_index_or, take, unwrap_or}
+use Rattle.std.proofs.Common.{◌≡◌, ◌≤◌, ◌<◌, ◌+◌, ℕ, zero, suc, max, min, List, [], ◌∷◌, ◌++◌, Bool, false, Some, None, not, refl, sym, ap, subst, ◌∙◌, append_assoc, arith, codes}
+use Rattle.std.specs.Prelude.{Ok, is_none, is_some, nat_lt, slice_index, take, unwrap_or}
 use Rattle.std.specs.Option.{option_or}
-use Rattle.std.specs.List.{position_from}
 use Rattle.std.specs.Str.{bytes_eq}
-use Rattle.std.specs.Cmp.Lexicographic.{bytes_decides}
 use Rattle.std.proofs.lemmas.Bool.Decides.{nat_tests}
 use Rattle.nk_field.specs.Packet.{FieldTable, IsFieldTable, IsValue, field_named}
 use Rattle.nk_lex.specs.Lex.{tokens_of}
@@ -13,8 +11,9 @@ use Rattle.nk_policy.specs.Policy.{Policy, Policies, test, range, assign, sum_of
 use Rattle.nk_policy.specs.Ranges.{IsOver}
 use Rattle.nk_policy.specs.Text.{name_of, pol_bytes}
 use Rattle.nk_grammar.specs.Tree as tree
-use Rattle.nk_grammar.specs.declared.ast.Word.{Word}
-use Rattle.nk_grammar.specs.declared.ast.Number.{Number}
+use Rattle.nk_lex.specs.declared.word.Word.{Word}
+use Rattle.nk_lex.specs.declared.word.Number.{Number}
+use Rattle.nk_lex.specs.Faults.{first_of, unless}
 use Rattle.nk_grammar.specs.Grammar.{Pol, Term, one_term, plus, one_factor, semi, terms_of, factors_of, factor_tree, atom_tree, pol_tree}
 use Rattle.nk_grammar.specs.Nesting.{nesting_of_pol, nesting_of_term, nesting_of_factor, nesting_of_atom}
 use Rattle.nk_grammar.specs.Text.{lexemes_of_let, IsWordOn, IsNumberOn, IsPolOn, IsTermOn, IsFactorOn, IsAtomOn, ReadsLetTexts}
@@ -22,11 +21,11 @@ use Rattle.nk_grammar.specs.File.{definition}
 use Rattle.nk_names.specs.declared.fault.FaultKind.{FaultKind}
 use Rattle.nk_names.specs.declared.fault.FaultKind.TheVariants as kind
 use Rattle.nk_names.specs.Complements.{NegatesPredicates, AllNegatePredicates}
-use Rattle.nk_names.specs.Meant.{Lets, MaybeFault, fault_if, first_of, above, no_value, no_range, place_in, most_in, policy_among, policy_for, policies_for, unknown_in, unknown_among, misplaced_in, misplaced_among}
-use Rattle.nk_names.specs.ProgramOf.{Said, said_with, unless, let_fault}
+use Rattle.nk_names.specs.Meant.{Lets, MaybeFault, fault_if, above, no_value, no_range, place_in, most_in, policy_among, policy_for, policies_for, unknown_in, unknown_among, misplaced_in, misplaced_among}
+use Rattle.nk_names.specs.ProgramOf.{Said, said_with, let_fault}
 use Rattle.nk_names.specs.ReadBack.{IsWritable, IsNotOne, HasNoLonePart, HaveNoLonePart, IsReadable, IsReadBack, let_bytes, in_first_line}
 use Rattle.nk_names.proofs.Good.{AreOver, dups_marked, depth_marked, size_marked, predicate_marked}
-use Rattle.nk_names.proofs.Places.{from_front}
+use Rattle.nk_declare.proofs.Places.{from_front, name_placed}
 use Rattle.nk_names.proofs.Printed.{Form, a_sum, a_seq, a_star, an_atom, pol_from, term_from, factor_from, atom_from, word_for, number_for, form_of, sum_form, seq_form, sum_on, seq_on, text_is}
 
 -- ---- no more is open at once than the policy is deep
@@ -278,22 +277,6 @@ module _ (line : ℕ) (fields : FieldTable) where
         ∙ ap (λ t. trees_on (tree.with_part (factors_of before) t) (trees_for line fields ps)) (tree_of_factor (form_of line fields p) ∙ tree_is p h.0)
 
 -- ---- what it stands for
-
--- a name stands where it stands first
-name_placed : (xs : List (List ℕ)) (f i : ℕ) → f < length xs → AllPairs (λ a b. a ≢ b) xs
-    → position_from (bytes_eq (slice_index_or xs f [])) i xs ≡ Some (i + f)
-name_placed [] f i lt d = absurd (omega arith)
-name_placed (x ∷ xs) zero i lt d =
-    ap (λ b. cond b (Some i) (position_from (bytes_eq x) (i + 1) xs)) ((bytes_decides x x).1 refl)
-    ∙ ap Some (omega arith)
-name_placed (x ∷ xs) (suc f) i lt d =
-    ap (λ b. cond b (Some i) (position_from (bytes_eq (slice_index_or xs f [])) (i + 1) xs)) (other (bytes_eq (slice_index_or xs f []) x) refl)
-    ∙ name_placed xs f (i + 1) (omega arith) (λ j k e a b. d (suc j) (suc k) e (omega (arith, a)) (omega (arith, b)))
-    ∙ ap Some (omega arith)
-  where
-    other : (b : Bool) → bytes_eq (slice_index_or xs f []) x ≡ b → bytes_eq (slice_index_or xs f []) x ≡ false
-    other true e = absurd (d 0 (suc f) [] (omega arith) lt (sym ((bytes_decides (slice_index_or xs f []) x).0 e)))
-    other false e = e
 
 -- two that are none have no first
 pub none_first : (a b : MaybeFault) → a ≡ None → b ≡ None → first_of a b ≡ None

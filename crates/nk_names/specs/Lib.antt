@@ -8,3 +8,4 @@ pub mod ProgramValue
 pub mod Shape
 pub mod Topologies
 pub mod ReadBack
+pub mod Words

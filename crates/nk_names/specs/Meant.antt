@@ -7,9 +7,10 @@ use Rattle.nk_policy.specs.Policy.{Policy, Policies, is_predicate}
 use Rattle.nk_policy.specs.Policy as policy
 use Rattle.nk_policy.specs.Tree.{tree_of}
 use Rattle.nk_policy.specs.declared.policy.Pol.{Pol}
-use Rattle.nk_grammar.specs.declared.ast.Word.{Word}
-use Rattle.nk_grammar.specs.declared.ast.Number.{Number}
-pub use Rattle.nk_declare.specs.Declarations.{first_of, place_in, most_in}
+use Rattle.nk_lex.specs.declared.word.Word.{Word}
+use Rattle.nk_lex.specs.declared.word.Number.{Number}
+use Rattle.nk_lex.specs.Faults.{first_of}
+pub use Rattle.nk_declare.specs.Declarations.{place_in, most_in}
 use Rattle.nk_grammar.specs.Tree.{Tree, Trees, name_of, test, range, assign, sum_of, seq_of, not_of, star_of, dup, link, no_part, part}
 use Rattle.nk_names.specs.declared.fault.FaultKind.{FaultKind}
 use Rattle.nk_names.specs.declared.fault.FaultKind.TheVariants as kind

@@ -5,12 +5,12 @@ use Rattle.std.specs.declared.result.Result.{Result}
 use Rattle.nk_field.specs.Packet.{FieldTable, built_in}
 use Rattle.nk_topo.specs.Topology.{Topology, no_topology}
 use Rattle.nk_policy.specs.Policy.{Policy, depth_of, size_of, is_predicate, marked_from}
-use Rattle.nk_grammar.specs.declared.ast.Word.{Word}
+use Rattle.nk_lex.specs.declared.word.Word.{Word}
+use Rattle.nk_lex.specs.Faults.{and_then, first_of, unless}
 use Rattle.nk_declare.specs.declared.fault.DeclareFault.{DeclareFault}
 use Rattle.nk_declare.specs.declared.fault.DeclareFault.TheVariants as wrong
 use Rattle.nk_declare.specs.declared.fault.DeclareError.{DeclareError}
 use Rattle.nk_declare.specs.declared.fault.DeclareError.TheVariants as refused
-pub use Rattle.nk_declare.specs.Declarations.{unless}
 use Rattle.nk_declare.specs.Declarations.{DeclaredValue, declared_with}
 use Rattle.nk_declare.specs.Declarations as declare
 use Rattle.nk_grammar.specs.File.{Declaration, field, tag, switch, declared_link, definition}
@@ -21,7 +21,7 @@ use Rattle.nk_names.specs.declared.fault.FaultKind.{FaultKind}
 use Rattle.nk_names.specs.declared.fault.FaultKind.TheVariants as kind
 use Rattle.nk_names.specs.declared.fault.NamesError.{NamesError}
 use Rattle.nk_names.specs.declared.fault.NamesError.TheVariants.{Fault, NoMemory}
-use Rattle.nk_names.specs.Meant.{Lets, lets_of, policy_among, MaybeFault, fault_if, first_of, policy_for, unknown_in, misplaced_in}
+use Rattle.nk_names.specs.Meant.{Lets, lets_of, policy_among, MaybeFault, fault_if, policy_for, unknown_in, misplaced_in}
 
 -- what a program says: its fields, its topology, and the policies of its names
 pub record Said : Type 0 where
@@ -98,15 +98,10 @@ said_with s (definition w t line) =
     (let_fault s.fields s.lets w t line)
     (record s { lets = s.lets ++ (w.text, marked_from (policy_for s.fields s.lets t) 1) ∷ [] })
 
--- the rest is done where there was no fault so far
-abbrev pub going_on : Result Said NamesError → (Said → Result Said NamesError) → Result Said NamesError
-going_on (Ok s) rest = rest s
-going_on (Err e) rest = Err e
-
 -- what is said after these declarations
 abbrev pub said_after : List Declaration → Said → Result Said NamesError
 said_after [] s = Ok s
-said_after (d ∷ ds) s = going_on (said_with s d) (said_after ds)
+said_after (d ∷ ds) s = and_then (said_with s d) (said_after ds)
 
 -- the program of a text's declarations
 abbrev pub program_of : List Declaration → Result Said NamesError

@@ -4,7 +4,7 @@ use Rattle.nk_field.specs.Packet.{FieldTable, built_in}
 use Rattle.nk_lex.specs.declared.token.Token.{Token}
 use Rattle.nk_lex.specs.Lex.{tokens_of}
 use Rattle.nk_lex.specs.Spelling.{IsName, text_of}
-use Rattle.nk_grammar.specs.declared.ast.Word.{Word}
+use Rattle.nk_lex.specs.declared.word.Word.{Word}
 pub use Rattle.nk_declare.specs.Kept.{IsWritable}
 use Rattle.nk_grammar.specs.Tree.{Tree}
 use Rattle.nk_grammar.specs.Grammar.{Pol, pol_tree}

@@ -9,7 +9,8 @@ use crate::check::LARGEST_PLACE;
 use crate::lets::Lets;
 use nk_declare::field_with;
 use nk_field::{Fid, Fields};
-use nk_grammar::{Ast, Number, Word};
+use nk_grammar::Ast;
+use nk_lex::{Number, Word};
 use nk_policy::{Pol, Pols, dups, marked};
 use std::alloc::{AllocError, Global};
 

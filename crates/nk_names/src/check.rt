@@ -8,7 +8,8 @@ use crate::fault::{FaultKind, NamesError};
 use crate::lets::Lets;
 use nk_declare::field_with;
 use nk_field::Fields;
-use nk_grammar::{Ast, Number, Word};
+use nk_grammar::Ast;
+use nk_lex::{Number, Word};
 
 /// The last u64, at which depths and sizes stop.
 const LAST: u64 = u64::MAX;

@@ -1,7 +1,6 @@
 //! What is said after one more declaration.
 ghost use Rattle.std.specs.Prelude.{◌≡◌, None, Some, MatchResult, IfOk};
-ghost use Rattle.std.specs.Str.{IsUtf8};
-ghost use Rattle.nk_grammar.specs.File.{declaration_of, field, tag, switch, declared_link, definition, IsWritten};
+ghost use Rattle.nk_grammar.specs.File.{declaration_of, field, tag, switch, declared_link, definition};
 ghost use Rattle.nk_grammar.specs.Tree.{tree_of};
 ghost use Rattle.nk_names.specs.Meant.{lets_of};
 ghost use Rattle.nk_names.specs.ProgramOf.{Returns, kind_of, fault_of, said_in, said_with, nothing_said, let_fault};
@@ -12,7 +11,8 @@ use crate::fault::{FaultKind, NamesError};
 use crate::lets::Lets;
 use crate::names::Names;
 use nk_declare::{DeclareError, DeclareFault, Declared};
-use nk_grammar::{Ast, Decl, Number, Word};
+use nk_grammar::{Ast, Decl};
+use nk_lex::{Number, Word};
 use std::alloc::{AllocError, Global};
 
 /// The most elements that a policy has, its names written out.
@@ -92,7 +92,6 @@ pub(crate) fn no_names(alloc: Global) -> Result<Names, AllocError>
 /// One more field.
 #[tactic(auto, using(crate::proofs::Beside::is_said, crate::proofs::Beside::is_refused))]
 fn with_field(names: Names, w: &Word, n: Number) -> Result<Names, NamesError>
-    requires { IsUtf8 w.now.text }
     ensures { Returns said_in result (said_with (said_in names) (field w.now n)) }
 {
     let Names { declared, lets } = names;
@@ -162,7 +161,6 @@ fn with_let(
 
 /// What is said after one more declaration.
 pub(crate) fn with_decl(alloc: Global, names: Names, decl: &Decl) -> Result<Names, NamesError>
-    requires { IsWritten (declaration_of decl.now) }
     ensures { Returns said_in result (said_with (said_in names) (declaration_of decl.now)) }
 {
     match decl {

@@ -7,54 +7,39 @@ use thiserror::Error;
 
 /// What is wrong with a declaration.
 #[derive(Clone, Copy, Debug, PartialEq, Eq, Error)]
+#[error("{}", self.words())]
 pub enum FaultKind {
     /// A field has the name already; the switch is `sw` and the port `pt`.
-    #[error("field twice")]
     FieldTwice,
     /// Sixteen fields are declared already.
-    #[error("too many fields")]
     TooManyFields,
     /// A tag is declared already.
-    #[error("tag twice")]
     TagTwice,
     /// The tag is no field declared above.
-    #[error("tag unknown")]
     TagUnknown,
     /// The switch is declared already.
-    #[error("switch twice")]
     SwitchTwice,
     /// The port stands before in the same declaration.
-    #[error("port twice")]
     PortTwice,
     /// An end of a link is no declared port.
-    #[error("no such port")]
     NoSuchPort,
     /// A link begins at the port already.
-    #[error("source twice")]
     SourceTwice,
     /// A link leads to the port already.
-    #[error("target twice")]
     TargetTwice,
     /// A policy has the name already.
-    #[error("let twice")]
     LetTwice,
     /// No policy above has the name.
-    #[error("unknown name")]
     UnknownName,
     /// No field above has the name.
-    #[error("unknown field")]
     UnknownField,
     /// A number above the largest one of its field, or of switches and ports.
-    #[error("value out of range")]
     ValueOutOfRange,
     /// A `~` over what is no predicate.
-    #[error("not a predicate")]
     NotAPredicate,
     /// A policy that is more than 256 deep when its names are written out.
-    #[error("too deep")]
     TooDeep,
     /// A policy of more than 1,048,576 elements when its names are written out.
-    #[error("too large")]
     TooLarge,
 }
 

@@ -16,6 +16,7 @@ mod names;
 pub mod reading;
 mod rows;
 mod shape;
+mod words;
 
 pub use fault::{FaultKind, NamesError};
 use nk_field::{Fields, List};

@@ -1,7 +1,7 @@
 -- The reader's count follows that of a text with a certificate.
 use Rattle.std.proofs.Common.{◌≡◌, ◌≤◌, ℕ, List, [], ◌∷◌, ◌++◌, length, refl, sym, subst, append_assoc, arith, Option}
 use Rattle.std.specs.Prelude.{Some, None, IsSomeAnd, map, if◌then◌else◌, option_and_then}
-use Rattle.nk_grammar.specs.declared.ast.Number.{Number}
+use Rattle.nk_lex.specs.declared.word.Number.{Number}
 use Rattle.nk_grammar.specs.Terminal.{Terminal, number, colon, outside, certificate_word, row_word}
 use Rattle.nk_grammar.specs.Tree.{Tree}
 use Rattle.nk_grammar.specs.Grammar.{Pol, spell_pol, pol_tree}

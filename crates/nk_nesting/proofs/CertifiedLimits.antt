@@ -4,6 +4,7 @@ use Rattle.std.specs.Prelude.{Some, None, Ok, Err, All, IsSomeAnd, map, option_a
 use Rattle.std.specs.declared.result.Result.{Result}
 use Rattle.std.proofs.lemmas.List.Elements.{All-head, All-tail}
 use Rattle.nk_lex.specs.declared.token.Token.{Token}
+use Rattle.nk_lex.specs.Faults.{and_then}
 use Rattle.nk_grammar.specs.declared.decl.GrammarError.{GrammarError}
 use Rattle.nk_grammar.specs.declared.decl.GrammarError.TheVariants as error
 use Rattle.nk_grammar.specs.Terminal.{Terminal, terminal_of}
@@ -11,7 +12,7 @@ use Rattle.nk_grammar.specs.File.{declared}
 use Rattle.nk_grammar.specs.Answer.{terminals}
 use Rattle.nk_grammar.specs.Certified.{Certified, certified, rows_of, HasCertificate}
 use Rattle.nk_grammar.specs.CertifiedAnswer.{IsCertifiedDeepToken, IsCertifiedAnswer}
-use Rattle.nk_grammar.specs.CertifiedMachine.{Certifying, certify_one, certify_all, first_certifying, certified_at_end, open_certified, judged_certified, certified_end_at, and_then_certify, rest_of_certified, certified_of}
+use Rattle.nk_grammar.specs.CertifiedMachine.{Certifying, certify_one, certify_all, first_certifying, certified_at_end, open_certified, judged_certified, certified_end_at, rest_of_certified, certified_of}
 use Rattle.nk_grammar.proofs.Files.{within, beyond}
 use Rattle.nk_grammar.proofs.CertifiedTexts.{reads_certified}
 use Rattle.nk_grammar.proofs.CertifiedAnswering.{answers}
@@ -31,17 +32,17 @@ written_in ts c h = record { decls = h.decls; line = h.line; pred = h.pred; othe
 
 -- what a token that leaves at most 256 open leads to
 taken : (o : Option Certifying) (s : Certifying) (line : ℕ) (f : Certifying → Result Certified GrammarError) → o ≡ Some s
-    → open_certified s ≤ 256 → and_then_certify (judged_certified line o) f ≡ f s
+    → open_certified s ≤ 256 → and_then (judged_certified line o) f ≡ f s
 taken o s line f e le =
-    ap (λ o. and_then_certify (judged_certified line o) f) e
-    ∙ ap (λ b. and_then_certify (cond b (Ok s) (Err (error.TooDeep line))) f) (within (open_certified s) le)
+    ap (λ o. and_then (judged_certified line o) f) e
+    ∙ ap (λ b. and_then (cond b (Ok s) (Err (error.TooDeep line))) f) (within (open_certified s) le)
 
 -- and what one that leaves more open
 refused : (o : Option Certifying) (s : Certifying) (line : ℕ) (f : Certifying → Result Certified GrammarError) → o ≡ Some s
-    → 256 < open_certified s → and_then_certify (judged_certified line o) f ≡ Err (error.TooDeep line)
+    → 256 < open_certified s → and_then (judged_certified line o) f ≡ Err (error.TooDeep line)
 refused o s line f e lt =
-    ap (λ o. and_then_certify (judged_certified line o) f) e
-    ∙ ap (λ b. and_then_certify (cond b (Ok s) (Err (error.TooDeep line))) f) (beyond (open_certified s) lt)
+    ap (λ o. and_then (judged_certified line o) f) e
+    ∙ ap (λ b. and_then (cond b (Ok s) (Err (error.TooDeep line))) f) (beyond (open_certified s) lt)
 
 -- ---- the 257th is refused
 
@@ -53,7 +54,7 @@ walks [] [] js t more rest r line h e few = by_step (certify_one r (terminal_of 
   where
     by_step : (o : Option Certifying) → certify_one r (terminal_of t) ≡ o
         → IsSomeAnd o (λ s. (257 ≤ open_certified s) × (257 ≤ 256 → (open_certified s ≤ 256) × CertifiesAlong js more s))
-        → and_then_certify (judged_certified t.line (certify_one r (terminal_of t))) (λ s. rest_of_certified rest s t.line) ≡ Err (error.TooDeep t.line)
+        → and_then (judged_certified t.line (certify_one r (terminal_of t))) (λ s. rest_of_certified rest s t.line) ≡ Err (error.TooDeep t.line)
     by_step None f g = absurd g
     by_step (Some s) f g =
         let many = g.0 in
@@ -67,7 +68,7 @@ walks (x ∷ before) (k ∷ ks) js t more rest r line h e few =
     by_step : (o : Option Certifying) → certify_one r (terminal_of x) ≡ o
         → IsSomeAnd o (λ s. (k ≤ open_certified s) × (k ≤ 256 → (open_certified s ≤ 256) × CertifiesAlong (ks ++ 257 ∷ js) (terminals (before ++ t ∷ []) ++ more) s))
         → ((s : Certifying) → CertifiesAlong (ks ++ 257 ∷ js) (terminals (before ++ t ∷ []) ++ more) s → rest_of_certified (before ++ t ∷ rest) s x.line ≡ Err (error.TooDeep t.line))
-        → and_then_certify (judged_certified x.line (certify_one r (terminal_of x))) (λ s. rest_of_certified (before ++ t ∷ rest) s x.line) ≡ Err (error.TooDeep t.line)
+        → and_then (judged_certified x.line (certify_one r (terminal_of x))) (λ s. rest_of_certified (before ++ t ∷ rest) s x.line) ≡ Err (error.TooDeep t.line)
     by_step None f g go = absurd g
     by_step (Some s) f g go =
         let further = g.1 (All-head (λ k. k ≤ 256) k ks few) in
@@ -100,7 +101,7 @@ reads_rest (x ∷ ts) (k ∷ ks) r line ds h few e =
         → IsSomeAnd o (λ s. (k ≤ open_certified s) × (k ≤ 256 → (open_certified s ≤ 256) × CertifiesAlong ks (terminals ts) s))
         → option_and_then certified_at_end (option_and_then (certify_all (terminals ts)) o) ≡ Some ds
         → ((s : Certifying) → CertifiesAlong ks (terminals ts) s → option_and_then certified_at_end (certify_all (terminals ts) s) ≡ Some ds → rest_of_certified ts s x.line ≡ Ok ds)
-        → and_then_certify (judged_certified x.line (certify_one r (terminal_of x))) (λ s. rest_of_certified ts s x.line) ≡ Ok ds
+        → and_then (judged_certified x.line (certify_one r (terminal_of x))) (λ s. rest_of_certified ts s x.line) ≡ Ok ds
     by_step None f g e go = absurd g
     by_step (Some s) f g e go =
         let further = g.1 (All-head (λ k. k ≤ 256) k ks few) in

@@ -1,6 +1,6 @@
 -- The counts of a text go with its tokens.
 use Rattle.std.proofs.Common.{◌≤◌, ℕ, suc, subst, List, [], ◌∷◌, ◌++◌, refl, sym, append_assoc, append-nil, arith}
-use Rattle.nk_grammar.specs.declared.ast.Number.{Number}
+use Rattle.nk_lex.specs.declared.word.Number.{Number}
 use Rattle.nk_grammar.specs.Terminal.{Terminal, plus_sign, semicolon, star_sign, closing}
 use Rattle.nk_grammar.specs.Grammar.{Pol, Term, Factor, Atom, one_term, plus, one_factor, semi, plain, starred, written_not, written_id, written_drop, written_dup, written_name, written_test, written_range, written_set, written_link, paren, spell_pol, spell_term, spell_factor, spell_atom}
 use Rattle.nk_grammar.specs.File.{Written, written_field, written_tag, written_switch, written_declared_link, written_let, spell_ports, spell_declaration, spell_file}

@@ -2,8 +2,8 @@
 -- alone it may be more, since an `=`, `in` or `:=` may come.
 use Rattle.std.proofs.Common.{◌≡◌, ◌≤◌, ℕ, List, [], ◌∷◌, ◌++◌, true, false, length, refl, sym, subst, ◌∙◌, ap, append_assoc, append-nil, arith, Option}
 use Rattle.std.specs.Prelude.{Some, None, IsSomeAnd, option_and_then}
-use Rattle.nk_grammar.specs.declared.ast.Word.{Word}
-use Rattle.nk_grammar.specs.declared.ast.Number.{Number}
+use Rattle.nk_lex.specs.declared.word.Word.{Word}
+use Rattle.nk_lex.specs.declared.word.Number.{Number}
 use Rattle.nk_grammar.specs.declared.place.Place.TheVariants as place
 use Rattle.nk_grammar.specs.Terminal.{Terminal, Outside, name, number, equal, colon, outside, ports_word, arrow, plus_sign, semicolon, star_sign, closing, field_word, tag_word, switch_word, link_word, let_word}
 use Rattle.nk_grammar.specs.Tree.{Tree, Trees, name_of, not_of, no_part, with_part, sum_from}

@@ -5,11 +5,12 @@ use Rattle.std.specs.declared.result.Result.{Result}
 use Rattle.std.proofs.lemmas.Bool.Decides.{nat_tests}
 use Rattle.std.proofs.lemmas.List.Elements.{All-nil, All-cons, All-head, All-tail}
 use Rattle.nk_lex.specs.declared.token.Token.{Token}
+use Rattle.nk_lex.specs.Faults.{and_then}
 use Rattle.nk_grammar.specs.declared.decl.GrammarError.{GrammarError}
 use Rattle.nk_grammar.specs.declared.decl.GrammarError.TheVariants as error
 use Rattle.nk_grammar.specs.Terminal.{Terminal, name, number, tilde, opening, closing, plus_sign, semicolon, star_sign, equal, becomes, colon, fat_arrow, id_word, drop_word, dup_word, in_word, dots, outside, terminal_of}
 use Rattle.nk_grammar.specs.File.{Declaration, Written, declared, spell_file}
-use Rattle.nk_grammar.specs.FileMachine.{Reading, read_one, read_all, first_reading, declarations_at_end, open_count, judged, ended_at, and_then_read, rest_of_file, file_of}
+use Rattle.nk_grammar.specs.FileMachine.{Reading, read_one, read_all, first_reading, declarations_at_end, open_count, judged, ended_at, rest_of_file, file_of}
 use Rattle.nk_grammar.specs.Answer.{terminals, IsDeepToken, IsAnswer}
 use Rattle.nk_grammar.proofs.Files.{within, beyond}
 use Rattle.nk_grammar.proofs.Texts.{reads_file}
@@ -21,17 +22,17 @@ use Rattle.nk_nesting.proofs.Following.{ReadsAlong, file_along}
 
 -- what a token that leaves at most 256 open leads to
 taken : (o : Option Reading) (s : Reading) (line : ℕ) (f : Reading → Result (List Declaration) GrammarError) → o ≡ Some s
-    → open_count s ≤ 256 → and_then_read (judged line o) f ≡ f s
+    → open_count s ≤ 256 → and_then (judged line o) f ≡ f s
 taken o s line f e le =
-    ap (λ o. and_then_read (judged line o) f) e
-    ∙ ap (λ b. and_then_read (cond b (Ok s) (Err (error.TooDeep line))) f) (within (open_count s) le)
+    ap (λ o. and_then (judged line o) f) e
+    ∙ ap (λ b. and_then (cond b (Ok s) (Err (error.TooDeep line))) f) (within (open_count s) le)
 
 -- and what one that leaves more open
 refused : (o : Option Reading) (s : Reading) (line : ℕ) (f : Reading → Result (List Declaration) GrammarError) → o ≡ Some s
-    → 256 < open_count s → and_then_read (judged line o) f ≡ Err (error.TooDeep line)
+    → 256 < open_count s → and_then (judged line o) f ≡ Err (error.TooDeep line)
 refused o s line f e lt =
-    ap (λ o. and_then_read (judged line o) f) e
-    ∙ ap (λ b. and_then_read (cond b (Ok s) (Err (error.TooDeep line))) f) (beyond (open_count s) lt)
+    ap (λ o. and_then (judged line o) f) e
+    ∙ ap (λ b. and_then (cond b (Ok s) (Err (error.TooDeep line))) f) (beyond (open_count s) lt)
 
 -- ---- the 257th is refused
 
@@ -43,7 +44,7 @@ walks [] [] js t more rest r line h e few = by_step (read_one r (terminal_of t))
   where
     by_step : (o : Option Reading) → read_one r (terminal_of t) ≡ o
         → IsSomeAnd o (λ s. (257 ≤ open_count s) × (257 ≤ 256 → (open_count s ≤ 256) × ReadsAlong js more s))
-        → and_then_read (judged t.line (read_one r (terminal_of t))) (λ s. rest_of_file rest s t.line) ≡ Err (error.TooDeep t.line)
+        → and_then (judged t.line (read_one r (terminal_of t))) (λ s. rest_of_file rest s t.line) ≡ Err (error.TooDeep t.line)
     by_step None f g = absurd g
     by_step (Some s) f g =
         let many = g.0 in
@@ -57,7 +58,7 @@ walks (x ∷ before) (k ∷ ks) js t more rest r line h e few =
     by_step : (o : Option Reading) → read_one r (terminal_of x) ≡ o
         → IsSomeAnd o (λ s. (k ≤ open_count s) × (k ≤ 256 → (open_count s ≤ 256) × ReadsAlong (ks ++ 257 ∷ js) (terminals (before ++ t ∷ []) ++ more) s))
         → ((s : Reading) → ReadsAlong (ks ++ 257 ∷ js) (terminals (before ++ t ∷ []) ++ more) s → rest_of_file (before ++ t ∷ rest) s x.line ≡ Err (error.TooDeep t.line))
-        → and_then_read (judged x.line (read_one r (terminal_of x))) (λ s. rest_of_file (before ++ t ∷ rest) s x.line) ≡ Err (error.TooDeep t.line)
+        → and_then (judged x.line (read_one r (terminal_of x))) (λ s. rest_of_file (before ++ t ∷ rest) s x.line) ≡ Err (error.TooDeep t.line)
     by_step None f g go = absurd g
     by_step (Some s) f g go =
         let further = g.1 (All-head (λ k. k ≤ 256) k ks few) in
@@ -90,7 +91,7 @@ reads_rest (x ∷ ts) (k ∷ ks) r line ds h few e =
         → IsSomeAnd o (λ s. (k ≤ open_count s) × (k ≤ 256 → (open_count s ≤ 256) × ReadsAlong ks (terminals ts) s))
         → option_and_then declarations_at_end (option_and_then (read_all (terminals ts)) o) ≡ Some ds
         → ((s : Reading) → ReadsAlong ks (terminals ts) s → option_and_then declarations_at_end (read_all (terminals ts) s) ≡ Some ds → rest_of_file ts s x.line ≡ Ok ds)
-        → and_then_read (judged x.line (read_one r (terminal_of x))) (λ s. rest_of_file ts s x.line) ≡ Ok ds
+        → and_then (judged x.line (read_one r (terminal_of x))) (λ s. rest_of_file ts s x.line) ≡ Ok ds
     by_step None f g e go = absurd g
     by_step (Some s) f g e go =
         let further = g.1 (All-head (λ k. k ≤ 256) k ks few) in

@@ -1,7 +1,7 @@
 -- The same of texts with a certificate.
 use Rattle.std.specs.Prelude.{◌≡◌, ◌≤◌, ℕ, List, [], ◌∷◌, ◌++◌, map, length, Ok, Err, All, ◌⊎◌}
 use Rattle.nk_lex.specs.declared.token.Token.{Token}
-use Rattle.nk_grammar.specs.declared.ast.Number.{Number}
+use Rattle.nk_lex.specs.declared.word.Number.{Number}
 use Rattle.nk_grammar.specs.declared.decl.GrammarError.TheVariants as error
 use Rattle.nk_grammar.specs.Terminal.{Terminal, outside, certificate_word, terminal_of}
 use Rattle.nk_grammar.specs.Grammar.{Pol}

@@ -8,8 +8,8 @@ use Rattle.nk_field.specs.declared.reading.PacketError.{PacketError}
 use Rattle.nk_field.specs.declared.reading.PacketError.TheVariants as reading
 use Rattle.nk_topo.specs.Topology.{is_port}
 use Rattle.nk_table.specs.declared.Tables.{Tables}
-use Rattle.nk_tabtext.specs.declared.written.ReadError.{ReadError}
-use Rattle.nk_tabtext.specs.declared.written.ReadError.TheVariants as text
+use Rattle.nk_tabgrammar.specs.declared.written.ReadError.{ReadError}
+use Rattle.nk_tabgrammar.specs.declared.written.ReadError.TheVariants as text
 use Rattle.nk_sim.specs.Traces.{IsTrace}
 use Rattle.nk_sim.specs.declared.tracing.Traced.{Traced}
 use Rattle.nk.specs.Following.{Telling, ToPacket, ToTables}

@@ -1,27 +1,28 @@
 -- The tag and the links that are printed are declared as they are; what printable fields and switches are to the reader.
-use Rattle.std.proofs.Common.{◌≡◌, ◌≢◌, ◌≤◌, ◌<◌, ◌+◌, ℕ, zero, suc, List, [], ◌∷◌, ◌++◌, Bool, true, false, not, cond, length, get_or, take, drop, refl, sym, ap, subst, ◌∙◌, append_assoc, append-nil, Option, Some, None, arith, ◌||◌, ◌&&◌, inl, inr, ⊎_elim, length-append, map}
-use Rattle.std.specs.Prelude.{◌==◌, Ok, AllPairs, IsTrue, nat_lt, nat_le, is_some, slice_index_or, if◌then◌else◌}
+use Rattle.std.proofs.Common.{◌≡◌, ◌≢◌, ◌≤◌, ◌<◌, ◌+◌, ℕ, List, [], ◌∷◌, ◌++◌, Bool, true, false, not, length, get_or, take, drop, refl, sym, ap, subst, ◌∙◌, append_assoc, append-nil, Option, Some, None, arith, ◌||◌, ◌&&◌, inl, inr, ⊎_elim, length-append, map}
+use Rattle.std.specs.Prelude.{◌==◌, Ok, AllPairs, IsTrue, nat_lt, nat_le, is_some, if◌then◌else◌}
 use Rattle.std.specs.Option.{option_or}
-use Rattle.std.specs.List.{list_any, position_from, AllByRecursion}
+use Rattle.std.specs.List.{list_any, AllByRecursion}
 use Rattle.std.specs.Str.{bytes_eq}
 use Rattle.std.specs.Cmp.Lexicographic.{bytes_decides}
 use Rattle.std.proofs.lemmas.Bool.Decides.{nat_tests}
 use Rattle.std.proofs.lemmas.List.{take-append-drop, get_or_append_left, get_or_at}
 use Rattle.nk_lex.specs.Lex.{largest}
 use Rattle.nk_lex.specs.Spelling.{IsName}
+use Rattle.nk_lex.specs.Faults.{and_then, first_of, unless}
 use Rattle.nk_field.specs.Packet.{FieldTable, IsFieldTable, field_named}
 use Rattle.nk_topo.specs.Topology.{Topology, SwitchPorts, Link, placed, starts_below, target_among, is_port}
 use Rattle.nk_topo.proofs.Members.{In, InOrder, placed_behind}
 use Rattle.nk_topo.proofs.Orders.{passes_for_none}
 use Rattle.nk_tabtext.specs.Text.{name_of}
-use Rattle.nk_tabtext.specs.declared.written.Declaration.TheVariants as declared
+use Rattle.nk_tabgrammar.specs.declared.written.Declaration.TheVariants as declared
 use Rattle.nk_declare.specs.declared.fault.DeclareFault.{DeclareFault}
 use Rattle.nk_declare.specs.declared.fault.DeclareFault.TheVariants as fault
-use Rattle.nk_declare.specs.Declarations.{DeclaredValue, MaybeFault, fault_if, first_of, unless, and_then, is_from, link_fault, declared_with, declared_after}
+use Rattle.nk_declare.specs.Declarations.{DeclaredValue, MaybeFault, fault_if, is_from, link_fault, declared_with, declared_after}
 use Rattle.nk_tabtext.specs.Values.{plain}
 use Rattle.nk_tabtext.proofs.Lines.{word_on, number_on}
 use Rattle.nk_tabtext.proofs.TableLines.{HasOne}
-use Rattle.nk_tabtext.proofs.Places.{from_front}
+use Rattle.nk_declare.proofs.Places.{from_front, name_placed}
 use Rattle.nk_tabtext.proofs.HeadLines.{AreFieldsShown, ArePortsShown, AreSwitchesShown, AreLinksShown, written_link, written_links}
 use Rattle.nk_tabtext.proofs.HeadValues.{FieldsFit, PortsFrom, SwitchesFit, not_there, with_switches, said_of}
 
@@ -64,22 +65,6 @@ not_above : (n k : ℕ) → n ≤ k → nat_lt k n ≡ false
 not_above n k le = grind (arith, nat_tests)
 
 -- ---- fields
-
--- a name stands where it stands first
-name_placed : (xs : List (List ℕ)) (f i : ℕ) → f < length xs → AllPairs (λ a b. a ≢ b) xs
-    → position_from (bytes_eq (slice_index_or xs f [])) i xs ≡ Some (i + f)
-name_placed [] f i lt d = absurd (omega arith)
-name_placed (x ∷ xs) zero i lt d =
-    ap (λ b. cond b (Some i) (position_from (bytes_eq x) (i + 1) xs)) ((bytes_decides x x).1 refl)
-    ∙ ap Some (omega arith)
-name_placed (x ∷ xs) (suc f) i lt d =
-    ap (λ b. cond b (Some i) (position_from (bytes_eq (slice_index_or xs f [])) (i + 1) xs)) (other (bytes_eq (slice_index_or xs f []) x) refl)
-    ∙ name_placed xs f (i + 1) (omega arith) (λ j k e a b. d (suc j) (suc k) e (omega (arith, a)) (omega (arith, b)))
-    ∙ ap Some (omega arith)
-  where
-    other : (b : Bool) → bytes_eq (slice_index_or xs f []) x ≡ b → bytes_eq (slice_index_or xs f []) x ≡ false
-    other true e = absurd (d 0 (suc f) [] (omega arith) lt (sym ((bytes_decides (slice_index_or xs f []) x).0 e)))
-    other false e = e
 
 -- a field's name has its place
 pub name_there : (fs : FieldTable) → IsFieldTable fs → (f : ℕ) → f < length fs.maxima → field_named fs (name_of fs f) ≡ Some f

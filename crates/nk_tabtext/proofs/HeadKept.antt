@@ -1,5 +1,5 @@
 -- What is declared by a text keeps its rules.
-use Rattle.std.proofs.Common.{◌≡◌, ◌≤◌, ℕ, List, [], ◌∷◌, ◌++◌, Bool, true, false, not, refl, ap, subst, Option, Some, None, arith, ◌||◌, map}
+use Rattle.std.proofs.Common.{◌≡◌, ◌≤◌, ℕ, List, [], ◌∷◌, ◌++◌, Bool, true, false, refl, ap, subst, Option, Some, None, arith, ◌||◌, map}
 use Rattle.std.specs.Prelude.{Ok, Err, All, nat_lt, ⊤}
 use Rattle.std.specs.List.{flat_map, AllByRecursion}
 use Rattle.std.specs.declared.result.Result.{Result}
@@ -17,39 +17,27 @@ use Rattle.nk_topo.specs.Topology.{IsTopology}
 use Rattle.nk_declare.specs.declared.fault.DeclareError.{DeclareError}
 use Rattle.nk_declare.specs.Declarations.{DeclaredValue, nothing_declared, declared_after}
 use Rattle.nk_declare.specs.Kept.{IsWritable, IsDeclarable, HasFieldOfText, HasPort}
-use Rattle.nk_declare.proofs.Kept.{built_in_writable, fields_kept, nothing_is_topology, topology_kept, AreFit, fit_declarable, numbers_kept, all_kept}
-use Rattle.nk_grammar.specs.declared.ast.Number.{Number}
-use Rattle.nk_tabtext.specs.declared.written.Declaration.{Declaration}
-use Rattle.nk_tabtext.specs.declared.written.Declaration.TheVariants as declared
-use Rattle.nk_tabtext.specs.declared.written.WrittenGroup.{WrittenGroup}
-use Rattle.nk_tabtext.specs.declared.written.WrittenTable.{WrittenTable}
-use Rattle.nk_tabtext.specs.declared.written.WrittenTables.{WrittenTables}
-use Rattle.nk_tabtext.specs.declared.written.ReadError.{ReadError}
-use Rattle.nk_tabtext.specs.declared.written.ReadError.TheVariants as error
-use Rattle.nk_tabtext.specs.Terminal.{Terminal, name, number, mark, terminal_from}
-use Rattle.nk_tabtext.specs.Spelling.{spell_declaration, spell_group, spell_row, spell_table, spell_text}
-use Rattle.nk_tabtext.specs.Answer.{terminals, IsAnswer}
-use Rattle.nk_tabtext.specs.Machine.{and_then, written_of}
-use Rattle.nk_tabtext.specs.Values.{MaybeFault, fault_if, first_of, above, unless, checked, plain, fault_of, read_of, said_after}
-use Rattle.nk_tabtext.proofs.Answering.{answers}
+use Rattle.nk_declare.proofs.Kept.{ok_is, built_in_writable, fields_kept, nothing_is_topology, topology_kept, AreFit, fit_declarable, numbers_kept, all_kept}
+use Rattle.nk_lex.specs.declared.word.Number.{Number}
+use Rattle.nk_tabgrammar.specs.declared.written.Declaration.{Declaration}
+use Rattle.nk_tabgrammar.specs.declared.written.Declaration.TheVariants as declared
+use Rattle.nk_tabgrammar.specs.declared.written.WrittenGroup.{WrittenGroup}
+use Rattle.nk_tabgrammar.specs.declared.written.WrittenTable.{WrittenTable}
+use Rattle.nk_tabgrammar.specs.declared.written.WrittenTables.{WrittenTables}
+use Rattle.nk_tabgrammar.specs.declared.written.ReadError.{ReadError}
+use Rattle.nk_tabgrammar.specs.declared.written.ReadError.TheVariants as error
+use Rattle.nk_tabgrammar.specs.Terminal.{Terminal, name, number, mark, terminal_from}
+use Rattle.nk_tabgrammar.specs.Spelling.{spell_declaration, spell_group, spell_row, spell_table, spell_text}
+use Rattle.nk_tabgrammar.specs.Answer.{terminals, IsAnswer}
+use Rattle.nk_tabgrammar.specs.Machine.{written_of}
+use Rattle.nk_tabtext.specs.Values.{MaybeFault, fault_if, above, unless, checked, plain, fault_of, read_of, said_after}
+use Rattle.nk_tabgrammar.proofs.Answering.{answers}
 
 -- ---- answers without fault
-
-module _ {X Y : Type 0} where
-  -- going on, both steps are without fault
-  pub both_ok : (r : Result X ReadError) (f : X → Result Y ReadError) (y : Y) → and_then r f ≡ Ok y → (x : X) × (r ≡ Ok x) × (f x ≡ Ok y)
-  both_ok (Ok x) f y e = (x, refl, e)
-  both_ok (Err x) f y e = absurd (never x e)
-    where
-      never : (x : ReadError) → ◌≡◌ {A = Result Y ReadError} (Err x) (Ok y) → ⊥
-      never x e = cc
 
 module _ {X : Type 0} where
   not_ok : (e : ReadError) (x : X) → ◌≡◌ {A = Result X ReadError} (Err e) (Ok x) → ⊥
   not_ok e x h = cc
-
-  pub ok_is : (x y : X) → ◌≡◌ {A = Result X ReadError} (Ok x) (Ok y) → x ≡ y
-  ok_is x y e = cc
 
   -- the value where there is no fault
   pub unless_ok : (o : MaybeFault) (x y : X) → unless o x ≡ Ok y → (o ≡ None) × (x ≡ y)
@@ -59,11 +47,6 @@ module _ {X : Type 0} where
   pub checked_ok : (o : MaybeFault) (r : Result X ReadError) (y : X) → checked o r ≡ Ok y → (o ≡ None) × (r ≡ Ok y)
   checked_ok None r y e = (refl, e)
   checked_ok (Some l) r y e = absurd (not_ok (error.TableFault l) y e)
-
--- neither is a fault
-pub both_fine : (a b : MaybeFault) → first_of a b ≡ None → (a ≡ None) × (b ≡ None)
-both_fine None b e = (refl, e)
-both_fine (Some l) b e = absurd cc
 
 -- what is no fault isn't wrong
 pub not_wrong : (b : Bool) (line : ℕ) → fault_if b line ≡ None → b ≡ false
@@ -75,10 +58,6 @@ within most n e = le most n.value (not_wrong (nat_lt most n.value) n.line e)
   where
     le : (m k : ℕ) → nat_lt m k ≡ false → k ≤ m
     le m k e = grind (arith, nat_tests, e)
-
-pub holds : (b : Bool) → not b ≡ false → b ≡ true
-holds true e = refl
-holds false e = absurd cc
 
 pub neither : (a b : Bool) → (a || b) ≡ false → (a ≡ false) × (b ≡ false)
 neither true b e = absurd cc

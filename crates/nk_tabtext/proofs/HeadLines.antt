@@ -6,10 +6,10 @@ use Rattle.nk_lex.specs.declared.kind.Kind.TheVariants as kind
 use Rattle.nk_lex.specs.Lex.{largest}
 use Rattle.nk_lex.specs.Spelling.{Sign, Lexeme, IsName, IsApart, AreApart, text_of}
 use Rattle.nk_topo.specs.Topology.{SwitchPorts, Link}
-use Rattle.nk_tabtext.specs.declared.written.Declaration.{Declaration}
-use Rattle.nk_tabtext.specs.declared.written.Declaration.TheVariants as declared
-use Rattle.nk_tabtext.specs.Terminal.{Terminal, number, mark}
-use Rattle.nk_tabtext.specs.Spelling.{spell_port, spell_declaration}
+use Rattle.nk_tabgrammar.specs.declared.written.Declaration.{Declaration}
+use Rattle.nk_tabgrammar.specs.declared.written.Declaration.TheVariants as declared
+use Rattle.nk_tabgrammar.specs.Terminal.{Terminal, number, mark}
+use Rattle.nk_tabgrammar.specs.Spelling.{spell_port, spell_declaration}
 use Rattle.nk_tabtext.specs.Text.{field_text, ports_text, switch_text, link_text}
 use Rattle.nk_tabtext.specs.Text.{field_lines}
 use Rattle.nk_tabtext.proofs.Lines.{left3, left5, left9, terminals_on, word_on, number_on, named, put, feed_apart}

@@ -5,11 +5,12 @@ use Rattle.std.specs.List.{list_any}
 use Rattle.std.specs.Str.{bytes_eq}
 use Rattle.std.proofs.lemmas.Bool.Decides.{nat_tests}
 use Rattle.std.proofs.lemmas.List.Quantifiers.{position-Some}
+use Rattle.nk_lex.specs.Faults.{and_then, first_of, unless}
 use Rattle.nk_field.specs.Packet.{FieldTable}
 use Rattle.nk_topo.specs.Topology.{SwitchPorts, placed, ascending}
 use Rattle.nk_topo.proofs.Members.{placed_behind, placed_front}
 use Rattle.nk_declare.specs.declared.fault.DeclareFault.TheVariants as fault
-use Rattle.nk_declare.specs.Declarations.{DeclaredValue, MaybeFault, fault_if, first_of, unless, and_then, field_fault, ports_fault, values_of, declared_with, declared_after}
+use Rattle.nk_declare.specs.Declarations.{DeclaredValue, MaybeFault, fault_if, field_fault, ports_fault, values_of, declared_with, declared_after}
 use Rattle.nk_tabtext.specs.Values.{plain}
 use Rattle.nk_tabtext.proofs.Lines.{word_on, number_on}
 use Rattle.nk_tabtext.proofs.TableLines.{HasOne}

@@ -1,6 +1,4 @@
 mod Alike
-pub mod Answering
-pub mod Completing
 pub mod HeadBack
 pub mod HeadKept
 pub mod HeadLines
@@ -9,16 +7,11 @@ pub mod Heads
 pub mod InOrder
 pub mod Keyed
 pub mod Lines
-pub mod Loops
-pub mod Marks
 pub mod Matched
 pub mod Merging
 pub mod Numbers
-pub mod Passing
-pub mod Places
 pub mod Printable
 pub mod ReadingBack
-pub mod Spelled
 pub mod TableLines
 pub mod TablesBack
 pub mod TablesKept

@@ -10,17 +10,17 @@ use Rattle.nk_field.specs.Packet.{FieldTable}
 use Rattle.nk_table.specs.declared.Bucket.{Bucket}
 use Rattle.nk_table.specs.declared.Exit.{Exit}
 use Rattle.nk_table.specs.declared.Exit.TheVariants as exit
-use Rattle.nk_grammar.specs.declared.ast.Word.{Word}
-use Rattle.nk_grammar.specs.declared.ast.Number.{Number}
-use Rattle.nk_tabtext.specs.declared.written.Pair.{Pair}
-use Rattle.nk_tabtext.specs.declared.written.WrittenMatch.{WrittenMatch}
-use Rattle.nk_tabtext.specs.declared.written.Way.{Way}
-use Rattle.nk_tabtext.specs.declared.written.Way.TheVariants as way
-use Rattle.nk_tabtext.specs.declared.written.WrittenBucket.{WrittenBucket}
-use Rattle.nk_tabtext.specs.Terminal.{Terminal, name, number, mark, terminal_from}
-use Rattle.nk_tabtext.specs.Spelling.{spell_length, spell_match, spell_set, way_token, spell_bucket}
+use Rattle.nk_lex.specs.declared.word.Word.{Word}
+use Rattle.nk_lex.specs.declared.word.Number.{Number}
+use Rattle.nk_tabgrammar.specs.declared.written.Pair.{Pair}
+use Rattle.nk_tabgrammar.specs.declared.written.WrittenMatch.{WrittenMatch}
+use Rattle.nk_tabgrammar.specs.declared.written.Way.{Way}
+use Rattle.nk_tabgrammar.specs.declared.written.Way.TheVariants as way
+use Rattle.nk_tabgrammar.specs.declared.written.WrittenBucket.{WrittenBucket}
+use Rattle.nk_tabgrammar.specs.Terminal.{Terminal, name, number, mark, terminal_from}
+use Rattle.nk_tabgrammar.specs.Spelling.{spell_length, spell_match, spell_set, way_token, spell_bucket}
 use Rattle.nk_tabtext.specs.Text.{is_tag, is_exact, name_of, length_text, match_text, set_text, where_same, matches_text, sets_text, exit_text, bucket_text}
-use Rattle.nk_tabtext.specs.Answer.{terminals}
+use Rattle.nk_tabgrammar.specs.Answer.{terminals}
 use Rattle.nk_tabtext.proofs.Keyed.{kept_where, set_field, sets_where, matches_where, all_where}
 
 -- ---- lists one behind the other

@@ -7,13 +7,13 @@ use Rattle.std.proofs.lemmas.Bool.Decides.{nat_tests}
 use Rattle.nk_field.specs.Packet.{FieldTable, field_named}
 use Rattle.nk_prefix.specs.Prefix.{digits_of}
 use Rattle.nk_topo.proofs.Members.{placed_behind, placed_front}
-use Rattle.nk_grammar.specs.declared.ast.Number.{Number}
-use Rattle.nk_tabtext.specs.declared.written.ReadError.{ReadError}
+use Rattle.nk_lex.specs.declared.word.Number.{Number}
+use Rattle.nk_lex.specs.Faults.{and_then, first_of}
+use Rattle.nk_tabgrammar.specs.declared.written.ReadError.{ReadError}
 use Rattle.nk_tabtext.specs.InOrder.{MatchesAscend}
 use Rattle.nk_tabtext.specs.Text.{is_tag, is_exact, name_of}
-use Rattle.nk_tabtext.specs.Machine.{and_then}
 use Rattle.nk_declare.specs.Declarations.{is_from}
-use Rattle.nk_tabtext.specs.Values.{fault_if, first_of, unless, length_in, length_fault, ones_fault, match_read, put_match, matches_read}
+use Rattle.nk_tabtext.specs.Values.{fault_if, unless, length_in, length_fault, ones_fault, match_read, put_match, matches_read}
 use Rattle.nk_tabtext.proofs.Keyed.{kept_where, match_field, matches_where, Below, Ascend, AtMostOne, both_miss, below_more, below_push, below_misses, above_misses, where_ascends, all_where, one_tag}
 use Rattle.nk_tabtext.proofs.Lines.{number_on, written_length, written_match}
 

@@ -3,13 +3,13 @@ use Rattle.std.proofs.Common.{◌≡◌, ◌≤◌, ◌<◌, ◌+◌, ℕ, List,
 use Rattle.std.specs.Prelude.{◌==◌, Ok, nat_lt, nat_le, not, slice_index, unwrap_or}
 use Rattle.std.specs.List.{list_any, AllByRecursion}
 use Rattle.std.proofs.lemmas.Bool.Decides.{nat_tests}
+use Rattle.nk_lex.specs.Faults.{and_then, first_of}
 use Rattle.nk_field.specs.Packet.{FieldTable, field_named}
 use Rattle.nk_field.specs.Act.{AscendsFrom, act_then}
 use Rattle.nk_field.proofs.Thens.{lay-less, lay-more}
 use Rattle.nk_tabtext.specs.Text.{is_tag, name_of}
-use Rattle.nk_tabtext.specs.Machine.{and_then}
 use Rattle.nk_declare.specs.Declarations.{is_from}
-use Rattle.nk_tabtext.specs.Values.{fault_if, first_of, unless, pair_read, pairs_read}
+use Rattle.nk_tabtext.specs.Values.{fault_if, unless, pair_read, pairs_read}
 use Rattle.nk_tabtext.proofs.Keyed.{kept_where, set_field, sets_where, Below, Ascend, both_miss, below_more, below_push, both_below, ascend_push, below_misses, above_misses, no_tag}
 use Rattle.nk_tabtext.proofs.Lines.{written_pair}
 

@@ -10,16 +10,19 @@ use Rattle.nk_lex.specs.Lex.{tokens_of}
 use Rattle.nk_topo.specs.Topology.{numbers_of}
 use Rattle.nk_table.specs.declared.Tables.{Tables}
 use Rattle.nk_table.specs.declared.Table.{Table}
-use Rattle.nk_tabtext.specs.declared.written.WrittenTables.{WrittenTables}
-use Rattle.nk_tabtext.specs.declared.written.ReadError.{ReadError}
-use Rattle.nk_tabtext.specs.declared.written.ReadError.TheVariants as error
+use Rattle.nk_tabgrammar.specs.declared.written.WrittenTables.{WrittenTables}
+use Rattle.nk_tabgrammar.specs.declared.written.ReadError.{ReadError}
+use Rattle.nk_tabgrammar.specs.declared.written.ReadError.TheVariants as error
+use Rattle.nk_declare.proofs.Kept.{both_ok}
 use Rattle.nk_declare.specs.Declarations.{DeclaredValue, nothing_declared}
-use Rattle.nk_tabtext.specs.Machine.{and_then, written_of, Returns}
-use Rattle.nk_tabtext.specs.Values.{version_fault, fault_if, unless, said_after, tables_read, table_for, whole, tables_from, last_line, lexed, tables_of}
+use Rattle.nk_tabgrammar.specs.Machine.{written_of, Returns}
+use Rattle.nk_tabtext.specs.Values.{version_fault, fault_if, unless, said_after, tables_read, table_for, whole, tables_from, lexed, tables_of}
+use Rattle.nk_lex.specs.Spans.{last_line}
 use Rattle.nk_tabtext.specs.ReadBack.{IsPrintable, IsTableOf}
-use Rattle.nk_tabtext.proofs.HeadKept.{both_ok, checked_ok, unless_ok, not_wrong, of_text, IsDeclarationOfText, IsTableOfText, IsSaid, declared_fits}
+use Rattle.nk_tabtext.proofs.HeadKept.{checked_ok, unless_ok, not_wrong, of_text, IsDeclarationOfText, IsTableOfText, IsSaid, declared_fits}
 use Rattle.nk_tabtext.proofs.TablesKept.{IsTableEntry, tables_kept, each_kept}
 use Rattle.std.specs.List.{AllByRecursion}
+use Rattle.nk_lex.specs.Faults.{and_then}
 
 -- a tag that is there
 some_tag : (o : Option ℕ) → is_none o ≡ false → IsSome o

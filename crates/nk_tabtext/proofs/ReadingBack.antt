@@ -13,26 +13,27 @@ use Rattle.nk_topo.specs.Topology.{SwitchPorts, numbers_of}
 use Rattle.nk_topo.proofs.Members.{In, order_from_pairs, members_from_all, contains_from_in}
 use Rattle.nk_table.specs.declared.Tables.{Tables}
 use Rattle.nk_table.specs.Rules.{rows_of}
-use Rattle.nk_tabtext.specs.declared.written.Declaration.{Declaration}
-use Rattle.nk_tabtext.specs.declared.written.Declaration.TheVariants as declared
-use Rattle.nk_tabtext.specs.declared.written.WrittenTables.{WrittenTables}
-use Rattle.nk_tabtext.specs.declared.written.ReadError.{ReadError}
-use Rattle.nk_tabtext.specs.Terminal.{number, mark}
-use Rattle.nk_tabtext.specs.Spelling.{spell_declaration, spell_table, spell_text}
+use Rattle.nk_tabgrammar.specs.declared.written.Declaration.{Declaration}
+use Rattle.nk_tabgrammar.specs.declared.written.Declaration.TheVariants as declared
+use Rattle.nk_tabgrammar.specs.declared.written.WrittenTables.{WrittenTables}
+use Rattle.nk_tabgrammar.specs.declared.written.ReadError.{ReadError}
+use Rattle.nk_tabgrammar.specs.Terminal.{number, mark}
+use Rattle.nk_tabgrammar.specs.Spelling.{spell_declaration, spell_table, spell_text}
 use Rattle.nk_declare.specs.declared.fault.DeclareError.{DeclareError}
 use Rattle.nk_declare.specs.Declarations.{DeclaredValue, nothing_declared, declared_with, declared_after}
-use Rattle.nk_declare.specs.Declarations as declare
 use Rattle.nk_declare.specs.Kept.{IsWritable}
-use Rattle.nk_tabtext.specs.Machine.{and_then, written_of}
+use Rattle.nk_tabgrammar.specs.Machine.{written_of}
 use Rattle.nk_tabtext.specs.Text.{name_of, have_prefix, field_lines, tag_line, switch_text, link_text, section_text, version_of, version_text, table_bytes}
-use Rattle.nk_tabtext.specs.Values.{fault_if, unless, checked, plain, read_of, said_after, tables_read, table_for, whole, tables_from, last_line, lexed}
+use Rattle.nk_tabtext.specs.Values.{fault_if, unless, checked, plain, read_of, said_after, tables_read, table_for, whole, tables_from, lexed}
+use Rattle.nk_lex.specs.Spans.{last_line}
+use Rattle.nk_lex.specs.Faults.{and_then}
 use Rattle.nk_tabtext.specs.ReadBack.{IsPrintable, IsReadBack, IsTableOf}
 use Rattle.nk_tabtext.proofs.Lines.{left3, left4, terminals_on, of_tokens, word_on, number_on, feed_apart, flat_joined}
 use Rattle.nk_tabtext.proofs.TableLines.{behind, written_tables, lex_tables, table_lines, tables_bytes, tables_apart, tables_spelled, AreTablesShown}
 use Rattle.nk_tabtext.proofs.HeadLines.{AreFieldsShown, lex_fields, written_fields, behind_fields, fields_bytes, fields_apart, fields_spelled, lex_tag, tag_bytes, tag_apart, tag_spelled, lex_switches, written_switches, switches_bytes, switches_apart, switches_spelled, AreLinksShown, lex_links, written_links, links_bytes, links_apart, links_spelled}
 use Rattle.nk_tabtext.proofs.HeadValues.{FieldsFit, SwitchesFit, said_of, fields_back, with_switches, switches_back}
 use Rattle.nk_tabtext.proofs.Valued.{AreTablesGood, TablesFrom, table_entry, tables_back, each_is}
-use Rattle.nk_tabtext.proofs.Answering.{reads}
+use Rattle.nk_tabgrammar.proofs.Answering.{reads}
 use Rattle.nk_tabtext.proofs.Heads.{version_is}
 use Rattle.nk_tabtext.proofs.HeadBack.{two_first, has_one, fields_fit, fields_shown, tag_back, ports_from, IsSwitchFine, Below, switches_fit, switches_shown, AreLinkable, links_back, links_shown}
 use Rattle.nk_tabtext.proofs.TablesBack.{NumbersFit, numbers_fit, tables_good, tables_shown, tables_rise, sections, found_in_tables, over_numbers}
@@ -41,12 +42,12 @@ use Rattle.nk_tabtext.proofs.TablesBack.{NumbersFit, numbers_fit, tables_good, t
 abbrev said : List Declaration → DeclaredValue → Result DeclaredValue DeclareError
 said ds s = declared_after (map plain ds) s
 
-said_joined : (xs ys : List Declaration) (s : DeclaredValue) → said (xs ++ ys) s ≡ declare.and_then (said xs s) (said ys)
+said_joined : (xs ys : List Declaration) (s : DeclaredValue) → said (xs ++ ys) s ≡ and_then (said xs s) (said ys)
 said_joined [] ys s = refl
 said_joined (d ∷ xs) ys s = by (declared_with s (plain d)) (said_joined xs ys)
   where
-    by : (r : Result DeclaredValue DeclareError) → ((s : DeclaredValue) → said (xs ++ ys) s ≡ declare.and_then (said xs s) (said ys))
-        → declare.and_then r (said (xs ++ ys)) ≡ declare.and_then (declare.and_then r (said xs)) (said ys)
+    by : (r : Result DeclaredValue DeclareError) → ((s : DeclaredValue) → said (xs ++ ys) s ≡ and_then (said xs s) (said ys))
+        → and_then r (said (xs ++ ys)) ≡ and_then (and_then r (said xs)) (said ys)
     by (Ok x) go = go x
     by (Err e) go = refl
 
@@ -210,12 +211,12 @@ all_said t f h =
     let names : ns ≡ t.fields.names = two_first t.fields.names (codes "sw") (codes "pt") h.table.built_in_names in
     let maxima : ms ≡ t.fields.maxima = two_first t.fields.maxima 65535 65535 h.table.built_in_maxima in
     said_joined (written_fields 2 (names_of t) (maxima_of t)) rest nothing_declared
-    ∙ ap (λ r. declare.and_then r (said rest)) (fields_back 2 built_in.names built_in.maxima (names_of t) (maxima_of t) h.fields_fit)
+    ∙ ap (λ r. and_then r (said rest)) (fields_back 2 built_in.names built_in.maxima (names_of t) (maxima_of t) h.fields_fit)
     ∙ ap (λ l. said rest (said_of l ms)) names
     ∙ ap (λ l. said rest (said_of t.fields.names l)) maxima
-    ∙ ap (λ r. declare.and_then r (said (topo_declared t))) (tag_back t.fields (tag_at t) f h.table h.tag)
+    ∙ ap (λ r. and_then r (said (topo_declared t))) (tag_back t.fields (tag_at t) f h.table h.tag)
     ∙ said_joined (written_switches (switches_at t) t.topo.switches) (written_links (links_at t) t.topo.links) (with_switches t.fields [])
-    ∙ ap (λ r. declare.and_then r (said (written_links (links_at t) t.topo.links))) (switches_back t.fields (switches_at t) 0 [] t.topo.switches tt h.switches)
+    ∙ ap (λ r. and_then r (said (written_links (links_at t) t.topo.links))) (switches_back t.fields (switches_at t) 0 [] t.topo.switches tt h.switches)
     ∙ links_back t.fields t.topo.switches (links_at t) [] t.topo.links h.switches h.links
 
 values : (t : Tables) (f line : ℕ) → Fits t f → tables_from line (written t f) ≡ Ok t

@@ -11,17 +11,17 @@ use Rattle.nk_table.specs.declared.Group.{Group}
 use Rattle.nk_table.specs.declared.Bucket.{Bucket}
 use Rattle.nk_table.specs.declared.Target.{Target}
 use Rattle.nk_table.specs.declared.Target.TheVariants as does
-use Rattle.nk_tabtext.specs.declared.written.Way.TheVariants as way
-use Rattle.nk_tabtext.specs.declared.written.WrittenTarget.{WrittenTarget}
-use Rattle.nk_tabtext.specs.declared.written.WrittenTarget.TheVariants as target
-use Rattle.nk_tabtext.specs.declared.written.WrittenRow.{WrittenRow}
-use Rattle.nk_tabtext.specs.declared.written.WrittenGroup.{WrittenGroup}
-use Rattle.nk_tabtext.specs.Terminal.{number, mark}
-use Rattle.nk_tabtext.specs.Spelling.{spell_match, spell_bucket, spell_target, spell_row, spell_group}
+use Rattle.nk_tabgrammar.specs.declared.written.Way.TheVariants as way
+use Rattle.nk_tabgrammar.specs.declared.written.WrittenTarget.{WrittenTarget}
+use Rattle.nk_tabgrammar.specs.declared.written.WrittenTarget.TheVariants as target
+use Rattle.nk_tabgrammar.specs.declared.written.WrittenRow.{WrittenRow}
+use Rattle.nk_tabgrammar.specs.declared.written.WrittenGroup.{WrittenGroup}
+use Rattle.nk_tabgrammar.specs.Terminal.{number, mark}
+use Rattle.nk_tabgrammar.specs.Spelling.{spell_match, spell_bucket, spell_target, spell_row, spell_group}
 use Rattle.nk_tabtext.specs.Text.{matches_text, bucket_text, target_text, row_text, group_text}
 use Rattle.nk_table.specs.declared.Table.{Table}
-use Rattle.nk_tabtext.specs.declared.written.WrittenTable.{WrittenTable}
-use Rattle.nk_tabtext.specs.Spelling.{spell_table}
+use Rattle.nk_tabgrammar.specs.declared.written.WrittenTable.{WrittenTable}
+use Rattle.nk_tabgrammar.specs.Spelling.{spell_table}
 use Rattle.nk_tabtext.proofs.Keyed.{match_field, matches_where, all_where}
 use Rattle.nk_tabtext.proofs.Lines.{left3, left4, left5, left8, terminals_on, number_on, AreMatchesShown, IsMatchShown, written_match, lex_matches, matches_bytes, matches_apart, matches_spelled, parts_spelled, space_apart, feed_apart, IsBucketShown, written_bucket, lex_bucket, bucket_bytes, bucket_apart, bucket_spelled}
 

@@ -23,27 +23,28 @@ use Rattle.nk_table.specs.declared.Target.{Target}
 use Rattle.nk_table.specs.declared.Target.TheVariants as does
 use Rattle.nk_table.specs.declared.Exit.{Exit}
 use Rattle.nk_table.specs.declared.Exit.TheVariants as exit
-use Rattle.nk_grammar.specs.declared.ast.Number.{Number}
-use Rattle.nk_tabtext.specs.declared.written.Pair.{Pair}
-use Rattle.nk_tabtext.specs.declared.written.WrittenMatch.{WrittenMatch}
-use Rattle.nk_tabtext.specs.declared.written.Way.{Way}
-use Rattle.nk_tabtext.specs.declared.written.Way.TheVariants as way
-use Rattle.nk_tabtext.specs.declared.written.WrittenBucket.{WrittenBucket}
-use Rattle.nk_tabtext.specs.declared.written.WrittenTarget.{WrittenTarget}
-use Rattle.nk_tabtext.specs.declared.written.WrittenTarget.TheVariants as target
-use Rattle.nk_tabtext.specs.declared.written.WrittenRow.{WrittenRow}
-use Rattle.nk_tabtext.specs.declared.written.WrittenGroup.{WrittenGroup}
-use Rattle.nk_tabtext.specs.declared.written.WrittenTable.{WrittenTable}
-use Rattle.nk_tabtext.specs.declared.written.ReadError.{ReadError}
-use Rattle.nk_tabtext.specs.declared.written.ReadError.TheVariants as error
-use Rattle.nk_tabtext.specs.Machine.{and_then}
+use Rattle.nk_lex.specs.declared.word.Number.{Number}
+use Rattle.nk_lex.specs.Faults.{and_then, first_of}
+use Rattle.nk_tabgrammar.specs.declared.written.Pair.{Pair}
+use Rattle.nk_tabgrammar.specs.declared.written.WrittenMatch.{WrittenMatch}
+use Rattle.nk_tabgrammar.specs.declared.written.Way.{Way}
+use Rattle.nk_tabgrammar.specs.declared.written.Way.TheVariants as way
+use Rattle.nk_tabgrammar.specs.declared.written.WrittenBucket.{WrittenBucket}
+use Rattle.nk_tabgrammar.specs.declared.written.WrittenTarget.{WrittenTarget}
+use Rattle.nk_tabgrammar.specs.declared.written.WrittenTarget.TheVariants as target
+use Rattle.nk_tabgrammar.specs.declared.written.WrittenRow.{WrittenRow}
+use Rattle.nk_tabgrammar.specs.declared.written.WrittenGroup.{WrittenGroup}
+use Rattle.nk_tabgrammar.specs.declared.written.WrittenTable.{WrittenTable}
+use Rattle.nk_tabgrammar.specs.declared.written.ReadError.{ReadError}
+use Rattle.nk_tabgrammar.specs.declared.written.ReadError.TheVariants as error
+use Rattle.nk_declare.proofs.Checks.{none_both}
 use Rattle.nk_declare.specs.Declarations.{DeclaredValue, is_from}
-use Rattle.nk_tabtext.specs.Values.{fault_if, first_of, above, unless, pair_read, pairs_read, length_in, length_fault, ones_fault, match_read, put_match, matches_read, way_read, bucket_of, bucket_read, buckets_read, has_key, group_fault, group_of, group_read, groups_read, target_read, row_with, row_read, rows_read, table_of, table_read, tables_read, empty_table, table_for}
+use Rattle.nk_tabtext.specs.Values.{fault_if, above, unless, pair_read, pairs_read, length_in, length_fault, ones_fault, match_read, put_match, matches_read, way_read, bucket_of, bucket_read, buckets_read, has_key, group_fault, group_of, group_read, groups_read, target_read, row_with, row_read, rows_read, table_of, table_read, tables_read, empty_table, table_for}
 use Rattle.nk_tabtext.specs.InOrder.{MatchesAscend}
 use Rattle.nk_tabtext.specs.ReadBack.{IsExit, IsBucketOf, IsGroupOf, IsTargetOf, IsMatchOf, IsRowOf, IsTableOf}
 use Rattle.nk_tabtext.proofs.Valued.{above_key, same_test}
-use Rattle.nk_declare.proofs.Kept.{from_low, has_maximum}
-use Rattle.nk_tabtext.proofs.HeadKept.{both_ok, unless_ok, checked_ok, ok_is, both_fine, not_wrong, within, holds, neither, IsGroupOfText, IsTableOfText}
+use Rattle.nk_declare.proofs.Kept.{both_ok, ok_is, from_low, has_maximum, holds}
+use Rattle.nk_tabtext.proofs.HeadKept.{unless_ok, checked_ok, not_wrong, within, neither, IsGroupOfText, IsTableOfText}
 
 -- ---- pairs
 
@@ -87,8 +88,8 @@ pair_kept fs is low before p s e = by (field_named fs p.name.text) refl e
     by None there h = absurd (never h)
     by (Some f) there h =
         let r = unless_ok _ _ s h in
-        let parts = both_fine _ _ r.0 in
-        let first = both_fine _ _ parts.0 in
+        let parts = none_both _ _ r.0 in
+        let first = none_both _ _ parts.0 in
         subst (λ x. (low ≤ x.0) × IsValue fs x.0 x.1) r.1 (
           from_low low (Some f) f (holds _ (not_wrong _ p.name.line first.0)) refl,
           (has_maximum fs p.name.text f is there, le (slice_index fs.maxima f) p.number.value (not_wrong _ p.number.line parts.1)),
@@ -163,10 +164,10 @@ match_kept version fs is before m s e = by (field_named fs m.name.text) refl e
     by None there h = absurd (never h)
     by (Some f) there h =
         let r = unless_ok _ _ s h in
-        let parts = both_fine _ _ r.0 in
-        let pair = both_fine _ _ parts.0 in
-        let name = both_fine _ _ pair.0 in
-        let last = both_fine _ _ parts.1 in
+        let parts = none_both _ _ r.0 in
+        let pair = none_both _ _ parts.0 in
+        let name = none_both _ _ pair.0 in
+        let last = none_both _ _ parts.1 in
         let d = digits_of (slice_index fs.maxima f) in
         let length = length_kept version d m.length (some_digits (slice_index fs.maxima f)) last.0 in
         subst Kept r.1 (

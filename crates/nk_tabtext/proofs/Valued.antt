@@ -7,6 +7,7 @@ use Rattle.std.specs.Ordering.{nat_cmp, is_eq, match_ordering}
 use Rattle.std.specs.declared.cmp.Ordering.TheVariants.{Less, Equal, Greater}
 use Rattle.std.specs.BTreeMap.{insert_entry, is_at}
 use Rattle.std.proofs.lemmas.Bool.Decides.{nat_tests}
+use Rattle.nk_lex.specs.Faults.{and_then, first_of}
 use Rattle.nk_field.specs.Packet.{FieldTable}
 use Rattle.nk_field.specs.Act.{AscendsFrom}
 use Rattle.nk_topo.specs.Topology.{is_switch}
@@ -18,10 +19,9 @@ use Rattle.nk_table.specs.declared.Target.{Target}
 use Rattle.nk_table.specs.declared.Target.TheVariants as does
 use Rattle.nk_table.specs.declared.Exit.{Exit}
 use Rattle.nk_table.specs.declared.Exit.TheVariants as exit
-use Rattle.nk_tabtext.specs.declared.written.WrittenTable.{WrittenTable}
-use Rattle.nk_tabtext.specs.Machine.{and_then}
+use Rattle.nk_tabgrammar.specs.declared.written.WrittenTable.{WrittenTable}
 use Rattle.nk_declare.specs.Declarations.{DeclaredValue}
-use Rattle.nk_tabtext.specs.Values.{fault_if, first_of, unless, checked, way_read, bucket_of, bucket_read, buckets_read, has_key, group_of, group_fault, group_read, groups_read, target_read, row_with, row_read, rows_read, table_fault, table_of, table_read, tables_read, empty_table, table_for, matches_read}
+use Rattle.nk_tabtext.specs.Values.{fault_if, unless, checked, way_read, bucket_of, bucket_read, buckets_read, has_key, group_of, group_fault, group_read, groups_read, target_read, row_with, row_read, rows_read, table_fault, table_of, table_read, tables_read, empty_table, table_for, matches_read}
 use Rattle.nk_tabtext.specs.ReadBack.{IsExit}
 use Rattle.nk_tabtext.proofs.Lines.{number_on, written_way, written_bucket}
 use Rattle.nk_tabtext.proofs.TableLines.{HasOne, group_with, written_group, written_groups, written_target, written_row, written_rows, behind, written_tables}

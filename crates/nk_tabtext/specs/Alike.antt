@@ -2,7 +2,7 @@
 -- table fault at its line.
 use Rattle.std.specs.Prelude.{◌≡◌, List, map}
 use Rattle.nk_declare.specs.Declarations.{nothing_declared, declared_by}
-use Rattle.nk_tabtext.specs.declared.written.Declaration.{Declaration}
+use Rattle.nk_tabgrammar.specs.declared.written.Declaration.{Declaration}
 use Rattle.nk_tabtext.specs.Values.{plain, read_of, said_after}
 
 -- a table text's declarations have a fault exactly where the same declarations of any text have one, at the same line; else

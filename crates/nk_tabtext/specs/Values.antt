@@ -1,17 +1,16 @@
 -- The tables that a text writes, or the line of its first fault. Fields, switches and links are declared first; then come
 -- the tables of switches, with groups by number, matches and assignments by field, rows and buckets as they are written. A
 -- match may be a prefix: how many of the value's binary digits count, from the highest on.
-use Rattle.std.specs.Prelude.{ℕ, ◌-◌, ◌%◌, ◌^◌, ◌==◌, ◌||◌, not, nat_lt, Bool, ⊤, Option, Some, None, Ok, Err, is_some, is_none, if◌then◌else◌, unwrap_or, map, List, [], ◌∷◌, ◌++◌, length, IsUtf8}
+use Rattle.std.specs.Prelude.{ℕ, ◌-◌, ◌%◌, ◌^◌, ◌==◌, ◌||◌, not, nat_lt, Bool, Option, Some, None, Ok, Err, is_some, is_none, if◌then◌else◌, unwrap_or, map, List, [], ◌∷◌, ◌++◌, length}
 use Rattle.std.specs.declared.result.Result.{Result}
-use Rattle.std.specs.Option.{option_or}
 use Rattle.std.specs.List.{list_any}
 use Rattle.std.specs.Map.{lookup}
 use Rattle.std.specs.Ordering.{nat_cmp}
 use Rattle.std.specs.BTreeMap.{insert_entry, is_at}
-use Rattle.nk_lex.specs.declared.token.Token.{Token}
 use Rattle.nk_lex.specs.declared.token.LexError.{LexError}
 use Rattle.nk_lex.specs.declared.token.LexError.TheVariants as lexical
 use Rattle.nk_lex.specs.Lex.{tokens_of}
+use Rattle.nk_lex.specs.Spans.{last_line}
 use Rattle.nk_field.specs.Packet.{FieldTable, field_named}
 use Rattle.nk_field.specs.Act.{act_then}
 use Rattle.nk_prefix.specs.Prefix.{digits_of}
@@ -25,28 +24,29 @@ use Rattle.nk_table.specs.declared.Target.{Target}
 use Rattle.nk_table.specs.declared.Target.TheVariants as does
 use Rattle.nk_table.specs.declared.Exit.{Exit}
 use Rattle.nk_table.specs.declared.Exit.TheVariants as exit
-use Rattle.nk_grammar.specs.declared.ast.Word.{Word}
-use Rattle.nk_grammar.specs.declared.ast.Number.{Number}
-use Rattle.nk_tabtext.specs.declared.written.Pair.{Pair}
-use Rattle.nk_tabtext.specs.declared.written.WrittenMatch.{WrittenMatch}
-use Rattle.nk_tabtext.specs.declared.written.Declaration.{Declaration}
-use Rattle.nk_tabtext.specs.declared.written.Declaration.TheVariants as declared
-use Rattle.nk_tabtext.specs.declared.written.Way.{Way}
-use Rattle.nk_tabtext.specs.declared.written.Way.TheVariants as way
-use Rattle.nk_tabtext.specs.declared.written.WrittenBucket.{WrittenBucket}
-use Rattle.nk_tabtext.specs.declared.written.WrittenTarget.{WrittenTarget}
-use Rattle.nk_tabtext.specs.declared.written.WrittenTarget.TheVariants as target
-use Rattle.nk_tabtext.specs.declared.written.WrittenRow.{WrittenRow}
-use Rattle.nk_tabtext.specs.declared.written.WrittenGroup.{WrittenGroup}
-use Rattle.nk_tabtext.specs.declared.written.WrittenTable.{WrittenTable}
-use Rattle.nk_tabtext.specs.declared.written.WrittenTables.{WrittenTables}
-use Rattle.nk_tabtext.specs.declared.written.ReadError.{ReadError}
-use Rattle.nk_tabtext.specs.declared.written.ReadError.TheVariants as error
+use Rattle.nk_lex.specs.declared.word.Word.{Word}
+use Rattle.nk_lex.specs.declared.word.Number.{Number}
+use Rattle.nk_lex.specs.Faults.{and_then, first_of}
+use Rattle.nk_tabgrammar.specs.declared.written.Pair.{Pair}
+use Rattle.nk_tabgrammar.specs.declared.written.WrittenMatch.{WrittenMatch}
+use Rattle.nk_tabgrammar.specs.declared.written.Declaration.{Declaration}
+use Rattle.nk_tabgrammar.specs.declared.written.Declaration.TheVariants as declared
+use Rattle.nk_tabgrammar.specs.declared.written.Way.{Way}
+use Rattle.nk_tabgrammar.specs.declared.written.Way.TheVariants as way
+use Rattle.nk_tabgrammar.specs.declared.written.WrittenBucket.{WrittenBucket}
+use Rattle.nk_tabgrammar.specs.declared.written.WrittenTarget.{WrittenTarget}
+use Rattle.nk_tabgrammar.specs.declared.written.WrittenTarget.TheVariants as target
+use Rattle.nk_tabgrammar.specs.declared.written.WrittenRow.{WrittenRow}
+use Rattle.nk_tabgrammar.specs.declared.written.WrittenGroup.{WrittenGroup}
+use Rattle.nk_tabgrammar.specs.declared.written.WrittenTable.{WrittenTable}
+use Rattle.nk_tabgrammar.specs.declared.written.WrittenTables.{WrittenTables}
+use Rattle.nk_tabgrammar.specs.declared.written.ReadError.{ReadError}
+use Rattle.nk_tabgrammar.specs.declared.written.ReadError.TheVariants as error
 use Rattle.nk_declare.specs.declared.fault.DeclareError.{DeclareError}
 use Rattle.nk_declare.specs.declared.fault.DeclareError.TheVariants as refused
 use Rattle.nk_declare.specs.Declarations.{DeclaredValue, nothing_declared, declared_after, is_from, place_in, most_in}
 use Rattle.nk_declare.specs.Declarations as declare
-use Rattle.nk_tabtext.specs.Machine.{and_then, written_of}
+use Rattle.nk_tabgrammar.specs.Machine.{written_of}
 
 -- the line of a fault, or none
 abbrev pub MaybeFault : Type 0
@@ -55,10 +55,6 @@ MaybeFault = Option ℕ
 -- a fault on this line, where something is wrong
 abbrev pub fault_if : Bool → ℕ → MaybeFault
 fault_if wrong line = if wrong then Some line else None
-
--- the first fault, else the second
-abbrev pub first_of : MaybeFault → MaybeFault → MaybeFault
-first_of first second = option_or first second
 
 -- a number above a bound
 abbrev pub above : ℕ → Number → MaybeFault
@@ -96,11 +92,6 @@ read_of (Err e) = Err (fault_of e)
 -- what is declared after these declarations
 abbrev pub said_after : List Declaration → DeclaredValue → Result DeclaredValue ReadError
 said_after ds s = read_of (declared_after (map plain ds) s)
-
--- a declared name is text
-abbrev pub IsNamed : Declaration → Type 0
-IsNamed (declared.Field w n) = IsUtf8 w.text
-IsNamed d = ⊤
 
 -- ---- the tables of switches
 
@@ -282,11 +273,6 @@ tables_from line x =
     checked (version_fault x.version)
     (and_then (said_after x.declarations nothing_declared)
     (λ s. and_then (tables_read x.version.value s [] x.tables) (λ ts. unless (fault_if (is_none s.fields.tag) line) (whole s ts))))
-
--- the last token's line, or the one given where there is no token
-abbrev pub last_line : ℕ → List Token → ℕ
-last_line line [] = line
-last_line line (t ∷ ts) = last_line t.line ts
 
 -- a lexical fault
 abbrev pub lexed : {X : Type 0} → Result X LexError → Result X ReadError

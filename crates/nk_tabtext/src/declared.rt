@@ -1,17 +1,17 @@
 //! What a text declares.
-ghost use Rattle.std.specs.Prelude.{◌≡◌, ◌∷◌, IfOk, All, map};
+ghost use Rattle.std.specs.Prelude.{◌≡◌, ◌∷◌, IfOk, map};
 ghost use Rattle.nk_declare.specs.Declarations as declare;
 ghost use Rattle.nk_declare.specs.Declarations.{declared_by, declared_with, nothing_declared};
 ghost use Rattle.nk_declare.specs.InMemory.{declared_in};
-ghost use Rattle.nk_tabtext.specs.declared.written.Declaration.TheVariants as declared;
-ghost use Rattle.nk_tabtext.specs.Machine.{Returns};
+ghost use Rattle.nk_tabgrammar.specs.declared.written.Declaration.TheVariants as declared;
+ghost use Rattle.nk_tabgrammar.specs.Machine.{Returns};
 ghost use Rattle.nk_tabtext.specs.Values as meaning;
-ghost use Rattle.nk_tabtext.specs.Values.{IsNamed, plain, said_after};
+ghost use Rattle.nk_tabtext.specs.Values.{plain, said_after};
 
-use crate::written::{Declaration, ReadError};
 use nk_declare::{DeclareError, Declared};
 use nk_field::List;
-use nk_grammar::Number;
+use nk_lex::Number;
+use nk_tabgrammar::{Declaration, ReadError};
 use std::alloc::{AllocError, Global};
 
 /// The fault of a declaration, at its line.
@@ -55,7 +55,6 @@ fn with_declaration(
     said: Declared,
     d: &Declaration,
 ) -> Result<Declared, DeclareError>
-    requires { IsNamed d.now }
     ensures { declare.Returns declared_in result (declared_with (declared_in said) (plain d.now)) }
 {
     match d {
@@ -68,7 +67,6 @@ fn with_declaration(
 
 /// What all declarations declare, or their first fault.
 fn declare_all(alloc: Global, all: &[Declaration]) -> Result<Declared, DeclareError>
-    requires { All IsNamed all.now }
     ensures { declare.Returns declared_in result (declared_by (map plain all.now)) }
 {
     let mut said = Declared::new(alloc)?;
@@ -80,7 +78,6 @@ fn declare_all(alloc: Global, all: &[Declaration]) -> Result<Declared, DeclareEr
 
 /// What all declarations declare; their first fault is a table fault.
 pub(crate) fn declare(alloc: Global, all: &[Declaration]) -> Result<Declared, ReadError>
-    requires { All IsNamed all.now }
     ensures { Returns declared_in result (said_after all.now nothing_declared) }
 {
     match declare_all(alloc, all) {

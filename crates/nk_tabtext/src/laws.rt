@@ -1,26 +1,12 @@
-//! What reading token by token has to do with the grammar of table texts, and what reading has to do with printing.
+//! What reading has to do with printing, and with the declarations of programs.
 ghost use Rattle.nk_tabtext.specs.Alike.{DeclaresAlike};
-ghost use Rattle.nk_tabtext.specs.Answer.{AnswersTexts, IsUnique, ReadsTexts};
 ghost use Rattle.nk_tabtext.specs.ReadBack.{AnswersPrintable, ReadsPrinted};
-
-/// What reading a text's tokens answers is what is written, or the first token with which no text goes on.
-pub fn texts_are_answered()
-    ensures { AnswersTexts }
-{}
-
-/// Tokens that spell what is written are read as it.
-pub fn texts_are_read()
-    ensures { ReadsTexts }
-{}
-
-/// No two texts have the same tokens.
-pub fn a_text_has_one_reading()
-    ensures { IsUnique }
-{}
 
 /// What is printed of tables is read back as them: of all tables that keep the rules of a text. Their fields, names and
 /// largest values can be declared, a tag among them; each switch has a port and exactly one table, in the order of the
-/// switches; groups ascend by number and have a bucket; matches and assignments ascend by field.
+/// switches; groups ascend by number and have a bucket; matches and assignments ascend by field. A match is of a field but
+/// the switch, with a value in its range; one digit of the value counts or more, at most as many as the field's largest value
+/// has, and the value has zeros behind those.
 pub fn printed_tables_are_read()
     ensures { ReadsPrinted }
 {}

@@ -1,4 +1,8 @@
-//! The text of tables.
+//! The text of tables, and the tables of a text.
+//!
+//! A match is of a field, of a value and of how many of the value's first digits count, of as many as the field's largest value
+//! has. All of them count where no length is written. A match that can be printed and read back is of a field but the switch,
+//! its value is in the field's range, one digit counts or more, and the value has zeros behind those that count.
 #![tactic(auto)]
 
 ghost use Rattle.std.specs.Prelude.{◌≡◌, ◌++◌, IfOk, OnOk};
@@ -10,29 +14,24 @@ ghost use Rattle.nk_tabtext.specs.Text.{table_bytes, section_text, version_text}
 mod declared;
 mod head;
 mod laws;
-mod parts;
-mod reader;
 mod reading;
 mod rules;
-mod stage;
 mod tables;
 mod values;
-mod written;
 
 use itoa::Buffer;
 pub use laws::{
-    a_text_has_one_reading, printed_tables_are_read, read_tables_are_printable,
-    table_texts_declare_as_programs_do, texts_are_answered, texts_are_read,
+    printed_tables_are_read, read_tables_are_printable, table_texts_declare_as_programs_do,
 };
+pub use nk_tabgrammar::ReadError;
 use nk_table::Tables;
 pub use reading::read_tables;
 use std::alloc::{AllocError, Global};
-pub use written::ReadError;
 
 /// The printed text of tables: `tables 2` where some match is a prefix, else `tables 1`; then a line for each declared
 /// field, for the tag, each switch and each link, and the table of each switch with its groups and rows. Switches, ports and
-/// links ascend, and so do groups, matches and assignments; rows stand in their order. A match that is a prefix has its
-/// length behind a `/`.
+/// links ascend, and so do groups, matches and assignments; rows stand in their order. A match whose length isn't all of its
+/// field's digits is a prefix here, and has its length behind a `/`.
 pub fn table_text(alloc: Global, t: &Tables) -> Result<Vec<u8>, AllocError>
     requires { AreInOrder t.now }
     ensures { IfOk result (λ v. v.items ≡ table_bytes t.now) }

@@ -1,43 +1,30 @@
 //! The tables of a text.
-ghost use Rattle.std.specs.Prelude.{◌≡◌, All, IfOk, IsUtf8};
+ghost use Rattle.std.specs.Prelude.{◌≡◌, IfOk};
 ghost use Rattle.nk_lex.specs.Lex.{tokens_of};
+ghost use Rattle.nk_lex.specs.Spans.{last_line};
 ghost use Rattle.nk_declare.specs.InMemory.{declared_in};
-ghost use Rattle.nk_tabtext.specs.Machine.{Returns, written_of};
+ghost use Rattle.nk_tabgrammar.specs.Machine.{Returns};
 ghost use Rattle.nk_tabtext.specs.ReadBack.{IsPrintable};
-ghost use Rattle.nk_tabtext.specs.Values.{IsNamed, last_line, lexed, tables_from, tables_of, whole};
+ghost use Rattle.nk_tabtext.specs.Values.{lexed, tables_from, tables_of, whole};
 
 use crate::declared::declare;
-use crate::reader::read_text;
 use crate::tables::{Tabled, each, tables};
 use crate::values::refuse_if;
-use crate::written::{ReadError, WrittenTables};
 use nk_declare::Declared;
 use nk_lex::{LexError, Token, tokens};
+use nk_tabgrammar::{ReadError, WrittenTables, read_text};
 use nk_table::Tables;
 use std::alloc::{AllocError, Global};
 
 /// The tokens of a text, or its first lexical fault.
 fn lex(alloc: Global, text: &[u8]) -> Result<Vec<Token>, ReadError>
-    ensures tokens { Returns (λ v. v.items) result (lexed (tokens_of text.now)) }
-    ensures texts { IfOk result (λ v. All (λ t. IsUtf8 t.text) v.items) }
+    ensures { Returns (λ v. v.items) result (lexed (tokens_of text.now)) }
 {
     match tokens(alloc, text) {
         Ok(tokens) => Ok(tokens),
         Err(LexError::NoMemory) => Err(ReadError::NoMemory),
         Err(LexError::BadByte { line }) => Err(ReadError::BadByte { line }),
         Err(LexError::NumberTooLarge { line }) => Err(ReadError::NumberTooLarge { line }),
-    }
-}
-
-/// What a text's tokens write.
-#[tactic(auto, using(crate::proofs::Answering::named_of))]
-fn written(alloc: Global, tokens: &[Token]) -> Result<WrittenTables, ReadError>
-    ensures written { Returns (λ x. x) result (written_of tokens.now) }
-    ensures named { All (λ t. IsUtf8 t.text) tokens.now → IfOk result (λ x. All IsNamed x.declarations) }
-{
-    match read_text(alloc, tokens) {
-        Ok(text) => Ok(text),
-        Err(error) => Err(error),
     }
 }
 
@@ -69,7 +56,6 @@ fn whole(alloc: Global, said: Declared, read: Tabled) -> Result<Tables, AllocErr
 
 /// The tables that are written, where `line` is that of the last token.
 fn tables_from(alloc: Global, line: u64, text: &WrittenTables) -> Result<Tables, ReadError>
-    requires { All IsNamed text.now.declarations }
     ensures { Returns (λ t. t) result (tables_from line text.now) }
 {
     let version = text.version.value;
@@ -100,13 +86,14 @@ fn tables_from(alloc: Global, line: u64, text: &WrittenTables) -> Result<Tables,
 /// Tables stand by switch, a declared switch without a table having an empty one, groups by number, matches and
 /// assignments by field, rows and buckets as in the text.
 ///
-/// They are such as can be printed and read back.
+/// They are such as can be printed and read back: in each match one digit of the value counts or more, at most all digits of
+/// its field, and the value has zeros behind those.
 pub fn read_tables(alloc: Global, text: &[u8]) -> Result<Tables, ReadError>
     ensures tables { Returns (λ t. t) result (tables_of text.now) }
     ensures printable { IfOk result IsPrintable }
 {
     let tokens = lex(alloc, text)?;
-    let written = written(alloc, tokens.as_slice())?;
+    let written = read_text(alloc, tokens.as_slice())?;
     let line = last_line(tokens.as_slice());
     tables_from(alloc, line, &written)
 }

@@ -1,13 +1,13 @@
 //! The tables of all switches.
 ghost use Rattle.std.specs.Prelude.{◌≡◌, ◌<◌, [], map, unwrap_or, AllPairs, IfOk};
 ghost use Rattle.nk_declare.specs.InMemory.{declared_in};
-ghost use Rattle.nk_tabtext.specs.Machine.{Returns};
+ghost use Rattle.nk_tabgrammar.specs.Machine.{Returns};
 ghost use Rattle.nk_tabtext.specs.Values.{empty_table, table_for, table_read, tables_read};
 
 use crate::values::{groups, refuse_if, rows, small};
-use crate::written::{ReadError, WrittenTable};
 use nk_declare::Declared;
 use nk_field::List;
+use nk_tabgrammar::{ReadError, WrittenTable};
 use nk_table::{Group, Table};
 use std::alloc::{AllocError, Global};
 use std::collections::BTreeMap;

@@ -2,7 +2,7 @@
 ghost use Rattle.std.specs.Prelude.{◌≡◌, ◌≤◌, ◌<◌, ◌-◌, ◌%◌, ◌^◌, [], ◌∷◌, Ok, not, map, length, nat_lt, IfOk, IfSome, OnOk, MatchResult};
 ghost use Rattle.std.specs.Prelude.{◌==◌};
 ghost use Rattle.std.specs.List.{list_any, prefix_len};
-ghost use Rattle.nk_tabtext.specs.Machine.{Returns};
+ghost use Rattle.nk_tabgrammar.specs.Machine.{Returns};
 ghost use Rattle.nk_tabtext.specs.Values.{
   bucket_read,
   buckets_read,
@@ -27,13 +27,13 @@ ghost use Rattle.nk_tabtext.specs.Values.{
   above,
 };
 
-use crate::written::{
-    Pair, ReadError, Way, WrittenBucket, WrittenGroup, WrittenMatch, WrittenRow, WrittenTarget,
-};
 use nk_declare::field_with;
 use nk_field::{Act, Fid, Fields, List};
-use nk_grammar::Number;
+use nk_lex::Number;
 use nk_prefix::digits_of;
+use nk_tabgrammar::{
+    Pair, ReadError, Way, WrittenBucket, WrittenGroup, WrittenMatch, WrittenRow, WrittenTarget,
+};
 use nk_table::{Bucket, Exit, Group, Row, Target};
 use std::alloc::{AllocError, Global};
 use std::collections::BTreeMap;
@@ -66,16 +66,11 @@ pub(crate) fn small(n: Number) -> Result<u16, ReadError>
     }
 }
 
-/// Whether a field stands among these.
+/// Whether a field is assigned among these.
 fn has_field(pairs: &[(Fid, u64)], field: Fid) -> bool
     ensures { result ≡ list_any (λ s. s.0 == field) pairs.now }
 {
-    for (f, _) in pairs {
-        if *f == field {
-            return true;
-        }
-    }
-    false
+    pairs.iter().any(|s| s.0 == field)
 }
 
 /// An assignment behind others, of a field from `low` on.
@@ -116,16 +111,11 @@ fn pairs(alloc: Global, fields: &Fields, low: usize, pairs: &[Pair]) -> Result<A
     Ok(before)
 }
 
-/// Whether a field stands among these.
+/// Whether a field is matched among these.
 fn is_matched(matches: &[(Fid, u64, u8)], field: Fid) -> bool
     ensures { result ≡ list_any (λ s. s.0 == field) matches.now }
 {
-    for (f, _, _) in matches {
-        if *f == field {
-            return true;
-        }
-    }
-    false
+    matches.iter().any(|m| m.0 == field)
 }
 
 /// How many of so many digits count, in a text of a version.

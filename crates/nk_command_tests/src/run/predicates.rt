@@ -79,10 +79,8 @@ fn is_kept(alloc: Global, predicate: &[u8], largest: Largest) -> Result<bool, Fa
         return Ok(false);
     };
     let text = side_by_side(alloc, predicate, other, largest)?;
-    let declared = match tokens(alloc, &text) {
-        Ok(tokens) => declared_by(alloc, &tokens)?,
-        Err(_) => return Ok(false),
-    };
+    let read = tokens(alloc, &text)?;
+    let declared = declared_by(alloc, &read)?;
     match (declared.find("p"), declared.find("q")) {
         (Some(p), Some(q)) => Ok(agree(alloc, p, q, largest)?),
         _ => Ok(false),

@@ -1,5 +1,5 @@
 //! The printed tables of random policies, against the ends of the policies by the plain program of all their histories.
-ghost use Rattle.std.specs.Prelude.{◌≡◌, ◌≤◌, All, IsUtf8, true};
+ghost use Rattle.std.specs.Prelude.{◌≡◌, ◌≤◌, All, true};
 ghost use Rattle.nk_lex.specs.Lex.{largest};
 ghost use Rattle.nk_policy.specs.Histories.{AllFlat, IsFlat};
 ghost use Rattle.nk_policy.specs.Tree.{tree_of, trees_of};
@@ -96,7 +96,6 @@ fn agree(alloc: Global, p: &Pol, tables: &Tables, largest: Largest) -> Result<bo
 
 /// The program of the tokens of a text.
 pub(super) fn declared_by(alloc: Global, tokens: &[Token]) -> Result<Program, Fail>
-    requires texts { All (λ t. IsUtf8 t.text) tokens.now }
     requires small { All (λ t. t.value ≤ largest) tokens.now }
 {
     let tree = file(alloc, tokens)?;
@@ -109,10 +108,8 @@ fn is_carried(alloc: Global, policy: &[u8], largest: Largest) -> Result<bool, Fa
     put_declarations(&mut text, largest)?;
     text.extend_from_slice(b"let p = ")?;
     text.extend_from_slice(policy)?;
-    let declared = match tokens(alloc, &text) {
-        Ok(tokens) => declared_by(alloc, &tokens)?,
-        Err(_) => return Ok(false),
-    };
+    let read = tokens(alloc, &text)?;
+    let declared = declared_by(alloc, &read)?;
     let tables = compile(alloc, &declared, "p")?;
     match declared.find("p") {
         Some(p) => Ok(agree(alloc, p, &tables, largest)?),

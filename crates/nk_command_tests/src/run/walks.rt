@@ -126,10 +126,8 @@ fn agree(alloc: Global, p: &Pol, tables: &Tables) -> Result<bool, AllocError> {
 
 /// Whether the printed tables of `p` do what `q` does.
 fn is_carried(alloc: Global, text: &[u8]) -> Result<bool, Fail> {
-    let declared = match tokens(alloc, text) {
-        Ok(tokens) => declared_by(alloc, &tokens)?,
-        Err(_) => return Ok(false),
-    };
+    let read = tokens(alloc, text)?;
+    let declared = declared_by(alloc, &read)?;
     let (status, out, _) = done(alloc, &["compile", "p"], text)?;
     if status != Status::Done {
         return Ok(false);

@@ -7,15 +7,6 @@ use Rattle.nk_names.specs.ProgramOf.{said_in}
 use Rattle.nk_names.proofs.Going.{written_at, said_more, lets_kept, lets_in_memory}
 use Rattle.nk_names.proofs.reading.program.Goals as goal
 
-pub with_decl-requires : goal.with_decl-requires
-with_decl-requires c =
-    let same : c.as_slice-decl-items.result.now ≡ c.args.f.now.decls = c.as_slice-decl-items.ensures in
-    let within : c.loop-decl.decl-index < length c.args.f.now.decls =
-    subst (λ l. c.loop-decl.decl-index < length l) same c.loop-decl-test.true in
-    let is : c.decl-item.result ≡ get_or c.args.f.now.decls c.loop-decl.decl-index c.decl-item.result =
-    subst (λ l. c.decl-item.result ≡ get_or l c.loop-decl.decl-index c.decl-item.result) same c.decl-item.is in
-    written_at c.args.f.now.decls c.loop-decl.decl-index c.decl-item.result c.requires within is
-
 pub loop-decl-preserved : goal.loop-decl-preserved
 loop-decl-preserved c =
     let same : c.as_slice-decl-items.result.now ≡ c.args.f.now.decls = c.as_slice-decl-items.ensures in

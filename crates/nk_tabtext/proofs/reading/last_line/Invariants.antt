@@ -1,5 +1,5 @@
 use Rattle.std.proofs.Common.{◌≡◌, drop}
-use Rattle.nk_tabtext.specs.Values.{last_line}
+use Rattle.nk_lex.specs.Spans.{last_line}
 use Rattle.nk_tabtext.proofs.reading.last_line.Given as goal
 
 -- the last line of what is left is that of the whole

@@ -1,0 +1,33 @@
+//! Words and numbers of a text, with their lines.
+ghost use Rattle.std.specs.Prelude.{◌≡◌, IfOk};
+
+use crate::{Bytes, Token};
+use std::alloc::{AllocError, Global};
+
+/// A name with its line.
+#[derive(Drop)]
+pub struct Word {
+    /// The name's bytes.
+    pub text: Bytes,
+    /// The line that it stands on.
+    pub line: u64,
+}
+
+/// A number with its line.
+#[derive(Clone, Copy, Debug, PartialEq, Eq)]
+pub struct Number {
+    /// The number's value.
+    pub value: u64,
+    /// The line that it stands on.
+    pub line: u64,
+}
+
+/// A token's text with its line.
+pub fn word_of(alloc: Global, token: &Token) -> Result<Word, AllocError>
+    ensures { IfOk result (λ w. (w.text ≡ token.now.text) × (w.line ≡ token.now.line)) }
+{
+    Ok(Word {
+        text: Bytes::of_text(alloc, token.text.as_str())?,
+        line: token.line,
+    })
+}

@@ -1,0 +1,34 @@
+//! The grammar of table texts: declarations, and the tables of switches with their groups and rows, read token by token.
+//!
+//! ```text
+//! text    : tables NUMBER decl* table*
+//! decl    : field NAME NUMBER
+//!         | tag NAME
+//!         | switch NUMBER ports NUMBER { , NUMBER }
+//!         | link NUMBER : NUMBER -> NUMBER : NUMBER
+//! table   : table NUMBER group* row*
+//! group   : group NUMBER = bucket { bucket }
+//! row     : row NUMBER : match* -> target
+//! match   : NAME = NUMBER | NAME = NUMBER / NUMBER
+//! target  : bucket | group NUMBER | drop
+//! bucket  : [ set* out way ]
+//! set     : NAME := NUMBER
+//! way     : NUMBER | in
+//! ```
+//!
+//! What is read keeps each name and each number with its line. What it means, and which rules it has to keep, is said by the
+//! crates above.
+#![tactic(auto)]
+
+mod laws;
+mod parts;
+mod reader;
+mod stage;
+mod written;
+
+pub use laws::{a_text_has_one_reading, texts_are_answered, texts_are_read};
+pub use reader::read_text;
+pub use written::{
+    Declaration, Pair, ReadError, Way, WrittenBucket, WrittenGroup, WrittenMatch, WrittenRow,
+    WrittenTable, WrittenTables, WrittenTarget,
+};

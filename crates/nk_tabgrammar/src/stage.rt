@@ -1,0 +1,142 @@
+//! What may come next in a text of tables.
+use crate::written::{Pair, Way, WrittenBucket, WrittenGroup, WrittenMatch};
+use nk_field::List;
+use nk_lex::{Number, Word};
+
+/// How much of `NUMBER : NUMBER -> NUMBER : NUMBER` stands there.
+#[derive(Clone, Copy)]
+pub enum Quad {
+    /// Nothing yet.
+    Start,
+    /// The source's switch.
+    Switch(Number),
+    /// The source's switch and the colon.
+    SwitchColon(Number),
+    /// The source.
+    Port(Number, Number),
+    /// The source and the arrow.
+    Arrow(Number, Number),
+    /// The source and the target's switch.
+    ToSwitch(Number, Number, Number),
+    /// The source, the target's switch and the colon.
+    ToColon(Number, Number, Number),
+}
+
+/// A token read behind a part of a link.
+#[derive(Clone, Copy)]
+pub enum QuadNext {
+    /// No link goes on with it.
+    Refused,
+    /// The link goes on.
+    Going(Quad),
+    /// The link is whole.
+    Full(Number, Number, Number, Number),
+}
+
+/// How much of a bucket stands there, the bracket at least.
+#[derive(Drop)]
+pub enum Place {
+    /// The assignments so far.
+    Sets(List<Pair>),
+    /// A name behind them.
+    Named(List<Pair>, Word),
+    /// A name and `:=` behind them.
+    Assigned(List<Pair>, Word),
+    /// The word `out` behind them.
+    Out(List<Pair>),
+    /// The exit behind them.
+    Left(List<Pair>, Way),
+}
+
+/// A token read behind a part of a bucket.
+#[derive(Drop)]
+pub enum PlaceNext {
+    /// No bucket goes on with it.
+    Refused,
+    /// The bucket goes on.
+    Going(Place),
+    /// The bucket is whole.
+    Full(WrittenBucket),
+}
+
+/// What a bucket is part of.
+#[derive(Drop)]
+pub enum Owner {
+    /// It is the first bucket of the group with this number.
+    First(Number),
+    /// It is another bucket of this group.
+    Next(WrittenGroup),
+    /// It is the target of the row with this priority and these matches.
+    Row(Number, List<WrittenMatch>),
+}
+
+/// What stands before the next token, within a declaration.
+#[derive(Drop)]
+pub enum Declaring {
+    Field,
+    FieldNamed(Word),
+    Tag,
+    Switch,
+    SwitchNumbered(Number),
+    /// The first port is wanted.
+    FirstPort(Number),
+    /// Another port is wanted.
+    NextPort(Number, Number, List<Number>),
+    /// A port stands there.
+    PortRead(Number, Number, List<Number>),
+    Link(Quad),
+}
+
+/// What stands before the next token, within a group but its buckets.
+#[derive(Drop)]
+pub enum Grouping {
+    Group,
+    GroupNumbered(Number),
+    /// The first bucket is wanted.
+    FirstBucket(Number),
+    /// A bucket of a group stands there.
+    BucketRead(WrittenGroup),
+}
+
+/// What stands before the next token, within a row but a bucket.
+#[derive(Drop)]
+pub enum InRow {
+    Row,
+    RowNumbered(Number),
+    /// The matches so far.
+    Matches(Number, List<WrittenMatch>),
+    MatchNamed(Number, List<WrittenMatch>, Word),
+    MatchTested(Number, List<WrittenMatch>, Word),
+    /// A name and a value behind the matches; a `/`, another match or the arrow may follow.
+    MatchValued(Number, List<WrittenMatch>, Word, Number),
+    /// A name, a value and a `/` behind the matches.
+    MatchSlashed(Number, List<WrittenMatch>, Word, Number),
+    /// The target is wanted.
+    Target(Number, List<WrittenMatch>),
+    /// The word `group` as a target.
+    TargetGroup(Number, List<WrittenMatch>),
+}
+
+/// What stands before the next token of a text.
+#[derive(Drop)]
+pub enum Stage {
+    /// Nothing.
+    Start,
+    /// The word `tables`.
+    Version,
+    /// Whole declarations; a declaration, a table or the end may follow.
+    Between,
+    /// A part of a declaration.
+    Declared(Declaring),
+    /// The word `table`.
+    Table,
+    /// A table's number and whole groups; a group, a row, a table or the end may follow.
+    Groups,
+    /// A part of a group.
+    Grouped(Grouping),
+    InBucket(Owner, Place),
+    /// Whole rows; a row, a table or the end may follow.
+    Rows,
+    /// A part of a row.
+    InRow(InRow),
+}

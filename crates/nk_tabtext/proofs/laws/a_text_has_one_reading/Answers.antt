@@ -1,5 +1,0 @@
-use Rattle.nk_tabtext.proofs.Answering.{unique}
-use Rattle.nk_tabtext.proofs.laws.a_text_has_one_reading.Goals as goal
-
-pub returns : goal.returns
-returns c = unique
