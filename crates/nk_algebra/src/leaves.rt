@@ -103,13 +103,14 @@ impl Join for Guard {
     }
 }
 
-/// The second diagram where the first one is not empty, where the first one is a leaf or the second.
+/// The second diagram where the first one is not empty, where the first one is a leaf or the second, or the second one drops
+/// each packet.
 fn guarded_by_leaf(st: &Store, a: Id, b: Id) -> Option<Id>
     requires left { IsId st.now a }
     requires right { IsId st.now b }
     ensures { IfSome result (λ d. HasLeaves st.now d (λ pk. guarded (look st.now a pk) (look st.now b pk))) }
 {
-    if a == b {
+    if a == b || st.drops(b) {
         return Some(b);
     }
     match st.view(a) {

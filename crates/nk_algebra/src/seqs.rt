@@ -116,6 +116,9 @@ pub(crate) fn sequence(st: &mut Store, a: Id, b: Id) -> Result<Id, AllocError>
     ensures grows { Grows st.old st.new }
     ensures ok { IfOk result (λ d. HasLeaves st.new d (λ pk. seq_leaf (look st.old a pk) (look st.old b) pk)) }
 {
+    if st.drops(a) {
+        return Ok(a);
+    }
     if let Some(d) = st.recall(Operation::Seq, a, b) {
         return Ok(d);
     }

@@ -1,21 +1,21 @@
 //! Sets of packets as predicate diagrams: each packet passes as it is, or is dropped.
 #![tactic(auto)]
 
-mod cuts;
+mod at_sets;
 mod differences;
-mod filled;
+mod empty_sets;
 mod forgets;
 mod images;
-mod lowest;
+mod least_packets;
 mod predicate;
 
 ghost use Rattle.nk_sets.specs.Example.{WorkedPredicates};
 
-pub use cuts::at_packets;
+pub use at_sets::at_packets;
 pub use differences::minus;
-pub use filled::is_empty;
+pub use empty_sets::is_empty;
 pub use images::{image, preimage};
-pub use lowest::least;
+pub use least_packets::least;
 pub use predicate::set_pol;
 
 /// Nine small sets with their predicates.

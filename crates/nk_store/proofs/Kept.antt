@@ -1,16 +1,15 @@
 -- Answers keep their meaning while the store grows.
-use Rattle.std.proofs.Common.{◌≡◌, ℕ, Bool, true, false, cond, ◌&&◌, List, Option, Some, None, IfSome, refl, sym, ◌∙◌, ap, subst, eqb-true}
+use Rattle.std.proofs.Common.{◌≡◌, ℕ, Bool, true, false, cond, List, Option, Some, None, IfSome, refl, sym, ◌∙◌, ap, subst}
 use Rattle.std.specs.Map.{lookup}
 use Rattle.std.specs.Prelude.{OnOk, OnErr}
 use Rattle.std.specs.declared.result.Result.{Result}
 use Rattle.std.specs.declared.result.Result.TheVariants.{Ok, Err}
 use Rattle.nk_store.specs.declared.operation.Operation.{Operation}
-use Rattle.nk_store.specs.declared.operation.Operation.TheVariants.{Union, Both, Negate, Missing, Seq, Split}
 use Rattle.nk_store.specs.declared.operation.Key.{Key}
-use Rattle.nk_store.specs.contracts.operation.OperationPartialEq.TheImpl.{ghosts}
 use Rattle.nk_store.specs.declared.node.Out.{Out}
 use Rattle.nk_store.specs.Held.{Held, look, Grows}
 use Rattle.nk_store.specs.Operations.{made}
+use Rattle.nk_store.specs.Equal.{key_same}
 use Rattle.nk_store.specs.KeptAnswers.{IsAnswer, key_eq, AreAnswers, IsKeptLeaf}
 
 -- an answer is one in a store that grew
@@ -35,64 +34,6 @@ answer_grown old new operation a b d g r =
 pub answers_grown : (old new : Held) (answers : List (Key × ℕ)) → Grows old new → AreAnswers old answers →
     AreAnswers new answers
 answers_grown old new answers g m = λ k d e. answer_grown old new k.operation k.left k.right d g (m k d e)
-
--- operations that are equal are one
-operation_same : (a b : Operation) → ghosts.eq a b ≡ true → a ≡ b
-operation_same Union Union h = refl
-operation_same Union Both h = cc
-operation_same Union Negate h = cc
-operation_same Union Missing h = cc
-operation_same Union Seq h = cc
-operation_same Union Split h = cc
-operation_same Both Union h = cc
-operation_same Both Both h = refl
-operation_same Both Negate h = cc
-operation_same Both Missing h = cc
-operation_same Both Seq h = cc
-operation_same Both Split h = cc
-operation_same Negate Union h = cc
-operation_same Negate Both h = cc
-operation_same Negate Negate h = refl
-operation_same Negate Missing h = cc
-operation_same Negate Seq h = cc
-operation_same Negate Split h = cc
-operation_same Missing Union h = cc
-operation_same Missing Both h = cc
-operation_same Missing Negate h = cc
-operation_same Missing Missing h = refl
-operation_same Missing Seq h = cc
-operation_same Missing Split h = cc
-operation_same Seq Union h = cc
-operation_same Seq Both h = cc
-operation_same Seq Negate h = cc
-operation_same Seq Missing h = cc
-operation_same Seq Seq h = refl
-operation_same Seq Split h = cc
-operation_same Split Union h = cc
-operation_same Split Both h = cc
-operation_same Split Negate h = cc
-operation_same Split Missing h = cc
-operation_same Split Seq h = cc
-operation_same Split Split h = refl
-
--- the first of two that both hold
-and_left : (s t : Bool) → (s && t) ≡ true → s ≡ true
-and_left true t h = refl
-and_left false t h = h
-
--- the second of two that both hold
-and_right : (s t : Bool) → (s && t) ≡ true → t ≡ true
-and_right true t h = h
-and_right false t h = cc
-
--- keys that are equal are one
-pub key_same : (k q : Key) → key_eq k q ≡ true → k ≡ q
-key_same k q h =
-    let a : k.operation ≡ q.operation = operation_same k.operation q.operation (and_left _ _ h) in
-    let rest = and_right _ _ h in
-    let b : k.left ≡ q.left = eqb-true _ _ (and_left _ _ rest) in
-    let c : k.right ≡ q.right = eqb-true _ _ (and_right _ _ rest) in
-    λ i. record { operation = a i; left = b i; right = c i }
 
 -- with one answer more, all that are kept are answers
 pub answers_kept : (st : Held) (old new : List (Key × ℕ)) (k : Key) (d : ℕ) → AreAnswers st old →

@@ -58,7 +58,7 @@ impl Out {
 }
 
 /// A leaf with its outs, or a choice by the value of a field: pairs of an interval's upper end and its child.
-#[derive(PartialEq, Eq, Hash, Drop)]
+#[derive(PartialEq, Eq, Drop)]
 pub enum Node {
     /// A leaf: its outs ascend, each once.
     Leaf(List<Out>),

@@ -19,7 +19,7 @@ pub enum Operation {
 }
 
 /// What an answer is found by: the operation and its diagrams, in order.
-#[derive(Clone, Copy, PartialEq, Eq, Hash)]
+#[derive(Clone, Copy, PartialEq, Eq)]
 pub struct Key {
     pub operation: Operation,
     pub left: Id,

@@ -1,7 +1,7 @@
 use Rattle.std.proofs.Common.{sym, ap, ◌∙◌}
 use Rattle.nk_sets.specs.PacketSets.{has_out}
 use Rattle.nk_sets.proofs.SetLemmas.{filled_in}
-use Rattle.nk_sets.proofs.filled.is_empty.Goals as goal
+use Rattle.nk_sets.proofs.empty_sets.is_empty.Goals as goal
 
 pub returns-clause-yes : goal.returns-clause-yes
 returns-clause-yes c = λ e pk w. ap has_out (c.drops.ensures.yes e pk)

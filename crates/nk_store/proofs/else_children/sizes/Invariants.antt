@@ -1,7 +1,7 @@
 use Rattle.std.proofs.Common.{◌≡◌, ◌+◌, ◌≤◌, ℕ, drop}
 use Rattle.nk_store.specs.Nodes.{Rises}
 use Rattle.nk_store.specs.ElseChild.{spans, size_of, kept}
-use Rattle.nk_store.proofs.other.sizes.Given as goal
+use Rattle.nk_store.proofs.else_children.sizes.Given as goal
 
 abbrev pub invariant-loop-end : goal.invariant-loop-end
 invariant-loop-end l = record {

@@ -2,7 +2,7 @@ use Rattle.std.proofs.Common.{arith, ◌≡◌, ◌∙◌, subst, sym, ap, ◌+�
 use Rattle.nk_store.specs.Nodes.{Rises}
 use Rattle.nk_store.specs.ElseChild.{kept, spans, size_of}
 use Rattle.nk_store.proofs.Children.{rest_is, kept_put, below_step, counts_step}
-use Rattle.nk_store.proofs.other.sizes.Goals as goal
+use Rattle.nk_store.proofs.else_children.sizes.Goals as goal
 
 pub loop-end-preserved : goal.loop-end-preserved
 loop-end-preserved c =

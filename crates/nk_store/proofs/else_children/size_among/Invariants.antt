@@ -1,7 +1,7 @@
 use Rattle.std.proofs.Common.{◌≡◌, ◌+◌, ◌≤◌, drop}
 use Rattle.nk_store.specs.Nodes.{Rises}
 use Rattle.nk_store.specs.ElseChild.{spans, size_of}
-use Rattle.nk_store.proofs.other.size_among.Given as goal
+use Rattle.nk_store.proofs.else_children.size_among.Given as goal
 
 abbrev pub invariant-loop-end : goal.invariant-loop-end
 invariant-loop-end l = record {

@@ -6,7 +6,7 @@ use Rattle.nk_algebra.specs.Leaves.{guarded}
 use Rattle.nk_algebra.proofs.Built.{Built, built_parts, built_leaf}
 use Rattle.nk_algebra.proofs.Merges.{pair_at, pair_past}
 use Rattle.nk_sets.proofs.Cutting.{cut_push, end_within}
-use Rattle.nk_sets.proofs.cuts.+at_packets.Goals as goal
+use Rattle.nk_sets.proofs.at_sets.+at_packets.Goals as goal
 
 pub cut_parts-returns-then-end-max-clause-parts : goal.cut_parts-returns-then-end-max-clause-parts
 cut_parts-returns-then-end-max-clause-parts t c =

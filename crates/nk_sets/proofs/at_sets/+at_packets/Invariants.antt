@@ -3,7 +3,7 @@ use Rattle.nk_store.specs.Held.{Grows}
 use Rattle.nk_algebra.specs.Leaves.{guarded}
 use Rattle.nk_algebra.proofs.Built.{Built}
 use Rattle.nk_algebra.proofs.Merges.{pair_at}
-use Rattle.nk_sets.proofs.cuts.+at_packets.Given as goal
+use Rattle.nk_sets.proofs.at_sets.+at_packets.Given as goal
 
 abbrev pub decreases-at_packets : goal.decreases-at_packets
 decreases-at_packets l = 3 * (l.s + l.d) + 2

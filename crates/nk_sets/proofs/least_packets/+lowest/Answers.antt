@@ -4,7 +4,7 @@ use Rattle.nk_store.specs.Held.{IsChild}
 use Rattle.nk_sets.specs.PacketSets.{IsLeast}
 use Rattle.nk_store.proofs.Children.{rest_is, item_has}
 use Rattle.nk_sets.proofs.LeastPackets.{Reached, reached_more, reached_all, least_part}
-use Rattle.nk_sets.proofs.lowest.+lowest.Goals as goal
+use Rattle.nk_sets.proofs.least_packets.+lowest.Goals as goal
 
 pub lowest_part-lowest-requires : goal.lowest_part-lowest-requires
 lowest_part-lowest-requires t c =

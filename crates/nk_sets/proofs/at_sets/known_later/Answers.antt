@@ -1,6 +1,6 @@
 use Rattle.nk_algebra.specs.Leaves.{guarded}
 use Rattle.nk_algebra.proofs.Laters as laters
-use Rattle.nk_sets.proofs.cuts.known_later.Goals as goal
+use Rattle.nk_sets.proofs.at_sets.known_later.Goals as goal
 
 pub returns-clause-later : goal.returns-clause-later
 returns-clause-later c = laters.known_later guarded c.args.st.now c.args.s c.args.d c.known.result

@@ -1,7 +1,7 @@
 use Rattle.std.proofs.Common.{◌∙◌, sym, ap, ◌+◌, drop}
 use Rattle.nk_store.specs.ElseChild.{spans, largest}
 use Rattle.nk_store.proofs.Children.{rest_is, larger_step}
-use Rattle.nk_store.proofs.other.else_child.Goals as goal
+use Rattle.nk_store.proofs.else_children.else_child.Goals as goal
 
 pub loop-c-preserved : goal.loop-c-preserved
 loop-c-preserved c =

@@ -1,6 +1,6 @@
 use Rattle.std.proofs.Common.{◌+◌, ◌*◌, drop}
 use Rattle.nk_sets.proofs.LeastPackets.{Reached}
-use Rattle.nk_sets.proofs.lowest.+lowest.Given as goal
+use Rattle.nk_sets.proofs.least_packets.+lowest.Given as goal
 
 abbrev pub decreases-lowest : goal.decreases-lowest
 decreases-lowest l = 2 * l.s + 1
