@@ -31,7 +31,7 @@ ascends maxes low [] a = tt
 ascends maxes low (s ∷ ss) a = (a.0, ascends maxes (s.0 + 1) ss a.3)
 
 -- the outs at each packet are in range
-abbrev AllSuit : List ℕ → (List ℕ → List Out) → Type 0
+abbrev pub AllSuit : List ℕ → (List ℕ → List Out) → Type 0
 AllSuit maxes D = (pk : List ℕ) → Every (Suits maxes) (D pk)
 
 -- an act of the diagram is in range
@@ -41,7 +41,7 @@ out_range maxes D pk g suits c =
     every_has (Suits maxes) (D pk) (record { act = g; target = 0 }) (suits pk) (contains_has (D pk) (record { act = g; target = 0 }) c)
 
 -- what copies make is in range
-steps_range : (maxes : List ℕ) (D : List ℕ → List Out) (n : ℕ) (pk : List ℕ) (g : List (ℕ × ℕ)) → AllSuit maxes D →
+pub steps_range : (maxes : List ℕ) (D : List ℕ → List Out) (n : ℕ) (pk : List ℕ) (g : List (ℕ × ℕ)) → AllSuit maxes D →
     Steps D n pk g → IsActFrom maxes 0 g
 steps_range maxes D zero pk g suits s = subst (IsActFrom maxes 0) (sym s) tt
 steps_range maxes D (suc n) pk g suits s =
@@ -76,7 +76,7 @@ lead_steps maxes D (suc n) pk y suits l =
     (act_then h k, (h, k, before.1, c, refl), r.2.2 ∙ ap (λ z. applied k z) before.2 ∙ sym (steps_applied maxes D n pk h k suits before.1 c))
 
 -- the outs of a diagram in an earlier store suit the highest values
-suits_before : (old st : Held) (d : ℕ) → Grows old st → IsId old d → AreTidy st → AllSuit st.maxes (look old d)
+pub suits_before : (old st : Held) (d : ℕ) → Grows old st → IsId old d → AreTidy st → AllSuit st.maxes (look old d)
 suits_before old st d g id tidy = λ p. subst (Every (Suits st.maxes)) (g.leaves d p id) ((tidy d).suits p)
 
 -- the last round makes of a packet what steps lead to

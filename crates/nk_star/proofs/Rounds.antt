@@ -7,7 +7,7 @@ use Rattle.nk_store.specs.declared.node.Out.{Out}
 use Rattle.nk_store.specs.declared.node.Node.{Node}
 use Rattle.nk_store.specs.declared.node.Node.TheVariants.{Leaf, Case}
 use Rattle.nk_store.specs.Leaves.{Every, Strict}
-use Rattle.nk_store.specs.Held.{Held, IsId, IsWhole, look, top, Grows, HasLeaves, IsTidy, IsNodeOf, IsStill, IsReduced, Agree}
+use Rattle.nk_store.specs.Held.{Held, IsId, IsWhole, look, top, Grows, HasLeaves, IsNodeOf, IsStill, IsReduced}
 use Rattle.nk_algebra.specs.Leaves.{merged}
 use Rattle.nk_algebra.specs.Seqs.{no_out, out_after, prefixed, seq_leaf}
 use Rattle.nk_algebra.specs.Predicates.{IsPass, Ends}
@@ -17,7 +17,7 @@ use Rattle.nk_algebra.proofs.Predicates.{whole_applied, pass_seq, ends_merged, e
 use Rattle.nk_star.specs.Steps.{Steps, rounds, IsLastRound}
 use Rattle.nk_store.specs.Operations.{has_out, lacking}
 use Rattle.nk_star.proofs.Lacks.{found_has, lacking_has, has_lacking}
-use Rattle.nk_star.proofs.Room.{room, leaf_room}
+use Rattle.nk_star.proofs.Room.{room}
 
 -- the next round's leaf
 abbrev pub next_round : (List ℕ → List Out) → List ℕ → List Out → List Out
@@ -43,7 +43,7 @@ rounds_end D (suc n) pk z w =
     ends_merged (rounds D n pk) (seq_leaf (rounds D n pk) D pk) (rounds_end D n pk z w) (ends_seq (rounds D n pk) D pk w z)
 
 -- what a sequence makes ascends
-seq_strict : (os : List Out) (B : List ℕ → List Out) (pk : List ℕ) → Strict (seq_leaf os B pk)
+pub seq_strict : (os : List Out) (B : List ℕ → List Out) (pk : List ℕ) → Strict (seq_leaf os B pk)
 seq_strict os B pk = subst Strict (sym (seq_leaf_is os B pk)) (gathered_strict (λ o. prefixed o.act (B (applied o.act pk))) os (λ o. prefixed_strict o.act (B (applied o.act pk))))
 
 -- each round ascends
@@ -106,7 +106,7 @@ made_by : (D : List ℕ → List Out) (pk : List ℕ) (o p q : Out) (xs : List O
 made_by D pk o p q xs h k is = subst (Has (seq_leaf xs D pk)) is (seq_leaf_has xs D pk p q h k)
 
 -- the outs that a round added are enough to make the next one: L is the round before, N the round, M what was put to L
-fresh_enough : (D : List ℕ → List Out) (pk : List ℕ) (L M N : List Out) → Strict N → merged L (seq_leaf L D pk) ≡ N →
+pub fresh_enough : (D : List ℕ → List Out) (pk : List ℕ) (L M N : List Out) → Strict N → merged L (seq_leaf L D pk) ≡ N →
     merged L M ≡ N → merged N (seq_leaf (lacking M L) D pk) ≡ merged N (seq_leaf N D pk)
 fresh_enough D pk L M N s round e =
     strict_same (merged N (seq_leaf (lacking M L) D pk)) (merged N (seq_leaf N D pk)) (merged_strict N (seq_leaf (lacking M L) D pk) s (seq_strict (lacking M L) D pk)) (merged_strict N (seq_leaf N D pk) s (seq_strict N D pk)) to back
@@ -141,70 +141,9 @@ fresh_enough D pk L M N s round e =
           ]
     ]
 
--- the next round in the store
-pub next_has : (old s0 s1 s2 : Held) (d all fresh more next n : ℕ) → Grows old s0 → IsId old d → Grows s0 s1 →
-    HasLeaves s0 all (λ pk. rounds (look old d) n pk) → IsFresh s0 fresh (look old d) n →
-    HasLeaves s1 more (λ pk. seq_leaf (look s0 fresh pk) (look s0 d) pk) →
-    HasLeaves s2 next (λ pk. merged (look s1 all pk) (look s1 more pk)) →
-    HasLeaves s2 next (λ pk. rounds (look old d) (suc n) pk)
-next_has old s0 s1 s2 d all fresh more next n g id h ga gf gm gn = record {
-  id = gn.id;
-  leaf = λ pk w.
-      let D = look old d in
-      let same_d : look s0 d ≡ D = λ i p. g.leaves d p id i in
-      let is_all : look s1 all pk ≡ rounds D n pk = h.leaves all pk ga.id ∙ ga.leaf pk w in
-      let is_more : look s1 more pk ≡ seq_leaf (look s0 fresh pk) D pk = gm.leaf pk w ∙ ap (λ B. seq_leaf (look s0 fresh pk) B pk) same_d in
-      gn.leaf pk w ∙ ap (λ x. merged x (look s1 more pk)) is_all ∙ ap (λ y. merged (rounds D n pk) y) is_more ∙ gf.enough pk w;
-}
-
--- the outs that it added
-pub next_fresh : (old s0 s1 s2 s3 : Held) (d all fresh more new n : ℕ) → Grows old s0 → IsId old d → Grows s0 s1 →
-    Grows s1 s2 → HasLeaves s0 all (λ pk. rounds (look old d) n pk) → IsFresh s0 fresh (look old d) n →
-    HasLeaves s1 more (λ pk. seq_leaf (look s0 fresh pk) (look s0 d) pk) →
-    HasLeaves s3 new (λ pk. lacking (look s2 more pk) (look s2 all pk)) → IsFresh s3 new (look old d) (suc n)
-next_fresh old s0 s1 s2 s3 d all fresh more new n g id h k ga gf gm gn = record {
-  id = gn.id;
-  enough = λ pk w.
-      let D = look old d in
-      let same_d : look s0 d ≡ D = λ i p. g.leaves d p id i in
-      let M = seq_leaf (look s0 fresh pk) D pk in
-      let is_all : look s2 all pk ≡ rounds D n pk = k.leaves all pk (h.ids all ga.id) ∙ h.leaves all pk ga.id ∙ ga.leaf pk w in
-      let is_more : look s2 more pk ≡ M = k.leaves more pk gm.id ∙ gm.leaf pk w ∙ ap (λ B. seq_leaf (look s0 fresh pk) B pk) same_d in
-      let is_new : look s3 new pk ≡ lacking M (rounds D n pk) = gn.leaf pk w ∙ ap (λ x. lacking x (look s2 all pk)) is_more ∙ ap (λ y. lacking M y) is_all in
-      ap (λ x. merged (rounds D (suc n) pk) (seq_leaf x D pk)) is_new ∙ fresh_enough D pk (rounds D n pk) M (rounds D (suc n) pk) (rounds_strict D (suc n) pk) refl (gf.enough pk w);
-}
-
--- where a further round adds something, there were fewer rounds than acts
-pub round_below : (st : Held) (D : List ℕ → List Out) (n next all : ℕ) → Ends D → IsTidy st all →
-    HasLeaves st all (λ pk. rounds D n pk) → HasLeaves st next (λ pk. rounds D (suc n) pk) → (Agree st next all → ⊥) →
-    n < room st.maxes
-round_below st D n next all z tidy ga gn other = elim (leb_tells (room st.maxes) n) [
-  | inr less ↦ less.1
-  | inl full ↦ absurd (other (λ pk r. gn.leaf pk r.0 ∙ still pk r.0 full.1 ∙ sym (ga.leaf pk r.0)))
-]
-  where
-    still : (pk : List ℕ) → IsWhole pk → room st.maxes ≤ n → rounds D (suc n) pk ≡ rounds D n pk
-    still pk w full = elim (climbs D pk n) [
-      | inr same ↦ same
-      | inl less ↦
-          let is : rounds D n pk ≡ look st all pk = sym (ga.leaf pk w) in
-          let fits : length (look st all pk) ≤ room st.maxes = leaf_room st.maxes (look st all pk) (tidy.sorted pk) (tidy.suits pk) (subst (Every (λ o. o.target ≡ 0)) is (rounds_end D n pk z w)) in
-          let long : n < length (look st all pk) = subst (λ xs. n < length xs) is less in
-          absurd (omega (arith, fits, long, full))
-    ]
-
 -- leaves stay in a store that grew
 pub leaves_on : (old new : Held) (d : ℕ) (F : List ℕ → List Out) → Grows old new → HasLeaves old d F → HasLeaves new d F
 leaves_on old new d F g k = record { id = g.ids d k.id; leaf = λ pk w. g.leaves d pk k.id ∙ k.leaf pk w }
-
--- where the next round has the number of the one before, it is the last one
-pub last_at : (st : Held) (D : List ℕ → List Out) (n next all : ℕ) → HasLeaves st all (λ pk. rounds D n pk) →
-    HasLeaves st next (λ pk. rounds D (suc n) pk) → next ≡ all → IsLastRound st all D
-last_at st D n next all ga gn e = record {
-  count = n;
-  leaves = ga;
-  still = λ pk w. sym (gn.leaf pk w) ∙ ap (λ k. look st k pk) e ∙ ga.leaf pk w;
-}
 
 -- the measure falls
 pub room_falls : (st new : Held) (n m : ℕ) → new.maxes ≡ st.maxes → m ≡ n + 1 → n < room new.maxes →

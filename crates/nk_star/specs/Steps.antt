@@ -1,9 +1,10 @@
 -- Copies of a diagram, one after another: the star of NetKAT (Anderson et al., POPL 2014) on leaves.
-use Rattle.std.specs.Prelude.{◌≡◌, ℕ, zero, suc, List, [], ◌∷◌, Contains}
+use Rattle.std.specs.Prelude.{◌≡◌, ℕ, zero, suc, List, [], ◌∷◌, length, Contains}
 use Rattle.nk_field.specs.Act.{applied, act_then}
 use Rattle.nk_store.specs.declared.node.Out.{Out}
 use Rattle.nk_store.specs.Held.{Held, IsWhole, HasLeaves}
 use Rattle.nk_algebra.specs.Leaves.{merged}
+use Rattle.nk_algebra.specs.Unions.{AreIds, unions}
 use Rattle.nk_algebra.specs.Seqs.{no_out, seq_leaf}
 
 -- n copies of the diagram, one after another, can make the act g at the packet; the last copy stands apart
@@ -21,3 +22,8 @@ pub record IsLastRound (st : Held) (r : ℕ) (D : List ℕ → List Out) : Type 
   pub count : ℕ
   pub leaves : HasLeaves st r (λ pk. rounds D count pk)
   pub still : (pk : List ℕ) → IsWhole pk → rounds D (suc count) pk ≡ rounds D count pk
+
+-- these diagrams have all together the leaf F at each packet
+pub record AreTogether (st : Held) (ds : List ℕ) (F : List ℕ → List Out) : Type 0 where
+  pub ids : AreIds st ds
+  pub leaf : (pk : List ℕ) → IsWhole pk → unions st ds 0 (length ds) pk ≡ F pk

@@ -1,13 +1,16 @@
 //! The star of a diagram.
-ghost use Rattle.std.specs.Prelude.{◌≡◌, ℕ, ◌≤◌, ◌↔◌, [], ◌∷◌, IfOk, List as Items, Contains};
+ghost use Rattle.std.specs.Prelude.{◌≡◌, ℕ, ◌≤◌, ◌↔◌, [], ◌∷◌, IfOk, List as Items, length, Contains};
 ghost use Rattle.nk_store.specs.Held.{IsId, IsWhole, IsPacket, look, top, Grows, HasLeaves};
+ghost use Rattle.nk_store.specs.Operations.{lacking};
+ghost use Rattle.nk_algebra.specs.Leaves.{merged};
 ghost use Rattle.nk_algebra.specs.Seqs.{no_out};
+ghost use Rattle.nk_algebra.specs.Unions.{AreIds, unions};
 ghost use Rattle.nk_algebra.specs.Predicates.{IsPredicate, Ends};
-ghost use Rattle.nk_star.specs.Steps.{Steps, IsLastRound};
+ghost use Rattle.nk_star.specs.Steps.{Steps, IsLastRound, AreTogether};
 ghost use Rattle.nk_star.specs.Leading.{Makes, Leads};
 
 use crate::differences::missing;
-use nk_algebra::{identity, seq, union};
+use nk_algebra::{empty, identity, seq, union, union_all};
 use nk_field::List;
 use nk_store::{Id, Store};
 use std::alloc::AllocError;
@@ -33,28 +36,69 @@ pub fn star(st: &mut Store, d: Id) -> Result<Id, AllocError>
 }
 
 /// Rounds of one copy more, until one adds nothing. Only the outs that the last round added are followed by a copy,
-/// since what the earlier ones lead to is there.
+/// since what the earlier ones lead to is there. What the rounds added is kept in a few diagrams, which are put together
+/// at the end: so an out is copied once for each time that the number of rounds doubles, and not once for each round.
 fn last_round(st: &mut Store, d: Id) -> Result<Id, AllocError>
     requires id { IsId st.old d }
     requires ends { Ends (look st.old d) }
     ensures grows { Grows st.old st.new }
     ensures ok { IfOk result (λ r. IsLastRound st.new r (look st.old d)) }
 {
-    let mut all = identity(st)?;
-    let mut fresh = all;
+    let nothing = empty(st)?;
+    let mut fresh = identity(st)?;
+    let mut all = List::new(st.alloc());
+    all.push(fresh)?;
     // One item for each round: their number has no bound that a machine number holds.
     let mut rounds = List::new(st.alloc());
     loop {
         let more = seq(st, fresh, d)?;
-        let next = union(st, all, more)?;
+        let new = missing_all(st, more, all.as_slice())?;
         st.laws();
-        if st.same(next, all) {
-            return Ok(all);
+        if st.same(new, nothing) {
+            let last = union_all(st, all.as_slice())?;
+            return Ok(last);
         }
-        fresh = missing(st, more, all)?;
-        rounds.push(all)?;
+        rounds.push(new)?;
+        let next = put_to(st, all.as_slice(), new, rounds.len())?;
         all = next;
+        fresh = new;
     }
+}
+
+/// The outs of a diagram that all of these lack.
+fn missing_all(st: &mut Store, d: Id, all: &[Id]) -> Result<Id, AllocError>
+    requires id { IsId st.old d }
+    requires ids { AreIds st.old all.now }
+    ensures grows { Grows st.old st.new }
+    ensures ok { IfOk result (λ r. HasLeaves st.new r (λ pk. lacking (look st.old d pk) (unions st.old all.now 0 (length all.now) pk))) }
+{
+    st.laws();
+    let mut rest = d;
+    for k in 0..all.len() {
+        let one = all[k];
+        let less = missing(st, rest, one)?;
+        rest = less;
+    }
+    Ok(rest)
+}
+
+/// These diagrams and one more, the last of them put together: after n rounds there are the first one and one for each
+/// bit of n that is set.
+fn put_to(st: &mut Store, all: &[Id], new: Id, n: usize) -> Result<List<Id>, AllocError>
+    requires ids { AreIds st.old all.now }
+    requires id { IsId st.old new }
+    ensures grows { Grows st.old st.new }
+    ensures ok { IfOk result (λ r. AreTogether st.new r (λ pk. merged (unions st.old all.now 0 (length all.now) pk) (look st.old new pk))) }
+{
+    let kept = (n.count_ones() as usize).min(all.len());
+    let (first, behind) = all.split_at(kept);
+    st.laws();
+    let some = union_all(st, behind)?;
+    let last = union(st, some, new)?;
+    st.laws();
+    let mut next = List::from_vec(Vec::from_slice(st.alloc(), first)?);
+    next.push(last)?;
+    Ok(next)
 }
 
 /// What a diagram makes of a packet of the fields is one of the fields too; it does nothing.
