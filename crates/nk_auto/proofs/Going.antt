@@ -63,17 +63,17 @@ through st new d k r p tidy g a ik none h = record {
 }
 
 -- a member behind a guard is one behind a predicate that passes
-guard_has : (os ks : List Out) (o : Out) → IsPass os → Has (guarded os ks) o → Has os no_out × Has ks o
+pub guard_has : (os ks : List Out) (o : Out) → IsPass os → Has (guarded os ks) o → Has os no_out × Has ks o
 guard_has [] ks o p h = absurd h
 guard_has (x ∷ xs) ks o p h = (inl p.0, h)
 
 -- and a member behind a predicate that passes is one behind the guard
-has_guard : (os ks : List Out) (x o : Out) → Has os x → Has ks o → Has (guarded os ks) o
+pub has_guard : (os ks : List Out) (x o : Out) → Has os x → Has ks o → Has (guarded os ks) o
 has_guard [] ks x o h k = absurd h
 has_guard (z ∷ zs) ks x o h k = k
 
 -- it is the out that keeps the packet
-guard_is : (os : List Out) (x : Out) → IsPass os → Has os x → x ≡ no_out
+pub guard_is : (os : List Out) (x : Out) → IsPass os → Has os x → x ≡ no_out
 guard_is [] x p h = absurd h
 guard_is (z ∷ zs) x p h = ⊎_elim (λ e. sym e ∙ p.0) (λ r. absurd (subst (λ l. Has l x) p.1 r)) h
 

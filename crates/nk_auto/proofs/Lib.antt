@@ -7,6 +7,7 @@ pub mod Silences
 pub mod Going
 pub mod Sums
 pub mod Writing
+pub mod Guarding
 pub mod Stating
 pub mod Parts
 pub mod OfParts

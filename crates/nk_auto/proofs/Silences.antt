@@ -33,10 +33,6 @@ fit_before old new p g fit = subst (λ m. IsFit m p) g.maxes fit
 pub packet_before : (old new : Held) (pk : List ℕ) → Grows old new → IsPacket new pk → IsPacket old pk
 packet_before old new pk g r = subst (λ m. InRange m pk) g.maxes r
 
--- a packet of an earlier store is one of the later
-pub packet_on : (old new : Held) (pk : List ℕ) → Grows old new → IsPacket old pk → IsPacket new pk
-packet_on old new pk g r = subst (λ m. InRange m pk) (sym g.maxes) r
-
 -- what is silent stays so in a store that grew
 pub silent_grow : (old new : Held) (d : ℕ) (p : Policy) → Grows old new → IsSilent old d p → IsSilent new d p
 silent_grow old new d p g h = record {

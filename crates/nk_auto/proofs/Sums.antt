@@ -24,10 +24,6 @@ pub record AreOf (P : Held → ℕ → Policy → Type 0) (st : Held) (ids : Lis
   pub from : (d : ℕ) → Has ids d → (p : Policy) × In ps p × P st d p
   pub to : (p : Policy) → In ps p → (d : ℕ) × Has ids d × P st d p
 
--- none for none
-pub none_of : (P : Held → ℕ → Policy → Type 0) (st : Held) → AreOf P st [] no_part
-none_of P st = record { from = λ d h. absurd h; to = λ p h. absurd h }
-
 -- a member stays where one more is put at the end
 has_before : (ids : List ℕ) (d e : ℕ) → Has ids e → Has (ids ++ d ∷ []) e
 has_before [] d e h = absurd h

@@ -7,8 +7,8 @@ use Rattle.std.proofs.lemmas.Bool.Decides.{leb_tells}
 use Rattle.std.proofs.lemmas.List.{take_more}
 use Rattle.std.proofs.lemmas.List.Folds.{list_any-append}
 use Rattle.std.proofs.lemmas.List.Sorted.{list_any-IsPermutation}
-use Rattle.nk_policy.specs.Policy.{Policy, Policies, test, range, sum_of, part}
-use Rattle.nk_policy.proofs.Tests.{false_true, false_where, or_left, or_right, or_cases, both_true, both_pass, at_most_test, at_most_from}
+use Rattle.nk_policy.specs.Policy.{Policy, Policies, sum_of, part}
+use Rattle.nk_policy.proofs.Tests.{false_where, or_left, or_right, or_cases, both_true, both_pass, at_most_test, at_most_from}
 use Rattle.nk_store.specs.declared.node.Out.{Out}
 use Rattle.nk_store.specs.Nodes.{child_at, InRange}
 use Rattle.nk_store.specs.Held.{Held, IsWhole, look, Grows, HasLeaves, IsChild}
@@ -57,44 +57,6 @@ other_value : (vs : List (ℕ × ℕ)) (x : ℕ × ℕ) (v : ℕ) → is_between
     list_any (is_between v) (vs ++ x ∷ []) ≡ list_any (is_between v) vs
 other_value vs x v e =
     list_any-append (is_between v) vs (x ∷ []) ∙ ap (λ b. list_any (is_between v) vs || (b || false)) e ∙ or_none (list_any (is_between v) vs)
-
--- a test keeps the packets with its value
-pub test_keeps : (f n : ℕ) → KeepsWhere f ((n, n) ∷ []) (test f n)
-test_keeps f n pk y = (
-  λ g.
-      let v = slice_index pk f in
-      let h : is_between v (n, n) ≡ true = between v n n (omega (arith, g.0)) (omega (arith, g.0)) in
-      (or_left (is_between v (n, n)) false h, g.2),
-  λ c.
-      let v = slice_index pk f in
-      let e = elim (or_cases (is_between v (n, n)) false c.0) as (λ _. (n ≤ v) × (v ≤ n)) [
-        | inl h ↦ ends_hold v (n, n) h
-        | inr h ↦ absurd (false_true h)
-      ] in
-      (omega (arith, e.0, e.1), refl, c.1),
-)
-
--- a range keeps those with its values
-pub range_keeps : (f lo hi : ℕ) → KeepsWhere f ((lo, hi) ∷ []) (range f lo hi)
-range_keeps f lo hi pk y = (
-  λ g. let v = slice_index pk f in (or_left (is_between v (lo, hi)) false (between v lo hi g.0 g.1), g.3),
-  λ c.
-      let v = slice_index pk f in
-      let e = elim (or_cases (is_between v (lo, hi)) false c.0) as (λ _. (lo ≤ v) × (v ≤ hi)) [
-        | inl h ↦ ends_hold v (lo, hi) h
-        | inr h ↦ absurd (false_true h)
-      ] in
-      (e.0, e.1, refl, c.1),
-)
-
--- an interval put at the end is one more
-pub put_more : (old new : List (ℕ × ℕ)) (x : ℕ × ℕ) → new ≡ old ++ x ∷ [] → HaveOneMore old new x
-put_more old new x e v = ap (list_any (is_between v)) e
-
--- one without a value may be left out
-pub none_more : (old : List (ℕ × ℕ)) (x : ℕ × ℕ) → x.1 < x.0 → HaveOneMore old old x
-none_more old x l v =
-    sym (other_value old x v (false_where (is_between v x) (λ h. let e = ends_hold v x h in let a = e.0 in let b = e.1 in omega (arith, a, b, l))))
 
 -- one part more
 pub keeps_more : (f : ℕ) (x : ℕ × ℕ) (values more : List (ℕ × ℕ)) (p : Policy) (ps : Policies) → HaveOneMore values more x →

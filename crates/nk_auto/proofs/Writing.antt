@@ -28,6 +28,10 @@ none_written : (st : Held) (states : List ℕ) (base : ℕ) (p : Policy) (k : �
 none_written st states base p k none =
     record { count = refl; states = λ fit l from place has. absurd (none fit l has); others = λ l from has. refl }
 
+-- no part has none
+pub unit_written : (st : Held) (states : List ℕ) (base k : ℕ) → AreWritten st states states base (seq_of no_part) k
+unit_written st states base k = none_written st states base (seq_of no_part) k (λ fit l has. false_true has)
+
 pub test_written : (st : Held) (states : List ℕ) (base f n k : ℕ) → AreWritten st states states base (test f n) k
 test_written st states base f n k = none_written st states base (test f n) k (λ fit l has. false_true has)
 
@@ -46,7 +50,7 @@ predicate_written st states base p k h = none_written st states base p k (λ fit
 
 -- a policy of which no dup is counted holds none
 mutual
-  no_dup : (p : Policy) (l : ℕ) → dups_of p ≡ 0 → has_dup p l ≡ false
+  pub no_dup : (p : Policy) (l : ℕ) → dups_of p ≡ 0 → has_dup p l ≡ false
   no_dup (test f n) l none = refl
   no_dup (range f lo hi) l none = refl
   no_dup (assign f n) l none = refl

@@ -1,6 +1,7 @@
 pub mod Plain
 pub mod Complements
 pub mod Continued
+pub mod Guarded
 pub mod Automaton
 pub mod OfParts
 pub mod Values

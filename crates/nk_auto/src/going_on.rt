@@ -1,16 +1,19 @@
 //! What a policy does up to its first record, continued by a diagram.
 ghost use Rattle.std.specs.Prelude.{◌≡◌, ℕ, ◌+◌, ◌∷◌, [], true, IfOk};
-ghost use Rattle.nk_policy.specs.Policy.{test, range, assign, sum_of, seq_of, not_of, star_of, link, dup, part, no_part, is_predicate as is_predicate_tree};
+ghost use Rattle.nk_policy.specs.Policy.{Policies, test, range, assign, sum_of, seq_of, not_of, star_of, link, dup, part, no_part, is_predicate as is_predicate_tree};
 ghost use Rattle.nk_policy.specs.Tree.{tree_of, trees_of};
 ghost use Rattle.nk_store.specs.Held.{IsId, Grows, HasLeaves};
 ghost use Rattle.nk_auto.specs.Continued.{IsContinued};
+ghost use Rattle.nk_auto.specs.Guarded.{IsGuarded};
 
+use crate::guards::{Behind, guard_of, guarded_by, put_together, unguarded};
 use crate::silence::{
     silent_not, silent_predicate, silent_range, silent_set, silent_star, silent_test,
 };
-use nk_algebra::{aim, both, empty, identity, seq, union, union_all};
+use nk_algebra::{aim, empty, identity, seq, union, union_all};
 use nk_field::{Fid, List};
 use nk_policy::{Pol, is_predicate};
+use nk_sets::at_packets;
 use nk_store::{Id, Store};
 use std::alloc::AllocError;
 
@@ -47,7 +50,7 @@ pub fn after_test(st: &mut Store, f: Fid, n: u64, next: Id) -> Result<Id, AllocE
     ensures ok { IfOk result (λ d. IsContinued st.new d (test f n) next) }
 {
     let d = silent_test(st, f, n)?;
-    let r = both(st, d, next)?;
+    let r = at_packets(st, d, next)?;
     Ok(r)
 }
 
@@ -58,7 +61,7 @@ pub fn after_range(st: &mut Store, f: Fid, ends: (u64, u64), next: Id) -> Result
     ensures ok { IfOk result (λ d. IsContinued st.new d (range f ends.0 ends.1) next) }
 {
     let d = silent_range(st, f, ends.0, ends.1)?;
-    let r = both(st, d, next)?;
+    let r = at_packets(st, d, next)?;
     Ok(r)
 }
 
@@ -81,7 +84,7 @@ pub fn after_not(st: &mut Store, q: &Pol, next: Id) -> Result<Id, AllocError>
     ensures ok { IfOk result (λ d. IsContinued st.new d (not_of (tree_of q.now)) next) }
 {
     let d = silent_not(st, q)?;
-    let r = both(st, d, next)?;
+    let r = at_packets(st, d, next)?;
     Ok(r)
 }
 
@@ -103,7 +106,7 @@ pub fn after_predicate(st: &mut Store, p: &Pol, next: Id) -> Result<Id, AllocErr
     ensures ok { IfOk result (λ d. IsContinued st.new d (tree_of p.now) next) }
 {
     let d = silent_predicate(st, p)?;
-    let r = both(st, d, next)?;
+    let r = at_packets(st, d, next)?;
     Ok(r)
 }
 
@@ -143,20 +146,37 @@ fn continued_any(st: &mut Store, ps: &[Pol], next: Id) -> Result<Id, AllocError>
     union_all(st, ids.as_slice())
 }
 
-/// A sequence, each part continued by the parts behind it.
+/// A sequence, each part continued by the parts behind it. Predicates side by side are one guard.
 #[cycle(continued)]
 fn continued_all(st: &mut Store, ps: &[Pol], next: Id) -> Result<Id, AllocError>
     requires { IsId st.old next }
     ensures grows { Grows st.old st.new }
     ensures ok { IfOk result (λ d. IsContinued st.new d (seq_of (trees_of ps.now)) next) }
 {
-    let mut rest = next;
+    let mut behind = unguarded(st, next)?;
     let mut i = ps.len();
     while i > 0 {
         i -= 1;
-        rest = continued(st, &ps[i], rest)?;
+        behind = with_part(st, &ps[i], behind)?;
     }
-    Ok(rest)
+    put_together(st, behind)
+}
+
+/// One more part before what a sequence does from a place on.
+#[cycle(continued)]
+fn with_part(st: &mut Store, p: &Pol, behind: Behind) -> Result<Behind, AllocError>
+    requires guard { IsId st.old behind.guard }
+    requires rest { IsId st.old behind.rest }
+    ensures grows { Grows st.old st.new }
+    ensures ok { IfOk result (λ b. (ps : Policies) (k : ℕ) → IsGuarded st.old behind.guard behind.rest (seq_of ps) k →
+        IsGuarded st.new b.guard b.rest (seq_of (part (tree_of p.now) ps)) k) }
+{
+    if let Some(d) = guard_of(st, p)? {
+        return guarded_by(st, d, behind);
+    }
+    let next = put_together(st, behind)?;
+    let rest = continued(st, p, next)?;
+    unguarded(st, rest)
 }
 
 /// A star: rounds without a record, then the diagram or a round that records.

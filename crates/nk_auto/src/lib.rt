@@ -4,6 +4,7 @@
 
 mod by_parts;
 mod going_on;
+mod guards;
 mod one_field;
 mod silence;
 mod states;

@@ -1,14 +1,16 @@
 //! The states of a policy's dups: what is left after each of them, continued by a diagram.
-ghost use Rattle.std.specs.Prelude.{◌≡◌, ℕ, ◌+◌, ◌-◌, ◌<◌, ◌≤◌, ◌∷◌, [], IfOk, OnOk, length, slice_set};
-ghost use Rattle.nk_policy.specs.Policy.{sum_of, seq_of, star_of, dup, link};
+ghost use Rattle.std.specs.Prelude.{◌≡◌, ℕ, ◌+◌, ◌-◌, ◌<◌, ◌≤◌, ◌∷◌, [], List as Items, IfOk, OnOk, length, slice_set};
+ghost use Rattle.nk_policy.specs.Policy.{Policies, sum_of, seq_of, star_of, dup, link, part};
 ghost use Rattle.nk_policy.specs.Tree.{tree_of, trees_of};
 ghost use Rattle.nk_store.specs.Held.{IsId, Grows};
 ghost use Rattle.nk_auto.specs.Continued.{IsContinued, AreWritten, IsPut};
+ghost use Rattle.nk_auto.specs.Guarded.{IsGuarded};
 
 use crate::going_on::{
     after_not, after_predicate, after_range, after_set, after_test, before_dup, continued_star,
     is_predicate_sum, link_rest, link_start,
 };
+use crate::guards::{Behind, guard_of, guarded_by, put_together, unguarded};
 use nk_algebra::union_all;
 use nk_field::List;
 use nk_policy::{Pol, dups};
@@ -150,16 +152,39 @@ fn write_all(
     ensures grows { Grows st.old st.new }
     ensures written { OnOk result (AreWritten st.new states.old states.new base (seq_of (trees_of ps.now)) next) }
 {
-    let mut behind = next;
+    let mut later = unguarded(st, next)?;
     let mut i = ps.len();
     while i > 1 {
         i -= 1;
-        behind = continued_with_states(st, &ps[i], behind, base, states)?;
+        later = part_with_states(st, &ps[i], later, base, states)?;
     }
     if i == 1 {
-        return write_states(st, &ps[0], behind, base, states);
+        return write_first(st, &ps[0], later, base, states);
     }
     Ok(())
+}
+
+/// The states of the first part's dups alone. What is behind it isn't put together where it has no dup.
+#[cycle(with_states)]
+fn write_first(
+    st: &mut Store,
+    p: &Pol,
+    behind: Behind,
+    base: u32,
+    states: &mut List<Id>,
+) -> Result<(), AllocError>
+    requires guard { IsId st.old behind.guard }
+    requires rest { IsId st.old behind.rest }
+    ensures grows { Grows st.old st.new }
+    ensures written { OnOk result ((before : Items ℕ) (ps : Policies) (k : ℕ) →
+        IsGuarded st.old behind.guard behind.rest (seq_of ps) k → AreWritten st.old before states.old base (seq_of ps) k →
+        AreWritten st.new before states.new base (seq_of (part (tree_of p.now) ps)) k) }
+{
+    if dups(p) == 0 {
+        return Ok(());
+    }
+    let next = put_together(st, behind)?;
+    write_states(st, p, next, base, states)
 }
 
 /// A dup: behind it the diagram is left.
@@ -242,7 +267,7 @@ fn any_with_states(
     union_all(st, ids.as_slice())
 }
 
-/// The parts of a sequence, each continued by the parts behind it.
+/// The parts of a sequence, each continued by the parts behind it. Predicates side by side are one guard.
 #[cycle(with_states)]
 fn all_with_states(
     st: &mut Store,
@@ -256,11 +281,37 @@ fn all_with_states(
     ensures ok { IfOk result (λ d. IsContinued st.new d (seq_of (trees_of ps.now)) next) }
     ensures written { OnOk result (AreWritten st.new states.old states.new base (seq_of (trees_of ps.now)) next) }
 {
-    let mut rest = next;
+    let mut behind = unguarded(st, next)?;
     let mut i = ps.len();
     while i > 0 {
         i -= 1;
-        rest = continued_with_states(st, &ps[i], rest, base, states)?;
+        behind = part_with_states(st, &ps[i], behind, base, states)?;
     }
-    Ok(rest)
+    put_together(st, behind)
+}
+
+/// One more part before what a sequence does from a place on, and the states of its dups.
+#[cycle(with_states)]
+fn part_with_states(
+    st: &mut Store,
+    p: &Pol,
+    behind: Behind,
+    base: u32,
+    states: &mut List<Id>,
+) -> Result<Behind, AllocError>
+    requires guard { IsId st.old behind.guard }
+    requires rest { IsId st.old behind.rest }
+    ensures grows { Grows st.old st.new }
+    ensures ok { IfOk result (λ b. (ps : Policies) (k : ℕ) → IsGuarded st.old behind.guard behind.rest (seq_of ps) k →
+        IsGuarded st.new b.guard b.rest (seq_of (part (tree_of p.now) ps)) k) }
+    ensures written { OnOk result ((before : Items ℕ) (ps : Policies) (k : ℕ) →
+        IsGuarded st.old behind.guard behind.rest (seq_of ps) k → AreWritten st.old before states.old base (seq_of ps) k →
+        AreWritten st.new before states.new base (seq_of (part (tree_of p.now) ps)) k) }
+{
+    if let Some(d) = guard_of(st, p)? {
+        return guarded_by(st, d, behind);
+    }
+    let next = put_together(st, behind)?;
+    let rest = continued_with_states(st, p, next, base, states)?;
+    unguarded(st, rest)
 }

@@ -1,13 +1,18 @@
-use Rattle.std.proofs.Common.{◌≡◌, arith, sym, subst, drop}
+use Rattle.std.proofs.Common.{◌≡◌, ℕ, Option, arith, sym, subst, length, drop}
+use Rattle.std.specs.Prelude.{IfSome}
+use Rattle.std.proofs.lemmas.List.{drop_all}
 use Rattle.std.proofs.lemmas.Result.{IfOk-weaker}
-use Rattle.nk_policy.specs.Policy.{seq_of}
+use Rattle.nk_policy.specs.Policy.{seq_of, no_part, part}
 use Rattle.nk_policy.specs.Tree.{tree_of, trees_of}
 use Rattle.nk_store.specs.Held.{IsId}
 use Rattle.nk_store.proofs.Stores.{grows_on}
-use Rattle.nk_auto.specs.Continued.{IsContinued}
+use Rattle.nk_algebra.specs.Predicates.{IsPredicate}
+use Rattle.nk_auto.specs.Continued.{IsSilent, IsContinued}
+use Rattle.nk_auto.specs.Guarded.{NeverRecords, IsGuarded}
 use Rattle.nk_auto.proofs.Grown.{leaves_grow}
 use Rattle.nk_auto.proofs.Parts.{trees_before}
-use Rattle.nk_auto.proofs.Going.{continued_grow, cons_continued, star_continued}
+use Rattle.nk_auto.proofs.Going.{continued_grow, unit_continued, cons_continued, star_continued}
+use Rattle.nk_auto.proofs.Guarding.{guarded_grow}
 use Rattle.nk_auto.proofs.Sums.{AreOf, IsOnward, one_more_of, ids_of, sum_continued}
 use Rattle.nk_auto.proofs.going_on.+continued.Goals as goal
 
@@ -32,15 +37,50 @@ continued_any-returns-clause-ok t c =
     (λ r united. sum_continued c.loop-i.st c.union_all.new.st c.loop-i.ids c.as_slice.result.now (trees_of c.args.ps.now) c.args.next r c.as_slice.ensures c.union_all.ensures.grows next_id made united)
     c.union_all.ensures.ok
 
+pub with_part-returns-in-Some-clause-ok : goal.with_part-returns-in-Some-clause-ok
+with_part-returns-in-Some-clause-ok t c =
+    let p = tree_of c.args.p.now in
+    let made = subst (λ (o : Option ℕ). IfSome o (λ d. IsSilent c.guard_of.new.st d p)) c.in-Some.is c.in_ok-d.ensures.ok in
+    let predicate = subst (λ (o : Option ℕ). IfSome o (λ d. IsPredicate c.guard_of.new.st d)) c.in-Some.is c.in_ok-d.ensures.predicate in
+    let guards = subst (λ (o : Option ℕ). IfSome o (λ d. NeverRecords p)) c.in-Some.is c.in_ok-d.ensures.guard in
+    IfOk-weaker c.guarded_by.result _ _
+    (λ b h ps k behind. h p ps k guards made predicate (guarded_grow c.args.st.now c.guard_of.new.st c.args.behind.guard c.args.behind.rest k (seq_of ps) c.guard_of.ensures.grows behind))
+    c.guarded_by.ensures.ok
+
+pub with_part-returns-clause-ok : goal.with_part-returns-clause-ok
+with_part-returns-clause-ok t c =
+    let p = tree_of c.args.p.now in
+    IfOk-weaker c.unguarded.result _ _
+    (λ b h ps k behind.
+    let here = guarded_grow c.args.st.now c.guard_of.new.st c.args.behind.guard c.args.behind.rest k (seq_of ps) c.guard_of.ensures.grows behind in
+    let onward = continued_grow c.put_together.new.st c.continued.new.st c.in_ok-next.next (seq_of ps) k c.continued.ensures.grows (c.in_ok-next.ensures.ok (seq_of ps) k here) in
+    h (seq_of (part p ps)) k (cons_continued c.continued.new.st c.in_ok-rest.rest c.in_ok-next.next k p ps c.in_ok-rest.ensures.ok onward))
+    c.unguarded.ensures.ok
+
+pub continued_all-loop-i-init : goal.continued_all-loop-i-init
+continued_all-loop-i-init t c = record {
+  grows = c.unguarded.ensures.grows;
+  within = omega arith;
+  behind =
+      subst (λ ps. IsGuarded c.unguarded.new.st c.in_ok-behind.behind.guard c.in_ok-behind.behind.rest (seq_of (trees_of ps)) c.args.next) (sym (drop_all (length c.args.ps.now) c.args.ps.now (omega arith)))
+      (c.in_ok-behind.ensures.ok (seq_of no_part) c.args.next (unit_continued c.args.st.now c.args.next c.requires));
+}
+
 pub continued_all-loop-i-preserved : goal.continued_all-loop-i-preserved
 continued_all-loop-i-preserved t c = record {
-  grows = grows_on _ _ _ c.loop-i.invariant.grows c.continued.ensures.grows;
+  grows = grows_on _ _ _ c.loop-i.invariant.grows c.with_part.ensures.grows;
   within = omega (arith, c.loop-i.invariant.within);
-  rest =
-      let behind = continued_grow c.loop-i.st c.continued.new.st c.loop-i.rest (seq_of (trees_of (drop c.loop-i.i c.args.ps.now))) c.args.next c.continued.ensures.grows c.loop-i.invariant.rest in
-      subst (λ ps. IsContinued c.continued.new.st c.in_ok-rest.rest (seq_of ps) c.args.next) (sym (trees_before c.args.ps.now c.loop-i.i c.index-ps-i.result c.loop-i-test.true c.loop-i.invariant.within c.index-ps-i.is))
-      (cons_continued c.continued.new.st c.in_ok-rest.rest c.loop-i.rest c.args.next (tree_of c.index-ps-i.result) (trees_of (drop c.loop-i.i c.args.ps.now)) c.in_ok-rest.ensures.ok behind);
+  behind =
+      subst (λ ps. IsGuarded c.with_part.new.st c.in_ok-behind-2.behind.guard c.in_ok-behind-2.behind.rest (seq_of ps) c.args.next) (sym (trees_before c.args.ps.now c.loop-i.i c.index-ps-i.result c.loop-i-test.true c.loop-i.invariant.within c.index-ps-i.is))
+      (c.in_ok-behind-2.ensures.ok (trees_of (drop c.loop-i.i c.args.ps.now)) c.args.next c.loop-i.invariant.behind);
 }
+
+pub continued_all-returns-clause-ok : goal.continued_all-returns-clause-ok
+continued_all-returns-clause-ok t c =
+    let zero_is : c.loop-i.i ≡ 0 = omega (arith, c.loop-i-test.false) in
+    IfOk-weaker c.put_together.result _ _
+    (λ d h. subst (λ n. IsContinued c.put_together.new.st d (seq_of (trees_of (drop n c.args.ps.now))) c.args.next) zero_is (h (seq_of (trees_of (drop c.loop-i.i c.args.ps.now))) c.args.next c.loop-i.invariant.behind))
+    c.put_together.ensures.ok
 
 pub continued_star-returns-clause-ok : goal.continued_star-returns-clause-ok
 continued_star-returns-clause-ok t c =

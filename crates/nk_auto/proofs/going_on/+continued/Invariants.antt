@@ -2,7 +2,7 @@ use Rattle.std.proofs.Common.{◌≤◌, length, drop}
 use Rattle.nk_policy.specs.Policy.{seq_of}
 use Rattle.nk_policy.specs.Tree.{trees_of}
 use Rattle.nk_store.specs.Held.{Grows}
-use Rattle.nk_auto.specs.Continued.{IsContinued}
+use Rattle.nk_auto.specs.Guarded.{IsGuarded}
 use Rattle.nk_auto.proofs.Sums.{AreOf, IsOnward}
 use Rattle.nk_auto.proofs.going_on.+continued.Given as goal
 
@@ -17,12 +17,12 @@ invariant-continued_any-loop-i l = record {
 abbrev pub decreases-continued_any-loop-i : goal.decreases-continued_any-loop-i
 decreases-continued_any-loop-i l = l.i
 
--- the parts from the place on are one diagram
+-- the parts from the place on are a guard and a diagram
 abbrev pub invariant-continued_all-loop-i : goal.invariant-continued_all-loop-i
 invariant-continued_all-loop-i l = record {
   grows : Grows l.fn.st l.st;
   within : l.i ≤ length l.ps;
-  rest : IsContinued l.st l.rest (seq_of (trees_of (drop l.i l.ps))) l.fn.next;
+  behind : IsGuarded l.st l.behind.guard l.behind.rest (seq_of (trees_of (drop l.i l.ps))) l.fn.next;
 }
 
 abbrev pub decreases-continued_all-loop-i : goal.decreases-continued_all-loop-i

@@ -4,4 +4,4 @@ use Rattle.nk_auto.proofs.going_on.after_predicate.Goals as goal
 
 pub returns-clause-ok : goal.returns-clause-ok
 returns-clause-ok c =
-    predicate_through c.silent_predicate.new.st c.both.new.st c.in_ok-d.d c.args.next c.in_ok-r.r (tree_of c.args.p.now) c.requires.predicate c.both.ensures.grows c.in_ok-d.ensures.ok c.in_ok-d.ensures.predicate (c.silent_predicate.ensures.grows.ids c.args.next c.requires.next) c.in_ok-r.ensures.ok
+    predicate_through c.silent_predicate.new.st c.at_packets.new.st c.in_ok-d.d c.args.next c.in_ok-r.r (tree_of c.args.p.now) c.requires.predicate c.at_packets.ensures.grows c.in_ok-d.ensures.ok c.in_ok-d.ensures.predicate (c.silent_predicate.ensures.grows.ids c.args.next c.requires.next) c.in_ok-r.ensures.ok

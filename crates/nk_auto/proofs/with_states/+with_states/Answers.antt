@@ -1,14 +1,19 @@
-use Rattle.std.proofs.Common.{◌≡◌, ◌<◌, arith, sym, subst, drop}
+use Rattle.std.proofs.Common.{◌≡◌, ℕ, ◌<◌, Option, arith, sym, subst, length, drop}
+use Rattle.std.specs.Prelude.{IfSome}
+use Rattle.std.proofs.lemmas.List.{drop_all}
 use Rattle.std.proofs.lemmas.Result.{IfOk-weaker, on_ok_weaker}
-use Rattle.nk_policy.specs.Policy.{sum_of, seq_of, star_of, part}
+use Rattle.nk_policy.specs.Policy.{sum_of, seq_of, star_of, no_part, part}
 use Rattle.nk_policy.specs.Tree.{tree_of, trees_of}
 use Rattle.nk_store.specs.Held.{IsId}
-use Rattle.nk_store.proofs.Stores.{grows_on}
-use Rattle.nk_auto.specs.Continued.{IsContinued, AreWritten}
+use Rattle.nk_store.proofs.Stores.{grows_on, grows_same}
+use Rattle.nk_algebra.specs.Predicates.{IsPredicate}
+use Rattle.nk_auto.specs.Continued.{IsSilent, IsContinued, AreWritten}
+use Rattle.nk_auto.specs.Guarded.{NeverRecords, IsGuarded}
 use Rattle.nk_auto.proofs.Parts.{trees_before}
-use Rattle.nk_auto.proofs.Going.{continued_grow, cons_continued}
+use Rattle.nk_auto.proofs.Going.{continued_grow, unit_continued, cons_continued}
 use Rattle.nk_algebra.proofs.MadeOf.{on_any}
-use Rattle.nk_auto.proofs.Writing.{seq_written, sum_written, star_written, not_written, predicate_written, dupless_written, written_grow}
+use Rattle.nk_auto.proofs.Writing.{unit_written, seq_written, sum_written, star_written, not_written, predicate_written, dupless_written, written_grow}
+use Rattle.nk_auto.proofs.Guarding.{guarded_grow, behind_written, counted_none}
 use Rattle.nk_auto.proofs.Sums.{AreOf, IsOnward, one_more_of, ids_of, sum_continued}
 use Rattle.nk_auto.proofs.with_states.+with_states.Goals as goal
 
@@ -37,18 +42,93 @@ any_with_states-returns-clause-ok t c =
     (λ r united. sum_continued c.loop-i.st c.union_all.new.st c.loop-i.ids c.as_slice.result.now (trees_of c.args.ps.now) c.args.next r c.as_slice.ensures c.union_all.ensures.grows next_id made united)
     c.union_all.ensures.ok
 
+pub part_with_states-returns-in-Some-clause-ok : goal.part_with_states-returns-in-Some-clause-ok
+part_with_states-returns-in-Some-clause-ok t c =
+    let p = tree_of c.args.p.now in
+    let made = subst (λ (o : Option ℕ). IfSome o (λ d. IsSilent c.guard_of.new.st d p)) c.in-Some.is c.in_ok-d.ensures.ok in
+    let predicate = subst (λ (o : Option ℕ). IfSome o (λ d. IsPredicate c.guard_of.new.st d)) c.in-Some.is c.in_ok-d.ensures.predicate in
+    let guards = subst (λ (o : Option ℕ). IfSome o (λ d. NeverRecords p)) c.in-Some.is c.in_ok-d.ensures.guard in
+    IfOk-weaker c.guarded_by.result _ _
+    (λ b h ps k behind. h p ps k guards made predicate (guarded_grow c.args.st.now c.guard_of.new.st c.args.behind.guard c.args.behind.rest k (seq_of ps) c.guard_of.ensures.grows behind))
+    c.guarded_by.ensures.ok
+
+pub part_with_states-returns-in-Some-clause-written : goal.part_with_states-returns-in-Some-clause-written
+part_with_states-returns-in-Some-clause-written t c =
+    let p = tree_of c.args.p.now in
+    let guards = subst (λ (o : Option ℕ). IfSome o (λ d. NeverRecords p)) c.in-Some.is c.in_ok-d.ensures.guard in
+    on_any c.guarded_by.result _
+    (λ before ps k behind w. behind_written c.args.st.now c.guarded_by.new.st before c.args.states.now c.args.base k p ps (grows_on _ _ _ c.guard_of.ensures.grows c.guarded_by.ensures.grows) guards.dupless w)
+
+pub part_with_states-returns-clause-ok : goal.part_with_states-returns-clause-ok
+part_with_states-returns-clause-ok t c =
+    let p = tree_of c.args.p.now in
+    IfOk-weaker c.unguarded.result _ _
+    (λ b h ps k behind.
+    let here = guarded_grow c.args.st.now c.guard_of.new.st c.args.behind.guard c.args.behind.rest k (seq_of ps) c.guard_of.ensures.grows behind in
+    let onward = continued_grow c.put_together.new.st c.continued_with_states.new.st c.in_ok-next.next (seq_of ps) k c.continued_with_states.ensures.grows (c.in_ok-next.ensures.ok (seq_of ps) k here) in
+    h (seq_of (part p ps)) k (cons_continued c.continued_with_states.new.st c.in_ok-rest.rest c.in_ok-next.next k p ps c.in_ok-rest.ensures.ok onward))
+    c.unguarded.ensures.ok
+
+pub part_with_states-returns-clause-written : goal.part_with_states-returns-clause-written
+part_with_states-returns-clause-written t c =
+    let p = tree_of c.args.p.now in
+    on_any c.unguarded.result _
+    (λ before ps k behind w.
+    let here = guarded_grow c.args.st.now c.guard_of.new.st c.args.behind.guard c.args.behind.rest k (seq_of ps) c.guard_of.ensures.grows behind in
+    let grown = written_grow c.args.st.now c.put_together.new.st before c.args.states.now c.args.base (seq_of ps) k (grows_on _ _ _ c.guard_of.ensures.grows c.put_together.ensures.grows) w in
+    written_grow c.continued_with_states.new.st c.unguarded.new.st before c.continued_with_states.new.states c.args.base (seq_of (part p ps)) k c.unguarded.ensures.grows
+    (seq_written c.put_together.new.st c.continued_with_states.new.st before c.args.states.now c.continued_with_states.new.states c.args.base c.in_ok-next.next k p ps c.continued_with_states.ensures.grows grown (c.in_ok-next.ensures.ok (seq_of ps) k here) c.in_ok-rest.ensures.written))
+
+pub write_first-returns-then-dups-eq0-clause-written : goal.write_first-returns-then-dups-eq0-clause-written
+write_first-returns-then-dups-eq0-clause-written t c = λ before ps k behind w.
+    behind_written c.args.st.now c.args.st.now before c.args.states.now c.args.base k (tree_of c.args.p.now) ps (grows_same c.args.st.now) (counted_none (tree_of c.args.p.now) (omega (arith, c.dups.ensures, c.if-dups-eq0.true))) w
+
+pub write_first-returns-clause-written : goal.write_first-returns-clause-written
+write_first-returns-clause-written t c =
+    let p = tree_of c.args.p.now in
+    on_ok_weaker c.write_states.result
+    (λ h before ps k behind w.
+    let grown = written_grow c.args.st.now c.put_together.new.st before c.args.states.now c.args.base (seq_of ps) k c.put_together.ensures.grows w in
+    seq_written c.put_together.new.st c.write_states.new.st before c.args.states.now c.write_states.new.states c.args.base c.in_ok-next.next k p ps c.write_states.ensures.grows grown (c.in_ok-next.ensures.ok (seq_of ps) k behind) h)
+    c.write_states.ensures.written
+
+pub all_with_states-loop-i-init : goal.all_with_states-loop-i-init
+all_with_states-loop-i-init t c =
+    let none = sym (drop_all (length c.args.ps.now) c.args.ps.now (omega arith)) in
+    record {
+      grows = c.unguarded.ensures.grows;
+      within = omega arith;
+      behind = subst (λ ps. IsGuarded c.unguarded.new.st c.in_ok-behind.behind.guard c.in_ok-behind.behind.rest (seq_of (trees_of ps)) c.args.next) none
+          (c.in_ok-behind.ensures.ok (seq_of no_part) c.args.next (unit_continued c.args.st.now c.args.next c.requires));
+      written = subst (λ ps. AreWritten c.unguarded.new.st c.args.states.now c.args.states.now c.args.base (seq_of (trees_of ps)) c.args.next) none
+          (unit_written c.unguarded.new.st c.args.states.now c.args.base c.args.next);
+    }
+
 pub all_with_states-loop-i-preserved : goal.all_with_states-loop-i-preserved
 all_with_states-loop-i-preserved t c =
     let here = sym (trees_before c.args.ps.now c.loop-i.i c.index-ps-i.result c.loop-i-test.true c.loop-i.invariant.within c.index-ps-i.is) in
-    let behind = continued_grow c.loop-i.st c.continued_with_states.new.st c.loop-i.rest (seq_of (trees_of (drop c.loop-i.i c.args.ps.now))) c.args.next c.continued_with_states.ensures.grows c.loop-i.invariant.rest in
+    let others = trees_of (drop c.loop-i.i c.args.ps.now) in
     record {
-      grows = grows_on _ _ _ c.loop-i.invariant.grows c.continued_with_states.ensures.grows;
+      grows = grows_on _ _ _ c.loop-i.invariant.grows c.part_with_states.ensures.grows;
       within = omega (arith, c.loop-i.invariant.within);
-      rest = subst (λ ps. IsContinued c.continued_with_states.new.st c.in_ok-rest.rest (seq_of ps) c.args.next) here
-          (cons_continued c.continued_with_states.new.st c.in_ok-rest.rest c.loop-i.rest c.args.next (tree_of c.index-ps-i.result) (trees_of (drop c.loop-i.i c.args.ps.now)) c.in_ok-rest.ensures.ok behind);
-      written = subst (λ ps. AreWritten c.continued_with_states.new.st c.args.states.now c.continued_with_states.new.states c.args.base (seq_of ps) c.args.next) here
-          (seq_written c.loop-i.st c.continued_with_states.new.st c.args.states.now c.loop-i.states c.continued_with_states.new.states c.args.base c.loop-i.rest c.args.next (tree_of c.index-ps-i.result) (trees_of (drop c.loop-i.i c.args.ps.now)) c.continued_with_states.ensures.grows c.loop-i.invariant.written c.loop-i.invariant.rest c.in_ok-rest.ensures.written);
+      behind = subst (λ ps. IsGuarded c.part_with_states.new.st c.in_ok-behind-2.behind.guard c.in_ok-behind-2.behind.rest (seq_of ps) c.args.next) here
+          (c.in_ok-behind-2.ensures.ok others c.args.next c.loop-i.invariant.behind);
+      written = subst (λ ps. AreWritten c.part_with_states.new.st c.args.states.now c.part_with_states.new.states c.args.base (seq_of ps) c.args.next) here
+          (c.in_ok-behind-2.ensures.written c.args.states.now others c.args.next c.loop-i.invariant.behind c.loop-i.invariant.written);
     }
+
+pub all_with_states-returns-clause-ok : goal.all_with_states-returns-clause-ok
+all_with_states-returns-clause-ok t c =
+    let zero_is : c.loop-i.i ≡ 0 = omega (arith, c.loop-i-test.false) in
+    IfOk-weaker c.put_together.result _ _
+    (λ d h. subst (λ n. IsContinued c.put_together.new.st d (seq_of (trees_of (drop n c.args.ps.now))) c.args.next) zero_is (h (seq_of (trees_of (drop c.loop-i.i c.args.ps.now))) c.args.next c.loop-i.invariant.behind))
+    c.put_together.ensures.ok
+
+pub all_with_states-returns-clause-written : goal.all_with_states-returns-clause-written
+all_with_states-returns-clause-written t c =
+    let zero_is : c.loop-i.i ≡ 0 = omega (arith, c.loop-i-test.false) in
+    let written = subst (λ n. AreWritten c.loop-i.st c.args.states.now c.loop-i.states c.args.base (seq_of (trees_of (drop n c.args.ps.now))) c.args.next) zero_is c.loop-i.invariant.written in
+    on_any c.put_together.result _ (written_grow c.loop-i.st c.put_together.new.st c.args.states.now c.loop-i.states c.args.base (seq_of (trees_of c.args.ps.now)) c.args.next c.put_together.ensures.grows written)
 
 pub any_with_states-returns-clause-written : goal.any_with_states-returns-clause-written
 any_with_states-returns-clause-written t c =
@@ -81,32 +161,43 @@ write_any-returns-clause-written t c =
     let zero_is : c.loop-i.i ≡ 0 = omega (arith, c.loop-i-test.false) in
     subst (λ n. AreWritten c.loop-i.st c.args.states.now c.loop-i.states c.args.base (sum_of (trees_of (drop n c.args.ps.now))) c.args.next) zero_is c.loop-i.invariant.written
 
+pub write_all-loop-i-init : goal.write_all-loop-i-init
+write_all-loop-i-init t c =
+    let none = sym (drop_all (length c.args.ps.now) c.args.ps.now (omega arith)) in
+    record {
+      grows = c.unguarded.ensures.grows;
+      within = omega arith;
+      later = subst (λ ps. IsGuarded c.unguarded.new.st c.in_ok-later.later.guard c.in_ok-later.later.rest (seq_of (trees_of ps)) c.args.next) none
+          (c.in_ok-later.ensures.ok (seq_of no_part) c.args.next (unit_continued c.args.st.now c.args.next c.requires));
+      written = subst (λ ps. AreWritten c.unguarded.new.st c.args.states.now c.args.states.now c.args.base (seq_of (trees_of ps)) c.args.next) none
+          (unit_written c.unguarded.new.st c.args.states.now c.args.base c.args.next);
+    }
+
 pub write_all-loop-i-preserved : goal.write_all-loop-i-preserved
 write_all-loop-i-preserved t c =
     let some : 0 < c.loop-i.i = omega (arith, c.loop-i-test.true) in
     let here = sym (trees_before c.args.ps.now c.loop-i.i c.index-ps-i.result some c.loop-i.invariant.within c.index-ps-i.is) in
-    let onward = continued_grow c.loop-i.st c.continued_with_states.new.st c.loop-i.behind (seq_of (trees_of (drop c.loop-i.i c.args.ps.now))) c.args.next c.continued_with_states.ensures.grows c.loop-i.invariant.behind in
+    let others = trees_of (drop c.loop-i.i c.args.ps.now) in
     record {
-      grows = grows_on _ _ _ c.loop-i.invariant.grows c.continued_with_states.ensures.grows;
+      grows = grows_on _ _ _ c.loop-i.invariant.grows c.part_with_states.ensures.grows;
       within = omega (arith, c.loop-i.invariant.within);
-      behind = subst (λ ps. IsContinued c.continued_with_states.new.st c.in_ok-behind.behind (seq_of ps) c.args.next) here
-          (cons_continued c.continued_with_states.new.st c.in_ok-behind.behind c.loop-i.behind c.args.next (tree_of c.index-ps-i.result) (trees_of (drop c.loop-i.i c.args.ps.now)) c.in_ok-behind.ensures.ok onward);
-      written = subst (λ ps. AreWritten c.continued_with_states.new.st c.args.states.now c.continued_with_states.new.states c.args.base (seq_of ps) c.args.next) here
-          (seq_written c.loop-i.st c.continued_with_states.new.st c.args.states.now c.loop-i.states c.continued_with_states.new.states c.args.base c.loop-i.behind c.args.next (tree_of c.index-ps-i.result) (trees_of (drop c.loop-i.i c.args.ps.now)) c.continued_with_states.ensures.grows c.loop-i.invariant.written c.loop-i.invariant.behind c.in_ok-behind.ensures.written);
+      later = subst (λ ps. IsGuarded c.part_with_states.new.st c.in_ok-later-2.later.guard c.in_ok-later-2.later.rest (seq_of ps) c.args.next) here
+          (c.in_ok-later-2.ensures.ok others c.args.next c.loop-i.invariant.later);
+      written = subst (λ ps. AreWritten c.part_with_states.new.st c.args.states.now c.part_with_states.new.states c.args.base (seq_of ps) c.args.next) here
+          (c.in_ok-later-2.ensures.written c.args.states.now others c.args.next c.loop-i.invariant.later c.loop-i.invariant.written);
     }
 
 pub write_all-returns-then-i-eq1-clause-written : goal.write_all-returns-then-i-eq1-clause-written
 write_all-returns-then-i-eq1-clause-written t c =
-    let first = tree_of c.index-ps-0.result in
     let others = trees_of (drop 1 c.args.ps.now) in
-    let here : trees_of c.args.ps.now ≡ part first others =
+    let here : trees_of c.args.ps.now ≡ part (tree_of c.index-ps-0.result) others =
     trees_before c.args.ps.now 1 c.index-ps-0.result (omega arith) (omega (arith, c.loop-i.invariant.within, c.if-i-eq1.true)) c.index-ps-0.is in
     let written = subst (λ n. AreWritten c.loop-i.st c.args.states.now c.loop-i.states c.args.base (seq_of (trees_of (drop n c.args.ps.now))) c.args.next) c.if-i-eq1.true c.loop-i.invariant.written in
-    let behind = subst (λ n. IsContinued c.loop-i.st c.loop-i.behind (seq_of (trees_of (drop n c.args.ps.now))) c.args.next) c.if-i-eq1.true c.loop-i.invariant.behind in
-    on_ok_weaker c.write_states.result
-    (λ h. subst (λ ps. AreWritten c.write_states.new.st c.args.states.now c.write_states.new.states c.args.base (seq_of ps) c.args.next) (sym here)
-    (seq_written c.loop-i.st c.write_states.new.st c.args.states.now c.loop-i.states c.write_states.new.states c.args.base c.loop-i.behind c.args.next first others c.write_states.ensures.grows written behind h))
-    c.write_states.ensures.written
+    let behind = subst (λ n. IsGuarded c.loop-i.st c.loop-i.later.guard c.loop-i.later.rest (seq_of (trees_of (drop n c.args.ps.now))) c.args.next) c.if-i-eq1.true c.loop-i.invariant.later in
+    on_ok_weaker c.write_first.result
+    (λ h. subst (λ ps. AreWritten c.write_first.new.st c.args.states.now c.write_first.new.states c.args.base (seq_of ps) c.args.next) (sym here)
+    (h c.args.states.now others c.args.next behind written))
+    c.write_first.ensures.written
 
 pub write_all-returns-clause-written : goal.write_all-returns-clause-written
 write_all-returns-clause-written t c =

@@ -2,7 +2,8 @@ use Rattle.std.proofs.Common.{◌≤◌, length, drop}
 use Rattle.nk_policy.specs.Policy.{sum_of, seq_of}
 use Rattle.nk_policy.specs.Tree.{trees_of}
 use Rattle.nk_store.specs.Held.{Grows}
-use Rattle.nk_auto.specs.Continued.{IsContinued, AreWritten}
+use Rattle.nk_auto.specs.Continued.{AreWritten}
+use Rattle.nk_auto.specs.Guarded.{IsGuarded}
 use Rattle.nk_auto.proofs.Sums.{AreOf, IsOnward}
 use Rattle.nk_auto.proofs.with_states.+with_states.Given as goal
 
@@ -18,12 +19,12 @@ invariant-any_with_states-loop-i l = record {
 abbrev pub decreases-any_with_states-loop-i : goal.decreases-any_with_states-loop-i
 decreases-any_with_states-loop-i l = l.i
 
--- the parts from the place on are one diagram, and their states are written
+-- the parts from the place on are a guard and a diagram, and their states are written
 abbrev pub invariant-all_with_states-loop-i : goal.invariant-all_with_states-loop-i
 invariant-all_with_states-loop-i l = record {
   grows : Grows l.fn.st l.st;
   within : l.i ≤ length l.ps;
-  rest : IsContinued l.st l.rest (seq_of (trees_of (drop l.i l.ps))) l.fn.next;
+  behind : IsGuarded l.st l.behind.guard l.behind.rest (seq_of (trees_of (drop l.i l.ps))) l.fn.next;
   written : AreWritten l.st l.fn.states l.states l.base (seq_of (trees_of (drop l.i l.ps))) l.fn.next;
 }
 
@@ -41,12 +42,12 @@ invariant-write_any-loop-i l = record {
 abbrev pub decreases-write_any-loop-i : goal.decreases-write_any-loop-i
 decreases-write_any-loop-i l = l.i
 
--- the parts from the place on are one diagram, and their states are written
+-- the parts from the place on are a guard and a diagram, and their states are written
 abbrev pub invariant-write_all-loop-i : goal.invariant-write_all-loop-i
 invariant-write_all-loop-i l = record {
   grows : Grows l.fn.st l.st;
   within : l.i ≤ length l.ps;
-  behind : IsContinued l.st l.behind (seq_of (trees_of (drop l.i l.ps))) l.fn.next;
+  later : IsGuarded l.st l.later.guard l.later.rest (seq_of (trees_of (drop l.i l.ps))) l.fn.next;
   written : AreWritten l.st l.fn.states l.states l.base (seq_of (trees_of (drop l.i l.ps))) l.fn.next;
 }
 
