@@ -1,5 +1,5 @@
 -- Rows as sets of labels and of packets, and as stores and sets grow.
-use Rattle.std.proofs.Common.{◌≡◌, ℕ, suc, zero, ◌+◌, ◌<◌, ◌≤◌, true, false, inl, inr, ⊎_elim, List, [], ◌∷◌, ◌++◌, length, length-append, get_or, refl, sym, ap, subst, ◌∙◌, arith}
+use Rattle.std.proofs.Common.{◌≡◌, ℕ, suc, zero, ◌+◌, ◌<◌, ◌≤◌, inl, inr, ⊎_elim, List, [], ◌∷◌, ◌++◌, length, length-append, get_or, refl, sym, ap, subst, ◌∙◌, arith}
 use Rattle.std.specs.Prelude.{◌↔◌, Contains, eqb}
 use Rattle.std.specs.List.{dedup}
 use Rattle.std.specs.List.Sorted.{IsPermutation, IsSorted, IsStrictlyIncreasing}
@@ -14,9 +14,7 @@ use Rattle.nk_field.proofs.Ascending.{all_from_members}
 use Rattle.nk_policy.specs.Policy.{Policy}
 use Rattle.nk_policy.specs.Tree.{tree_of}
 use Rattle.nk_policy.specs.declared.policy.Pol.{Pol}
-use Rattle.nk_store.specs.Held.{Held, Grows, HasLeaves}
-use Rattle.nk_algebra.specs.Predicates.{IsPredicate}
-use Rattle.nk_sets.specs.PacketSets.{has_out}
+use Rattle.nk_store.specs.Held.{Held, Grows}
 use Rattle.nk_sets.proofs.SetLemmas.{set_grows}
 use Rattle.nk_determ.specs.Sets.{SetsGrow, IsSetOf}
 use Rattle.nk_reach.specs.Pairs.{HavePlaces, IsPair, EachPair}
@@ -64,20 +62,6 @@ entry_there st ss n s x positions labels predicate are set same packets = record
   members = λ k. subst (IsSetAt (behind positions)) (sym set.members) same;
   keeps = λ k. packets.keeps;
   none = λ other. absurd (other are);
-}
-
--- the entry of any other row
-pub entry_nowhere : (st : Held) (ss : List (List ℕ)) (n s x : ℕ) (row : RowValue) → (AreLabels n row.positions → ⊥) → IsSetOf ss s []
-    → HasLeaves st x (λ pk. []) → IsPredicate st x → IsEntryOf st ss n row (s, x)
-entry_nowhere st ss n s x row other set leaves pred = record {
-  pair = record {
-    known = set.within;
-    places = subst (HavePlaces n) (sym set.members) (λ k d lt. absurd (omega (arith, lt)));
-    packets = record { id = leaves.id; predicate = pred };
-  };
-  members = λ are. absurd (other are);
-  keeps = λ are. absurd (other are);
-  none = λ never pk range e. let z : false ≡ true = sym (ap has_out (leaves.leaf pk range.0)) ∙ e in absurd cc;
 }
 
 -- an entry stays one as store and sets grow

@@ -1,8 +1,7 @@
 -- One tag more at the switch where its first link ends.
-use Rattle.std.proofs.Common.{◌≡◌, ℕ, zero, suc, ◌+◌, ◌<◌, ◌≤◌, ◌↔◌, true, false, inl, inr, ⊎_elim, ◌⊎◌, Option, Some, None, List, [], ◌∷◌, ◌++◌, length, get_or, set, refl, sym, ap, subst, ◌∙◌, arith}
-use Rattle.std.specs.Prelude.{◌==◌, if◌then◌else◌, nat_lt, map, All, AllPairs, Contains}
+use Rattle.std.proofs.Common.{◌≡◌, ℕ, zero, suc, ◌+◌, ◌<◌, ◌≤◌, true, false, inl, inr, ⊎_elim, ◌⊎◌, Option, Some, None, List, [], ◌∷◌, ◌++◌, length, get_or, set, refl, sym, ap, subst, ◌∙◌, arith}
+use Rattle.std.specs.Prelude.{◌==◌, if◌then◌else◌, nat_lt, map, All, AllPairs}
 use Rattle.std.specs.List.{prefix_len}
-use Rattle.std.specs.List.Sorted.{IsStrictlyIncreasing}
 use Rattle.std.proofs.lemmas.List.Sums.{prefix_len_passes, prefix_len_stops}
 use Rattle.std.proofs.lemmas.List.{get_or-map, get_or_default, length-map}
 use Rattle.std.proofs.lemmas.Bool.Decides.{nat_tests}
@@ -32,21 +31,6 @@ tag_not_put sw tag s ne =
     ap (λ b. if b then record { switch = s.switch; tags = s.tags ++ tag ∷ [] } else s) t
 
 module _ (ends : List (Option ℕ)) (ss : List (List ℕ)) (tags : List ℕ) where
-  -- at first tag 0 alone comes
-  pub coming_first : (s : Stop) → s.tags ≡ 0 ∷ [] → HasComing ends ss tags 0 s
-  coming_first s e = record {
-    ascend = subst IsStrictlyIncreasing (sym e) (λ k lt. absurd (omega (arith, lt)));
-    within = subst (All (λ t. t ≤ 0)) (sym e) (all_from_members (λ t. t ≤ 0) (0 ∷ []) (λ t i. ⊎_elim (λ z. omega (arith, z)) (λ n. absurd n) i));
-    exactly = λ t. subst (λ l. Contains l t ↔ ComesTo ends ss tags 0 s.switch t) (sym e) (by t);
-  }
-    where
-      by : (t : ℕ) → Contains (0 ∷ []) t ↔ ComesTo ends ss tags 0 s.switch t
-      by zero = (λ c. tt, λ u. (0, omega arith, refl))
-      by (suc t) = (
-        λ c. ⊎_elim (λ z. absurd (omega (arith, z))) (λ n. absurd n) (in_from_contains (0 ∷ []) (suc t) c),
-        λ h. absurd (omega (arith, h.0)),
-      )
-
   -- what comes of the tags so far comes of one more
   comes_on : (i sw t : ℕ) → ComesTo ends ss tags i sw t → ComesTo ends ss tags (i + 1) sw t
   comes_on i sw zero h = tt

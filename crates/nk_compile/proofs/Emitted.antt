@@ -1,4 +1,4 @@
--- Where the row for a copy has the bucket list of its state, what is sent is each result of the state once, with its tag.
+-- Where the row for a copy has the bucket list of its tag, what is sent is each result of the tag once, with its tag.
 use Rattle.std.proofs.Common.{◌≡◌, ℕ, ◌<◌, inl, inr, ⊎_elim, Option, Some, None, List, [], ◌∷◌, length, refl, sym, ap, subst, ◌∙◌, arith, get_or-set_same}
 use Rattle.std.specs.Prelude.{filter_map, AllPairs, slice_index, slice_set}
 use Rattle.std.specs.List.{cons_option}
@@ -17,7 +17,7 @@ use Rattle.nk_compile.proofs.TagPlaces.{never_before}
 use Rattle.nk_compile.proofs.Sent.{sends}
 use Rattle.nk_compile.proofs.Reached.{Setting, AtState, Emits, past, result_ok}
 
--- the row for a copy in a state has the state's bucket list at its packet
+-- the row for a copy with a tag has the tag's bucket list at its packet
 abbrev pub HasBuckets : Tables → Policy → ℕ → List (List ℕ) → Type 0
 HasBuckets t p tag tags =
     (tg : ℕ) (x : Packet) → AtState t p tag tags tg x → (buckets : List Bucket) × IsBucketList (length t.fields.maxima) tag p tags tg x buckets × (sent_for t (slice_set x tag tg) ≡ filter_map (sent_by (slice_set x tag tg)) buckets)

@@ -1,16 +1,15 @@
 -- What a program holds fits a store over its fields: a policy's complements are over predicates and it assigns values in
 -- the store's ranges, and the store can be printed.
-use Rattle.std.proofs.Common.{◌≡◌, ℕ, ◌-◌, ◌≤◌, ◌<◌, List, [], ◌∷◌, sym, ap, subst, ◌∙◌, length, get_or, take, replicate, arith, Some}
+use Rattle.std.proofs.Common.{◌≡◌, ℕ, ◌-◌, ◌≤◌, List, [], ◌∷◌, sym, ap, subst, ◌∙◌, length, get_or, take, replicate, arith, Some}
 use Rattle.std.proofs.Math.Seq.{take-append_seam}
 use Rattle.nk_field.specs.Packet.{FieldTable, IsFieldTable}
 use Rattle.nk_policy.specs.Policy.{Policy, Policies, test, range, assign, sum_of, seq_of, not_of, star_of, dup, link, no_part, part}
 use Rattle.nk_policy.specs.Ranges.{IsInRange, AssignsOnly, AllAssignOnly}
 use Rattle.nk_names.specs.Complements.{NegatesPredicates, AllNegatePredicates}
-use Rattle.nk_store.specs.Held.{Held, IsOver, HasFields}
+use Rattle.nk_store.specs.Held.{Held, IsOver}
 use Rattle.nk_store.proofs.InRange.{same_value}
 use Rattle.nk_auto.specs.Complements.{NegatesPredicates as IsOverPredicates, AllNegatePredicates as AreOverPredicates}
 use Rattle.nk_auto.specs.Continued.{IsFit}
-use Rattle.nk_extract.specs.RowsOf.{IsFrame}
 use Rattle.nk_compile.proofs.Whole.{IsSetUp}
 
 mutual
@@ -62,20 +61,6 @@ module _ (fields : FieldTable) (st : Held) (tag : ℕ) (table : IsFieldTable fie
     table = table;
     tag_is = is;
   }
-
-  -- the store can be printed
-  pub frame : HasFields st → IsFrame st st.width tag
-  frame has =
-      let front = fronts fields.maxima 65535 65535 table.built_in_maxima in
-      let place = table.tag_past_port tag is in
-      record {
-        past_port = place.0;
-        declared = subst (λ n. tag < n) (sym over.width) place.1;
-        few = has.few;
-        switches = set_up.same 0 ∙ front.0;
-        ports = set_up.same 1 ∙ front.1;
-        behind = has.past;
-      }
 
   -- a policy of the fields suits the store
   pub fit : (p : Policy) → NegatesPredicates p → IsInRange p fields → IsFit st.maxes p

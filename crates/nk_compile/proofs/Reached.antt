@@ -1,4 +1,4 @@
--- Where a run is after an even list of records: at a packet, in the state of the tag of the set of dups that it crossed last.
+-- Where a run is after an even list of records: at a packet, under the tag of the set of dups that it crossed last.
 use Rattle.std.proofs.Common.{◌≡◌, ◌≢◌, ℕ, zero, suc, ◌+◌, ◌*◌, ◌≤◌, ◌<◌, Bool, true, false, ◌⊎◌, inl, inr, ⊎_elim, Some, List, [], ◌∷◌, ◌++◌, length, refl, sym, ap, subst, ◌∙◌, arith, append_assoc, length-append, get_or-set_other, get_or-set_same}
 use Rattle.std.specs.Prelude.{◌↔◌, ◌==◌, ◌&&◌, ◌||◌, map, slice_get, slice_index, slice_set, Contains}
 use Rattle.std.specs.List.{list_any}
@@ -55,7 +55,7 @@ pub record IsRest (t : Tables) (p : Policy) (tag : ℕ) (s : Policy) : Type 0 wh
       (x y : Packet) (w : List Packet) (z : Packet) → Gives s x (y ∷ w) z
       → (l : ℕ) × RecordsAt s x [] y l × Gives (after p l) y w z
 
--- the packet x can come in the state of the tag tg
+-- the packet x can come with the tag tg
 pub record AtState (t : Tables) (p : Policy) (tag : ℕ) (tags : List (List ℕ)) (tg : ℕ) (x : Packet) : Type 0 where
   pub packet : IsPacket t.fields x
   pub zero_tag : IsZeroAt tag x
@@ -63,14 +63,14 @@ pub record AtState (t : Tables) (p : Policy) (tag : ℕ) (tags : List (List ℕ)
   pub rows : HasRowsAt p tags (slice_index x 0) tg
   pub rests : (s : Policy) → IsState p tags tg s → IsRest t p tag s
 
--- after the records u, 2 * k of them, runs from pk are at x, in the state of the tag tg
+-- after the records u, 2 * k of them, runs from pk are at x, with the tag tg
 pub record Reached (t : Tables) (p : Policy) (tag : ℕ) (tags : List (List ℕ)) (pk : Packet) (k : ℕ) (u : List Packet) (tg : ℕ) (x : Packet) : Type 0 where
   pub size : length u ≡ 2 * k
   pub at : AtState t p tag tags tg x
   pub same : (y : Packet) (l : ℕ) → IsAt p pk (u ++ y ∷ []) l ↔ StateRecords p tags tg x y l
   pub ends : (s : Policy) (z : Packet) → IsState p tags tg s → Gives s x [] z → Gives p pk u z
 
--- each packet sent for a copy is a result of its state, with the result's tag, and each result is sent once
+-- each packet sent for a copy is a result of its tag, with the result's tag, and each result is sent once
 abbrev pub Emits : Tables → Policy → ℕ → List (List ℕ) → Type 0
 Emits t p tag tags =
     (tg : ℕ) (x : Packet) → AtState t p tag tags tg x → (q : Packet) → In (sent_for t (slice_set x tag tg)) q ↔ ((z : Packet) × (t' : ℕ) × IsResult p tags tg x z t' × (q ≡ slice_set z tag t'))
@@ -144,7 +144,7 @@ module _ (t : Tables) (p : Policy) (tag : ℕ) (tags : List (List ℕ)) (g : Set
     goes = λ x y w z gv. (rest_gives_from p g.distinct (k.mark + 1) x y w z).0 gv;
   }
 
-  -- what a state ends at or records is in range, untagged and at its switch
+  -- what a tag's policies end at or record is in range, untagged and at its switch
   pub result_ok :
       (tg : ℕ) (x : Packet) → AtState t p tag tags tg x → (z : Packet) (t' : ℕ) → IsResult p tags tg x z t'
       → IsPacket t.fields z × IsZeroAt tag z × (slice_index z 0 ≡ slice_index x 0)

@@ -1,4 +1,4 @@
--- In the printed table the row for a copy in a state has the bucket list of the state at the copy's packet.
+-- In the printed table the row for a copy with a tag has the bucket list of the tag at the copy's packet.
 use Rattle.std.proofs.Common.{◌≡◌, ◌≢◌, ℕ, ◌<◌, ◌≤◌, inl, inr, ⊎_elim, List, [], ◌∷◌, length, refl, sym, ap, subst, ◌∙◌, arith, get_or-set_other, get_or-set_same}
 use Rattle.std.specs.Prelude.{◌&&◌, if◌then◌else◌, map, filter, filter_map, All, slice_index, slice_set}
 use Rattle.nk_field.specs.declared.packet.Packet.{Packet}
@@ -88,7 +88,7 @@ module _ (t : Tables) (p : Policy) (tag : ℕ) (tags : List (List ℕ)) (g : Set
       ∙ put_all (agrees_at M pk) (exactly M tag e.tag) s.0.matches
       ∙ ap (λ b. b && agrees_with M pk s.0.matches) (exactly_differs M pk tag e.tag differ))
 
-  -- the row for a copy at the switch of this table chooses the bucket list of its state
+  -- the row for a copy at the switch of this table chooses the bucket list of its tag
   chosen :
       (tg : ℕ) (x : Packet) (a : AtState t p tag tags tg x) (table : Table) → In t.tables table
       → table.switch ≡ slice_index x 0
@@ -122,7 +122,7 @@ module _ (t : Tables) (p : Policy) (tag : ℕ) (tags : List (List ℕ)) (g : Set
             ∙ leaf_is,
       )
 
-  -- the row for a copy has its state's buckets
+  -- the row for a copy has its tag's buckets
   pub has_buckets : HasBuckets t p tag tags
   has_buckets tg x a =
       let sw : slice_index (slice_set x tag tg) 0 ≡ slice_index x 0 = let lt : 0 < 2 = omega arith in tagged_index t p tag tags g 0 tg x lt in

@@ -12,10 +12,6 @@ use Rattle.nk_table.specs.Rules.{sent, sent_by}
 use Rattle.nk_extract.specs.RuleTree.{put}
 use Rattle.nk_extract.specs.Buckets.{changes, bucket_of}
 
--- equal options have equal values
-same_some : {A : Type 0} (a b : A) → Some a ≡ Some b → a ≡ b
-same_some a b e = cc
-
 -- a number passes the test with itself
 pub same_number : (m n : ℕ) → m ≡ n → m == n ≡ true
 same_number m n h = grind (arith, h)

@@ -14,7 +14,6 @@ use Rattle.nk_policy.proofs.Numbering.{numbered_distinct}
 use Rattle.nk_policy.proofs.LinkStructure.{holds_first}
 use Rattle.nk_names.specs.Accepted.{IsStart}
 use Rattle.nk_store.specs.Held.{Held}
-use Rattle.nk_extract.specs.RowsOf.{IsFrame}
 use Rattle.nk_table.specs.declared.Table.{Table}
 use Rattle.nk_table.specs.declared.Tables.{Tables}
 use Rattle.nk_switches.specs.declared.stop.Stop.{Stop}
@@ -25,7 +24,6 @@ use Rattle.nk_switches.proofs.Matching.{of_second, matched_maps}
 use Rattle.nk_compile.specs.WholeTable.{HasRowsAt, IsSwitchTable, IsTableOf, link_end}
 use Rattle.nk_compile.specs.Ready.{sets_of, IsClear, IsReady}
 use Rattle.nk_compile.specs.Comings.{first_end, ComesTo, HasComing}
-use Rattle.nk_compile.proofs.Fitting.{frame}
 use Rattle.nk_compile.proofs.Standing.{IsTagged}
 use Rattle.nk_compile.proofs.TagPlaces.{never_itself, one_place}
 use Rattle.nk_compile.proofs.TagSets.{literal_of, one_end, not_empty}
@@ -55,10 +53,6 @@ module _ (fields : FieldTable) (topo : Topology) (tag : ℕ) (p : Policy) (st : 
   tags_once i j a b e =
       one_place (IsTagBefore p (IsStart fields topo)) (never_itself p (IsStart fields topo)) (sets_of ss tags) ready.in_order.in_order i j (set_of ss tags i)
       (set_there ss tags i a) (set_there ss tags j b ∙ ap (λ n. Some (get_or ss n [])) (sym e))
-
-  -- the frame of the rows
-  pub ready_frame : IsFrame st st.width tag
-  ready_frame = frame fields st tag clear.table ready.over clear.tag_is ready.has
 
   module _ (ends : List (Option ℕ)) (each : (l : ℕ) → l < length states → get_or ends l None ≡ link_end p l) where
     -- a member's place in the list of ends

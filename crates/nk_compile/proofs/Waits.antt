@@ -51,7 +51,7 @@ edge_no_link true None to h e = cc
 edge_no_link false o to h e = cc
 
 module _ (t : Tables) (p : Policy) (tag : ℕ) (tags : List (List ℕ)) (g : Setting t p tag tags) (emits : Emits t p tag tags) (apart : (tg : ℕ) (x : Packet) → AtState t p tag tags tg x → Apart (sent_for t (slice_set x tag tg))) where
-  -- the copy at x, with the records u, in the state of the tag tg
+  -- the copy at x, with the records u and the tag tg
   abbrev pub tagged : List Packet → ℕ → Packet → Copy
   tagged u tg x = record { records = u; packet = slice_set x tag tg }
 
@@ -80,10 +80,6 @@ module _ (t : Tables) (p : Policy) (tag : ℕ) (tags : List (List ℕ)) (g : Set
   from_crossing : (u : List Packet) (y : Packet) (o : Option (ℕ × ℕ)) (d : Copy) → In (crossing t u y o) d → (to : ℕ × ℕ) × (o ≡ Some to) × (d ≡ record { records = u ++ erased t.fields y ∷ erased t.fields (moved_to to y) ∷ []; packet = moved_to to y })
   from_crossing u y None d h = absurd h
   from_crossing u y (Some to) d h = ⊎_elim (λ e. (to, refl, e)) (λ e. absurd e) h
-
-  -- the tag 0 set again
-  zero_tag_of : (x : Packet) → IsZeroAt tag x → slice_set x tag 0 ≡ x
-  zero_tag_of x h = h
 
   -- tagging keeps the switch
   index_0 : (x : Packet) (n : ℕ) → slice_index (slice_set x tag n) 0 ≡ slice_index x 0
@@ -122,7 +118,7 @@ module _ (t : Tables) (p : Policy) (tag : ℕ) (tags : List (List ℕ)) (g : Set
   erased_again z n h = erases t p tag tags g (slice_set z tag n) ∙ set-set z tag n 0 ∙ h
 
   module _ (pk : Packet) (start : IsStart t.fields t.topo pk) where
-    -- an end of a state that is reached is on an edge port
+    -- an end of a tag that is reached is on an edge port
     on_edge :
         (k : ℕ) (u : List Packet) (tg : ℕ) (x : Packet) → Reached t p tag tags pk k u tg x → (z : Packet)
         → IsResult p tags tg x z 0 → is_edge t.topo (slice_index z 0) (slice_index z 1) ≡ true
@@ -133,7 +129,7 @@ module _ (t : Tables) (p : Policy) (tag : ℕ) (tags : List (List ℕ)) (g : Set
     member_of [] h = absurd (h refl)
     member_of (l ∷ ls) h = (l, contains_from_in (l ∷ ls) l (inl refl))
 
-    -- what a state records next is at the source of a link
+    -- what a tag's policies record next is at the source of a link
     on_link_source :
         (tg : ℕ) (x : Packet) → AtState t p tag tags tg x → (z : Packet) (n : ℕ)
         → IsResult p tags tg x z (suc n)
@@ -395,7 +391,7 @@ module _ (t : Tables) (p : Policy) (tag : ℕ) (tags : List (List ℕ)) (g : Set
         (λ n. inr (λ h. n (ap (λ (c : Copy). c.records) h)))
         (lists_decided packets_decided c.records d.records)
 
-    -- from a copy that waits, each history of its state leaves after as many more crossings as it has pairs of records
+    -- from a copy that waits, each history of its tag leaves after as many more crossings as it has pairs of records
     arrives : (w : List Packet) (k : ℕ) (u : List Packet) (tg : ℕ) (x : Packet) → Reached t p tag tags pk k u tg x → In (waiting t k pk) (tagged u tg x) → (s : Policy) → IsState p tags tg s → (last : Packet) → Gives s x w last → (j : ℕ) → length w ≡ 2 * j → (In (left_after t (k + j) pk) record { records = u ++ w; packet = last } → ⊥) → ⊥
     arrives [] k u tg x r i s is last gv j e never =
         let none : k + j ≡ k = omega (arith, e) in

@@ -16,22 +16,22 @@ abbrev pub IsState : Policy → List (List ℕ) → ℕ → Policy → Type 0
 IsState p tags zero s = s ≡ p
 IsState p tags (suc t) s = (labels : List ℕ) × (l : ℕ) × (slice_get tags t ≡ Some labels) × Contains labels l × (s ≡ after p (l + 1))
 
--- some policy of the state records x next, at dup l
+-- some policy of the tag records x next, at dup l
 abbrev pub StateRecords : Policy → List (List ℕ) → ℕ → List ℕ → List ℕ → ℕ → Type 0
 StateRecords p tags t pk x l = (s : Policy) × IsState p tags t s × RecordsAt s pk [] x l
 
--- from pk the state leads to x, and goes on with the tag t'
+-- from pk the tag's policies lead to x, which goes on with the tag t'
 abbrev pub IsResult : Policy → List (List ℕ) → ℕ → List ℕ → List ℕ → ℕ → Type 0
 IsResult p tags t pk x zero = (s : Policy) × IsState p tags t s × Gives s pk [] x
 IsResult p tags t pk x (suc t') =
     (labels : List ℕ) × (slice_get tags t' ≡ Some labels) × (labels ≢ []) × HasExactly (StateRecords p tags t pk x) labels
 
--- the bucket list of a state at a packet
+-- the bucket list of a tag at a packet
 pub record IsBucketList (width tag : ℕ) (p : Policy) (tags : List (List ℕ)) (t : ℕ) (pk : List ℕ) (buckets : List Bucket) : Type 0 where
   pub exactly : (b : Bucket) → Contains buckets b ↔ ((x : List ℕ) × (t' : ℕ) × IsResult p tags t pk x t' × (b ≡ bucket_of width tag pk x t'))
   pub in_order : AllPairs (IsBucketBefore tag) buckets
 
--- the reduced tree of a state at a switch, over the port and the declared fields but the tag
+-- the reduced tree of a tag at a switch, over the port and the declared fields but the tag
 pub record IsTreeOf (fields : FieldTable) (tag : ℕ) (p : Policy) (tags : List (List ℕ)) (t sw : ℕ) (d : Diagram (List Bucket)) : Type 0 where
   pub reduced : IsReduced d fields.maxima 1
   pub tag_free : IsFreeOf tag d

@@ -21,7 +21,7 @@ pub fn compile(alloc: Global, program: &Program, name: &str) -> Result<Tables, C
     }
 }
 
-/// The number of a named policy's tag sets: how many states it needs behind links. It is refused as by `compile`, whose work it
+/// The number of a named policy's tag sets: how many set states it needs behind links. It is refused as by `compile`, whose work it
 /// takes.
 pub fn tag_count(alloc: Global, program: &Program, name: &str) -> Result<u64, CompileError>
     ensures { IsCountAnswer program.now name.now result }

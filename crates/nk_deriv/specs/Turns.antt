@@ -48,7 +48,7 @@ pub record ArePutBehind (old new : List (Pol × ℕ)) (free : Policy) (legs : Li
       → LegsGive new pk y l ↔ (LegsGive old pk y l ⊎ ((z : Packet) × Gives free pk [] z × LegsGive legs z y l))
   pub within : (s : Policy) → All (IsLegOf s) old → IsMadeOf s free → All (IsLegOf s) legs → All (IsLegOf s) new
 
--- from pk, the states of these parts in turn end at x without a record
+-- from pk, these parts in turn end at x without a record
 abbrev pub AllEnd : List Part → Packet → Packet → Type 0
 AllEnd [] pk x = x ≡ pk
 AllEnd (s ∷ states) pk x = (z : Packet) × Gives (tree_of s.free) pk [] z × AllEnd states z x
@@ -59,7 +59,7 @@ AllRecord [] pk y l = ⊥
 AllRecord (s ∷ states) pk y l =
     LegsGive s.legs pk y l ⊎ ((z : Packet) × Gives (tree_of s.free) pk [] z × AllRecord states z y l)
 
--- the free policy is that of the states in turn, and their legs are put behind those before
+-- the free policy is that of the parts in turn, and their legs are put behind those before
 pub record AreInTurn (old new : List (Pol × ℕ)) (free : Policy) (states : List Part) : Type 0 where
   pub ends : (pk x : Packet) → Gives free pk [] x ↔ AllEnd states pk x
   pub records : (pk y : Packet) (l : ℕ) → LegsGive new pk y l ↔ (LegsGive old pk y l ⊎ AllRecord states pk y l)
@@ -79,7 +79,7 @@ ArePartsOf [] (part p ps) = ⊥
 ArePartsOf (s ∷ states) no_part = ⊥
 ArePartsOf (s ∷ states) (part p ps) = IsPart s p × ArePartsOf states ps
 
--- the part is that of the states in turn, and then of the next one
+-- the part is that of the parts in turn, and then of the next one
 pub record IsContinued (r : Part) (states : List Part) (next : Part) : Type 0 where
   pub ends : (pk x : Packet)
       → Gives (tree_of r.free) pk [] x ↔ ((z : Packet) × AllEnd states pk z × Gives (tree_of next.free) z [] x)

@@ -134,7 +134,7 @@ pub fn put_behind(
     Ok(())
 }
 
-/// The free policy of these states in turn; puts their legs behind those before.
+/// The free policy of these parts in turn; puts their legs behind those before.
 pub fn in_turn(
     alloc: Global,
     states: &[Part],
@@ -154,7 +154,7 @@ pub fn in_turn(
     Ok(free)
 }
 
-/// The part of these states in turn, and then of the next one.
+/// The part of these parts in turn, and then of the next one.
 pub fn continued(alloc: Global, states: &[Part], next: &Part) -> Result<Part, AllocError>
     ensures { IfOk result (λ r. IsContinued r states.now next.now) }
 {

@@ -46,7 +46,7 @@ fn two_labels(alloc: Global, a: u64, b: u64) -> Result<List<u64>, AllocError>
     Ok(all)
 }
 
-/// The state of the labels 0 and 1 over two states.
+/// The set state of the labels 0 and 1 over two states.
 fn state_of_two(st: &mut Store, ss: &mut Sets, a: Id, b: Id, s: SetId) -> Result<Id, AllocError>
     requires first { IsId st.old a }
     requires second { IsId st.old b }
@@ -56,7 +56,7 @@ fn state_of_two(st: &mut Store, ss: &mut Sets, a: Id, b: Id, s: SetId) -> Result
     state(st, ss, &[a, b], s)
 }
 
-/// The state of two states that record each packet as it is, as label 1 and as label 2.
+/// The set state of two states that record each packet as it is, as label 1 and as label 2.
 fn both_record(alloc: Global, st: &mut Store, ss: &mut Sets) -> Result<Id, AllocError>
     ensures id { IfOk result (IsId st.new) }
 {

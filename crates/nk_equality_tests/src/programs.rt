@@ -1,5 +1,5 @@
 //! The program of a text, and what comparing two of its names answers.
-ghost use Rattle.std.specs.Prelude.{◌≤◌, All, IsUtf8};
+ghost use Rattle.std.specs.Prelude.{◌≤◌, All};
 ghost use Rattle.nk_lex.specs.Lex.{largest};
 
 use nk_bisim::{CompareError, Compared, compare};
@@ -14,7 +14,6 @@ use std::test::Fail;
 
 /// The program of the tokens of a text.
 fn declared_by(alloc: Global, tokens: &[Token]) -> Result<Program, Fail>
-    requires texts { All (λ t. IsUtf8 t.text) tokens.now }
     requires small { All (λ t. t.value ≤ largest) tokens.now }
 {
     let tree = file(alloc, tokens)?;

@@ -68,7 +68,7 @@ fn drawn(st: &mut Store, p: &Pol) -> Result<List<Id>, AllocError>
     Ok(states)
 }
 
-/// The states of the automaton of a policy, its dups numbered from 1 on; no states where the policy has none.
+/// The states of the automaton of a policy, its dups numbered from 1 on; no states where its dups can't be numbered.
 #[tactic(auto, using(crate::proofs::NoStates::no_states))]
 pub fn states_of(st: &mut Store, raw: &Pol) -> Result<List<Id>, AllocError>
     ensures grows { Grows st.old st.new }

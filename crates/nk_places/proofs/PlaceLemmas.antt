@@ -1,30 +1,9 @@
 -- Places one by one: the ports of each switch, and the sources of links.
-use Rattle.std.proofs.Common.{◌≡◌, ℕ, ◌+◌, ◌<◌, Bool, true, false, ◌&&◌, ◌||◌, List, [], ◌∷◌, length, get_or, take, refl, sym, ap, ◌∙◌, arith, Some}
+use Rattle.std.proofs.Common.{◌≡◌, ℕ, Bool, true, false, ◌&&◌, ◌||◌, List, [], ◌∷◌, refl, ap, ◌∙◌, arith, Some}
 use Rattle.std.specs.Prelude.{◌==◌, is_some, map, if◌then◌else◌}
 use Rattle.std.specs.List.{list_any}
 use Rattle.std.proofs.lemmas.Bool.Decides.{nat_tests}
-use Rattle.std.proofs.lemmas.List.Folds.{list_any_more}
 use Rattle.nk_topo.specs.Topology.{Topology, SwitchPorts, Link, numbers_of, is_port, target_among}
-
--- a choice of none more
-or_none : (b : Bool) → (b || false) ≡ b
-or_none true = refl
-or_none false = refl
-
--- choices in another order of parentheses
-or_assoc : (a b c : Bool) → ((a || b) || c) ≡ (a || (b || c))
-or_assoc true b c = refl
-or_assoc false b c = refl
-
--- a common condition
-and_or : (a b c : Bool) → ((a && b) || (a && c)) ≡ (a && (b || c))
-and_or true b c = refl
-and_or false b c = refl
-
--- what fails stays failed
-and_none : (a : Bool) → (a && false) ≡ false
-and_none true = refl
-and_none false = refl
 
 -- a part of a conjunction with a number's test may be taken at that number
 at_number : (f : ℕ → Bool) (n a : ℕ) → ((n == a) && f n) ≡ ((n == a) && f a)
@@ -69,15 +48,6 @@ declared_there a m (s ∷ ss) =
 -- the ports of all switches are the declared ones
 pub all_ports : (t : Topology) (a m : ℕ) → list_any (λ n. (n == a) && is_port t n m) (numbers_of t) ≡ is_port t a m
 all_ports t a m = any_number (λ n. is_port t n m) a (numbers_of t) ∙ declared_there a m t.switches
-
--- the ports of one switch more, of which some are there
-pub ports_more : (places : Bool) (sw a m : ℕ) (ports : List ℕ) (i : ℕ) → i < length ports →
-    ((places || ((sw == a) && list_any (λ p. p == m) (take i ports))) || ((sw == a) && (get_or ports i 0 == m)))
-    ≡ (places || ((sw == a) && list_any (λ p. p == m) (take (i + 1) ports)))
-ports_more places sw a m ports i lt =
-    or_assoc places _ _
-    ∙ ap (λ b. places || b) (and_or (sw == a) (list_any (λ p. p == m) (take i ports)) (get_or ports i 0 == m))
-    ∙ ap (λ b. places || ((sw == a) && b)) (sym (list_any_more (λ p. p == m) ports i 0 lt))
 
 -- whether a link begins there
 pub source_there :

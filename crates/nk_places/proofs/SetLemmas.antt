@@ -1,5 +1,5 @@
 -- Sets of packets put together.
-use Rattle.std.proofs.Common.{◌≡◌, ℕ, zero, suc, ◌+◌, ◌<◌, ◌≤◌, Bool, true, false, not, ◌&&◌, ◌||◌, cond, List, [], ◌∷◌, ◌++◌, inl, inr, length, get_or, drop, refl, sym, ap, subst, ◌∙◌, arith, length-drop, drop-cons, add-one}
+use Rattle.std.proofs.Common.{◌≡◌, ℕ, zero, suc, ◌+◌, ◌<◌, ◌≤◌, Bool, true, false, not, ◌||◌, List, [], ◌∷◌, ◌++◌, inl, inr, length, get_or, drop, refl, sym, ap, subst, ◌∙◌, arith, length-drop, drop-cons, add-one}
 use Rattle.std.specs.Prelude.{slice_index}
 use Rattle.std.specs.List.{list_any}
 use Rattle.std.specs.declared.cmp.Ordering.{Ordering}
@@ -10,24 +10,9 @@ use Rattle.nk_store.specs.Leaves.{out_cmp}
 use Rattle.nk_store.specs.Nodes.{InRange}
 use Rattle.nk_store.specs.declared.node.Out.{Out}
 use Rattle.nk_store.specs.Held.{Held, IsPacket, look, Grows, HasLeaves}
-use Rattle.nk_algebra.specs.Leaves.{weave, merged, guarded, absent, by_order}
+use Rattle.nk_algebra.specs.Leaves.{weave, merged, by_order}
 use Rattle.nk_algebra.specs.Unions.{unions}
 use Rattle.nk_places.specs.PacketSets.{has_out, IsSetInRange}
-
--- an out there is
-pub test_out : (b : Bool) (o : Out) → has_out (cond b (o ∷ []) []) ≡ b
-test_out true o = refl
-test_out false o = refl
-
--- the outs of a diagram where a predicate holds
-pub guarded_out : (p d : List Out) → has_out (guarded p d) ≡ has_out p && has_out d
-guarded_out [] d = refl
-guarded_out (x ∷ xs) d = refl
-
--- the complement of a predicate
-pub absent_out : (p d : List Out) → has_out (absent p d) ≡ not (has_out p)
-absent_out [] d = refl
-absent_out (x ∷ xs) d = refl
 
 -- two leaves together
 pub merged_out : (xs ys : List Out) → has_out (merged xs ys) ≡ has_out xs || has_out ys

@@ -1,5 +1,5 @@
 -- The parts of one out's packets, from the lowest value on.
-use Rattle.std.proofs.Common.{◌≡◌, ℕ, ◌<◌, ◌≤◌, ◌+◌, ◌-◌, cond, inl, inr, refl, sym, ◌∙◌, ap, subst, arith, List, [], ◌∷◌, ◌++◌, length, get_or}
+use Rattle.std.proofs.Common.{◌≡◌, ℕ, ◌<◌, ◌≤◌, ◌+◌, ◌-◌, cond, inl, inr, sym, ◌∙◌, ap, subst, arith, List, [], ◌∷◌, ◌++◌, length, get_or}
 use Rattle.std.proofs.lemmas.Bool.Decides.{leb_tells, eqb_tells}
 use Rattle.nk_store.specs.declared.node.Out.{Out}
 use Rattle.nk_store.specs.Nodes.{child_at, Each, Rises}
@@ -22,18 +22,6 @@ pub record IsLaid (st : Held) (f : ℕ) (ss : List Stretch) (from to bound : ℕ
   pub below : (k : ℕ) → from ≤ k → k < to → (piece ss k).end < bound
   pub goes : (v : ℕ) (x : List ℕ) → IsWhole x → v < bound → Has st (child_at 0 parts v) x → HasAt st ss from to v x (piece ss from).out
   pub comes : (v : ℕ) (x : List ℕ) (o : Out) → IsWhole x → v < bound → HasAt st ss from to v x o → Has st (child_at 0 parts v) x
-
--- no part has the packets of none
-pub laid_none : (st : Held) (f : ℕ) (ss : List Stretch) (from : ℕ) → IsLaid st f ss from from 0 []
-laid_none st f ss from = record {
-  ends = refl;
-  children = tt;
-  sets = tt;
-  alike = λ k a b. absurd (omega (arith, a, b));
-  below = λ k a b. absurd (omega (arith, a, b));
-  goes = λ v x w l h. absurd (omega (arith, l));
-  comes = λ v x o w l h. absurd (omega (arith, l));
-}
 
 -- the set of no packets has none
 none_has : (st : Held) (none : ℕ) (x : List ℕ) → IsWhole x → IsNone st none → Has st none x → ⊥

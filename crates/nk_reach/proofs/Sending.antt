@@ -15,17 +15,6 @@ use Rattle.nk_reach.proofs.Kept.{Has, packet_on, packet_back, has_on, has_back}
 use Rattle.nk_reach.proofs.Growing.{under_on, under_back, each_weaker, step_places}
 use Rattle.nk_reach.proofs.Givens.{given_at, gives_more, gives_less, gives_last}
 
--- an out that ends sends nothing
-pub sent_zero : (st : Held) (o : Out) (p : ℕ) (ps : List (ℕ × ℕ)) → o.target ≡ 0 → HaveSets st ps → Once ps → IsSent st o p ps st ps
-sent_zero st o p ps z e once = record {
-  from = λ i y w u. inl u;
-  old = λ i y w u. u;
-  every = λ i x y w v h t m. absurd (omega (arith, t, z));
-  named = λ i n. inl n;
-  packets = e;
-  once = once;
-}
-
 -- an image without packets sends nothing
 pub sent_empty : (st mid : Held) (o : Out) (p r : ℕ) (ps : List (ℕ × ℕ)) → HaveSets st ps → Once ps → Grows st mid → IsImage st o.act p mid r → ((pk : List ℕ) → IsWhole pk → is_in mid r pk ≡ false) → IsSent st o p ps mid ps
 sent_empty st mid o p r ps e once g im none = record {
@@ -57,17 +46,6 @@ sent_add st mid new o p r t ps qs e g im fill is a = record {
   ];
   packets = a.packets;
   once = a.once;
-}
-
--- no entries send nothing
-pub all_sent_none : (st : Held) (es : List Given) (ps : List (ℕ × ℕ)) → HaveSets st ps → Once ps → IsAllSent st es 0 ps st ps
-all_sent_none st es ps e o = record {
-  from = λ i y w u. inl u;
-  old = λ i y w u. u;
-  every = λ i z y g w v h m. absurd (omega (arith, h.2));
-  named = λ i n. inl n;
-  packets = e;
-  once = o;
 }
 
 -- one out more

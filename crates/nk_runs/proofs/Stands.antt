@@ -46,7 +46,7 @@ stands st new states first p a g = record {
       a.targets i pk y t lt (packet_back st new pk g r) (sends_back st new (slice_index states i) pk y t g (state_id st states first p a i lt) s);
 }
 
--- its states are states of which levels can be made
+-- levels can be made of its states
 pub are_states : (st : Held) (states : List ℕ) (p : Policy) → IsAutomaton st states 1 p → AreStates st states
 are_states st states p a = record {
   ids = λ k lt. state_id st states 1 p a k lt;

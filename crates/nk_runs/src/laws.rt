@@ -25,7 +25,7 @@ ghost use Rattle.nk_determ.specs.Breaks.{Walks, Breaks};
 ghost use Rattle.nk_runs.specs.Walked.{IsMetBehind};
 ghost use Rattle.nk_runs.specs.Wrong.{AreWrongEnds, HasWrongEnd};
 
-/// An automaton stands while the store grows, and its states are states of which levels can be made.
+/// An automaton stands while the store grows, and levels can be made of its states.
 pub fn automaton_stands()
     ensures stands { (st new : Held) (states : List ℕ) (first : ℕ) (p : Policy)
         → IsAutomaton st states first p → Grows st new → IsAutomaton new states first p }

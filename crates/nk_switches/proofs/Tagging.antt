@@ -1,7 +1,6 @@
 -- The tags of targets: one tag more in the table, and where a state sends by the table.
-use Rattle.std.proofs.Common.{◌≡◌, ◌≢◌, ℕ, zero, suc, ◌+◌, ◌<◌, ◌≤◌, ◌⊎◌, ⊎_elim, inl, inr, Option, Some, None, List, [], length, refl, sym, ap, subst, ◌∙◌, arith, get_or, set, get_or-set_same, get_or-set_other}
+use Rattle.std.proofs.Common.{◌≡◌, ℕ, zero, suc, ◌+◌, ◌<◌, ◌≤◌, ◌⊎◌, ⊎_elim, Option, Some, None, List, [], length, sym, ap, subst, ◌∙◌, arith, get_or}
 use Rattle.std.specs.Prelude.{slice_index, Contains, All}
-use Rattle.nk_field.proofs.Lists.{numbers_decided}
 use Rattle.nk_store.specs.Held.{Held, IsPacket}
 use Rattle.nk_determ.specs.Exact.{Sends}
 use Rattle.nk_determ.specs.Sets.{Differ, Ascend, SetsGrow}
@@ -13,52 +12,6 @@ use Rattle.nk_switches.proofs.Printing.{some_member, one_set}
 -- equal values that are there
 pub same_some : (a b : ℕ) → Some a ≡ Some b → a ≡ b
 same_some a b e = cc
-
--- no table at first
-pub table_first : (tags : List ℕ) (table : List (Option ℕ)) → get_or table 0 None ≡ Some 0 → ((u : ℕ) → 0 < u → get_or table u None ≡ None) → IsTagTable 0 tags table
-table_first tags table first none = record {
-  zero_is = first;
-  tagged = λ t lt. absurd (omega (arith, lt));
-  only = λ u t e. by u t e;
-}
-  where
-    by : (u t : ℕ) → get_or table u None ≡ Some t → ((u ≡ 0) × (t ≡ 0)) ⊎ ((i : ℕ) × (i < 0) × (u ≡ get_or tags i 0 + 1) × (t ≡ i + 1))
-    by zero t e = inl (refl, sym (same_some 0 t (sym first ∙ e)))
-    by (suc u) t e = let n = none (suc u) (omega arith) in let z : None ≡ Some t = sym n ∙ e in absurd cc
-
--- one tag more
-pub table_more : (sets i : ℕ) (tags : List ℕ) (table : List (Option ℕ)) → length table ≡ sets + 1 → All (λ s. s < sets) tags →
-    ((j k : ℕ) → j < length tags → k < length tags → get_or tags j 0 ≡ get_or tags k 0 → j ≡ k) → i < length tags → IsTagTable i tags table →
-    IsTagTable (i + 1) tags (set table (get_or tags i 0 + 1) (Some (i + 1)))
-table_more sets i tags table len known once lt k = record {
-  zero_is = let ne : 0 ≢ get_or tags i 0 + 1 = λ e. omega (arith, e) in get_or-set_other table (get_or tags i 0 + 1) 0 (Some (i + 1)) None ne ∙ k.zero_is;
-  tagged = λ t le. tagged t le (numbers_decided t i);
-  only = λ u t e. only u t e (numbers_decided u (get_or tags i 0 + 1));
-}
-  where
-    inside : get_or tags i 0 + 1 < length table
-    inside = let a = known i 0 lt in omega (arith, a, len)
-
-    tagged : (t : ℕ) → t < i + 1 → (t ≡ i) ⊎ (t ≡ i → ⊥) → get_or (set table (get_or tags i 0 + 1) (Some (i + 1))) (get_or tags t 0 + 1) None ≡ Some (t + 1)
-    tagged t le (inl e) =
-        ap (λ j. get_or (set table (get_or tags i 0 + 1) (Some (i + 1))) (get_or tags j 0 + 1) None) e
-        ∙ get_or-set_same table (get_or tags i 0 + 1) (Some (i + 1)) None inside ∙ ap (λ j. Some (j + 1)) (sym e)
-    tagged t le (inr ne) =
-        let less : t < i = omega (arith, le, ne) in
-        let other : get_or tags t 0 + 1 ≢ get_or tags i 0 + 1 = λ e. ne (once t i (omega (arith, less, lt)) lt (omega (arith, e))) in
-        get_or-set_other table (get_or tags i 0 + 1) (get_or tags t 0 + 1) (Some (i + 1)) None other ∙ k.tagged t less
-
-    only : (u t : ℕ) → get_or (set table (get_or tags i 0 + 1) (Some (i + 1))) u None ≡ Some t → (u ≡ get_or tags i 0 + 1) ⊎ (u ≡ get_or tags i 0 + 1 → ⊥) →
-        ((u ≡ 0) × (t ≡ 0)) ⊎ ((j : ℕ) × (j < i + 1) × (u ≡ get_or tags j 0 + 1) × (t ≡ j + 1))
-    only u t e (inl is) =
-        let value : Some (i + 1) ≡ Some t =
-        sym (get_or-set_same table (get_or tags i 0 + 1) (Some (i + 1)) None inside) ∙ ap (λ v. get_or (set table (get_or tags i 0 + 1) (Some (i + 1))) v None) (sym is) ∙ e in
-        inr (i, omega arith, is, sym (same_some (i + 1) t value))
-    only u t e (inr ne) =
-        ⊎_elim
-        (λ z. inl z)
-        (λ j. inr (j.0, omega (arith, j.1), j.2, j.3))
-        (k.only u t (sym (get_or-set_other table (get_or tags i 0 + 1) u (Some (i + 1)) None ne) ∙ e))
 
 module _ (st : Held) (first ss : List (List ℕ)) (states tags members : List ℕ) (sw d : ℕ) (table : List (Option ℕ)) (differ : Differ ss) (ascend : Ascend ss)
     (grew : SetsGrow first ss) (known : All (λ s. s < length first) tags) (more : length first ≤ length ss)

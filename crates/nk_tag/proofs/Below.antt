@@ -1,5 +1,5 @@
 -- The numbers of the sets of so many levels, level by level.
-use Rattle.std.proofs.Common.{◌≡◌, ℕ, zero, suc, ◌+◌, ◌<◌, ◌≤◌, ◌⊎◌, inl, inr, ⊎_elim, List, [], ◌∷◌, ◌++◌, length, length-take-le, get_or, take, refl, sym, subst, arith}
+use Rattle.std.proofs.Common.{ℕ, zero, suc, ◌+◌, ◌<◌, ◌≤◌, ◌⊎◌, inl, inr, ⊎_elim, List, [], ◌∷◌, ◌++◌, length, length-take-le, get_or, take, refl, sym, subst, arith}
 use Rattle.std.specs.Prelude.{AllPairs, Contains, slice_index_or}
 use Rattle.std.proofs.lemmas.List.Elements.{Contains-append_left, Contains-append_right, Contains-append_cases, Contains-get_or}
 use Rattle.std.proofs.lemmas.List.Kept.{AllPairs-cons}
@@ -84,14 +84,6 @@ first_of levels s n h =
     (λ r. (r.0, omega (arith, r.1), r.2))
     (λ none. absurd (none n (omega arith) h))
     (search_first levels s (suc n))
-
--- no level at all
-pub none_below : (ss : List (List ℕ)) (levels : ℕ → List (ℕ × ℕ)) (r : List ℕ) → r ≡ [] → AreBelow levels ss 0 r
-none_below ss levels r e = subst (λ l. AreBelow levels ss 0 l) (sym e) record {
-  exactly = λ s. (λ c. absurd (in_from_contains [] s c), λ h. absurd (omega (arith, h.1)));
-  once = tt;
-  in_order = λ i j d lt less. absurd (omega (arith, less));
-}
 
 -- one level more
 pub below_more : (ss : List (List ℕ)) (levels : ℕ → List (ℕ × ℕ)) (n : ℕ) (r new : List ℕ) → AreBelow levels ss n r

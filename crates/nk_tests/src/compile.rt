@@ -1,32 +1,27 @@
 //! How many tag sets a policy over a link needs.
-ghost use Rattle.std.specs.Prelude.{◌≤◌, All, IsUtf8};
+ghost use Rattle.std.specs.Prelude.{◌≤◌, All};
 ghost use Rattle.nk_lex.specs.Lex.{largest};
 
 use nk_compile::{CompileError, Refusal, tag_count};
 use nk_grammar::file;
 use nk_lex::{Token, tokens};
+use nk_names::Program;
 use nk_names::reading::program;
-use nk_names::{NamesError, Program};
 use std::alloc::Global;
 use std::test::Fail;
 
-/// The program of the tokens of a text; where they are none of a text, memory counts as run out.
-fn declared_by(alloc: Global, tokens: &[Token]) -> Result<Program, NamesError>
-    requires texts { All (λ t. IsUtf8 t.text) tokens.now }
+/// The program of the tokens of a text.
+fn declared_by(alloc: Global, tokens: &[Token]) -> Result<Program, Fail>
     requires small { All (λ t. t.value ≤ largest) tokens.now }
 {
-    match file(alloc, tokens) {
-        Ok(file) => program(alloc, &file),
-        Err(_) => Err(NamesError::NoMemory),
-    }
+    let tree = file(alloc, tokens)?;
+    Ok(program(alloc, &tree)?)
 }
 
-/// The program of a text, in the same way.
-fn declared(alloc: Global, text: &[u8]) -> Result<Program, NamesError> {
-    match tokens(alloc, text) {
-        Ok(tokens) => declared_by(alloc, &tokens),
-        Err(_) => Err(NamesError::NoMemory),
-    }
+/// The program of a text; of a text that is none the test fails with its fault.
+fn declared(alloc: Global, text: &[u8]) -> Result<Program, Fail> {
+    let read = tokens(alloc, text)?;
+    declared_by(alloc, &read)
 }
 
 #[test]

@@ -1,7 +1,7 @@
 //! A predicate of its own over a program of no declaration.
 use nk_field::{Fid, List};
-use nk_grammar::{Ast, File, Number, Word};
-use nk_lex::Bytes;
+use nk_grammar::{Ast, File};
+use nk_lex::{Bytes, Number, Word};
 use nk_names::reading::program;
 use nk_names::{FaultKind, NamesError, resolve};
 use nk_policy::Pol;
@@ -16,7 +16,7 @@ fn a_predicate_is_resolved(rt: HostRuntime) -> Result<(), Fail> {
     };
     let program = program(alloc, &empty)?;
     let field = Word {
-        text: Bytes::of(alloc, b"pt")?,
+        text: Bytes::of_text(alloc, "pt")?,
         line: 4,
     };
     let test = Ast::Test(field, Number { value: 7, line: 4 });

@@ -72,10 +72,6 @@ module _ (p : Policy) (Start : List ℕ → Type 0) where
       (λ s i. in_from_contains ys s ((k.exactly s).1 ((h.exactly s).0 (contains_from_in xs s i))))
       (λ s i. in_from_contains xs s ((h.exactly s).1 ((k.exactly s).0 (contains_from_in ys s i))))
 
--- a tag with its tree
-abbrev tagged : ℕ → TagTree → TagTree
-tagged t e = record { tag = t; tree = e.tree }
-
 module _ (fields : FieldTable) (few : length fields.maxima ≤ 18) (tag : ℕ) (p : Policy) (tags : List (List ℕ)) where
   -- the trees of a switch are one list
   one_tree_list : (sw : ℕ) → sw ≤ slice_index fields.maxima 0 → (xs ys : List TagTree) → map (λ e. e.tag) xs ≡ map (λ e. e.tag) ys

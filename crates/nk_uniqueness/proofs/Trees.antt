@@ -52,7 +52,7 @@ bucket_once : (tag : ℕ) (a b : Bucket) → IsBucketBefore tag a b → IsBucket
 bucket_once tag a b =
     lex_once IsListedBefore listed_once (bucket_key tag a) (bucket_key tag b) (listed_once (tag_of tag a) (tag_of tag b))
 
--- the bucket list of a state at a packet is one
+-- the bucket list of a tag at a packet is one
 pub one_bucket_list : (width tag : ℕ) (p : Policy) (tags : List (List ℕ)) (t : ℕ) (pk : List ℕ) (xs ys : List Bucket)
     → IsBucketList width tag p tags t pk xs → IsBucketList width tag p tags t pk ys → xs ≡ ys
 one_bucket_list width tag p tags t pk xs ys h k =
