@@ -1,5 +1,5 @@
 -- Ways from the start to what is reached, and that a shortest one passes each level.
-use Rattle.std.proofs.Common.{ℕ, ◌<◌, ◌+◌, ◌⊎◌, inl, inr, arith, []}
+use Rattle.std.proofs.Common.{ℕ, ◌<◌, ◌+◌, ◌⊎◌, inl, inr, arith}
 use Rattle.nk_reach.specs.Reach.{Reach, Exact}
 use Rattle.nk_reach.proofs.Graphs.{not_before, some_before}
 

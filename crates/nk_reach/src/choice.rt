@@ -60,7 +60,7 @@ fn is_ahead(st: &Store, target: u64, y: &Packet, next: &Entries) -> bool
     if target == 0 {
         return false;
     }
-    let t = SetId::new((target - 1) as usize);
+    let t = SetId::from_target(target);
     match next.under(t) {
         Some(q) => has(st, q, y),
         None => false,

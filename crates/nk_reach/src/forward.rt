@@ -60,7 +60,7 @@ pub(crate) fn next_packet(
     let outs = st.look(d, x);
     match least_ahead(st, outs, x, next) {
         Some(b) => {
-            let t = SetId::new((b.target - 1) as usize);
+            let t = SetId::from_target(b.target);
             Ok((t, b.packet))
         }
         None => unreachable!(),

@@ -99,7 +99,7 @@ fn pull(st: &mut Store, o: &Out, p: Id, next: &Entries) -> Result<Id, AllocError
         let none = empty(st)?;
         return Ok(none);
     }
-    let t = SetId::new((o.target - 1) as usize);
+    let t = SetId::from_target(o.target);
     match next.under(t) {
         Some(q) => {
             let before = preimage(st, &o.act, q)?;

@@ -338,7 +338,7 @@ fn text(alloc: Global, found: &ArgMatches, id: &str) -> Result<Bytes, WordsError
     match word(found, id) {
         Some(value) => match Bytes::of_text(alloc, value) {
             Ok(bytes) => Ok(bytes),
-            Err(_) => Err(WordsError::NoMemory),
+            Err(AllocError) => Err(WordsError::NoMemory),
         },
         None => Err(WordsError::Usage),
     }

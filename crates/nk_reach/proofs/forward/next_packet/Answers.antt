@@ -31,15 +31,21 @@ least_ahead-requires-clause-next c =
     each_weaker (λ p. IsSet c.args.st.now p.1) (λ p. IsSet c.state_at.new.st p.1) c.args.next.now (λ p q. set_grows c.args.st.now c.state_at.new.st p.1 c.state_at.ensures.grows q)
     (packets_of c.args.st.now c.args.ss.now (length c.args.states.now) c.args.next.now c.requires.next.each)
 
+pub from_target-t-requires : goal.from_target-t-requires
+from_target-t-requires c =
+    let best : IsBest (IsAhead c.state_at.new.st c.args.next.now c.args.x.now) c.args.x.now c.look-outs.result.now (length c.look-outs.result.now) c.in-Some.b = c.in-Some.ensures in
+    let low = best_positive c.state_at.new.st c.args.next.now c.args.x.now c.look-outs.result.now (length c.look-outs.result.now) c.in-Some.b best in
+    omega (arith, low)
+
 pub returns-clause-ok : goal.returns-clause-ok
 returns-clause-ok c =
     let best : IsBest (IsAhead c.state_at.new.st c.args.next.now c.args.x.now) c.args.x.now c.look-outs.result.now (length c.look-outs.result.now) c.in-Some.b = c.in-Some.ensures in
     let low = best_positive c.state_at.new.st c.args.next.now c.args.x.now c.look-outs.result.now (length c.look-outs.result.now) c.in-Some.b best in
-    next_least_of c.args.st.now c.state_at.new.st c.args.ss.now c.state_at.new.ss c.args.states.now (get_or c.args.ss.now c.args.s []) c.args.x.now c.packets_under-p.result c.in_ok-d.d c.new-t.result c.args.next.now c.in-Some.b
+    next_least_of c.args.st.now c.state_at.new.st c.args.ss.now c.state_at.new.ss c.args.states.now (get_or c.args.ss.now c.args.s []) c.args.x.now c.packets_under-p.result c.in_ok-d.d c.from_target-t.result c.args.next.now c.in-Some.b
     c.state_at.ensures.grows c.state_at.ensures.sets c.in_ok-d.ensures.differ c.requires.next c.in_ok-d.ensures.ok c.requires.packet
     (under_found c.args.st.now c.args.here.now c.args.s c.packets_under-p.result c.args.x.now c.requires.here.once c.packets_under-p.ensures c.requires.under)
     (subst (λ (os : List Out). IsBest (IsAhead c.state_at.new.st c.args.next.now c.args.x.now) c.args.x.now os (length os) c.in-Some.b) c.look-outs.ensures best)
-    (omega (arith, low, c.new-t.ensures))
+    (omega (arith, low, c.from_target-t.ensures))
 
 pub unreachable-requires : goal.unreachable-requires
 unreachable-requires c =
