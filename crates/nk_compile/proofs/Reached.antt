@@ -28,7 +28,7 @@ use Rattle.nk_names.proofs.Declared.{link_of, literal_declared, link_at_source}
 use Rattle.nk_table.specs.declared.Tables.{Tables}
 use Rattle.nk_table.specs.Rules.{sent_for}
 use Rattle.nk_table.specs.Hops.{moved_to}
-use Rattle.nk_compile.specs.PrintedTable.{IsState, StateRecords, IsResult}
+use Rattle.nk_compile.specs.PrintedTable.{IsOfTag, StateRecords, IsResult}
 use Rattle.nk_compile.specs.WholeTable.{HasRowsAt, link_end}
 use Rattle.nk_compile.proofs.LinkEnds.{end_of_literal}
 
@@ -61,14 +61,14 @@ pub record AtState (t : Tables) (p : Policy) (tag : ℕ) (tags : List (List ℕ)
   pub zero_tag : IsZeroAt tag x
   pub here : In (map (λ (s : SwitchPorts). s.switch) t.topo.switches) (slice_index x 0)
   pub rows : HasRowsAt p tags (slice_index x 0) tg
-  pub rests : (s : Policy) → IsState p tags tg s → IsRest t p tag s
+  pub rests : (s : Policy) → IsOfTag p tags tg s → IsRest t p tag s
 
 -- after the records u, 2 * k of them, runs from pk are at x, with the tag tg
 pub record Reached (t : Tables) (p : Policy) (tag : ℕ) (tags : List (List ℕ)) (pk : Packet) (k : ℕ) (u : List Packet) (tg : ℕ) (x : Packet) : Type 0 where
   pub size : length u ≡ 2 * k
   pub at : AtState t p tag tags tg x
   pub same : (y : Packet) (l : ℕ) → IsAt p pk (u ++ y ∷ []) l ↔ StateRecords p tags tg x y l
-  pub ends : (s : Policy) (z : Packet) → IsState p tags tg s → Gives s x [] z → Gives p pk u z
+  pub ends : (s : Policy) (z : Packet) → IsOfTag p tags tg s → Gives s x [] z → Gives p pk u z
 
 -- each packet sent for a copy is a result of its tag, with the result's tag, and each result is sent once
 abbrev pub Emits : Tables → Policy → ℕ → List (List ℕ) → Type 0
@@ -240,14 +240,14 @@ module _ (t : Tables) (p : Policy) (tag : ℕ) (tags : List (List ℕ)) (g : Set
       )
 
       next_ends :
-          (s : Policy) (y : Packet) → IsState p tags (suc t2) s → Gives s target [] y
+          (s : Policy) (y : Packet) → IsOfTag p tags (suc t2) s → Gives s target [] y
           → Gives p pk (u ++ z ∷ target ∷ []) y
       next_ends s y q gv =
           let m = is_member q.0 q.2 q.1 q.3 in
           let c = subst (λ s. Gives s target [] y) q.4 gv in
           subst (λ v. Gives p pk v y) (sym two) ((gives_at p g.distinct pk (u ++ z ∷ []) target y).1 (q.1 + 1, at_target q.1 m, c))
 
-      next_rests : (s : Policy) → IsState p tags (suc t2) s → IsRest t p tag s
+      next_rests : (s : Policy) → IsOfTag p tags (suc t2) s → IsRest t p tag s
       next_rests s q =
           let i = literal q.1 (is_member q.0 q.2 q.1 q.3) in
           subst (λ s. IsRest t p tag s) (sym q.4) (subst (λ j. IsRest t p tag (after p (j + 1))) i.2 (later_rest i.0 i.1))

@@ -28,7 +28,7 @@ use Rattle.nk_table.specs.declared.Table.{Table}
 use Rattle.nk_switches.specs.declared.stop.Stop.{Stop}
 use Rattle.nk_switches.specs.Tagged.{set_of, members_of, LeadsWith}
 use Rattle.nk_switches.specs.Made.{TagTree, rows_of_trees, IsTagTree, IsTableAt, IsTagAt}
-use Rattle.nk_compile.specs.PrintedTable.{IsState, StateRecords, IsResult, IsTreeOf}
+use Rattle.nk_compile.specs.PrintedTable.{IsOfTag, StateRecords, IsResult, IsTreeOf}
 use Rattle.nk_compile.specs.WholeTable.{HasRowsAt, IsSwitchTable}
 use Rattle.nk_compile.specs.Ready.{sets_of, IsClear, IsReady}
 use Rattle.nk_compile.proofs.Fitting.{set_up}
@@ -97,7 +97,7 @@ module _ (fields : FieldTable) (topo : Topology) (tag : ℕ) (p : Policy) (st : 
   }
 
   -- a member of a tag is one of its states
-  state_of_member : (t : ℕ) → t ≤ length tags → (l : ℕ) → Contains (members_of ss tags t) l → IsState p (sets_of ss tags) t (at_position p l)
+  state_of_member : (t : ℕ) → t ≤ length tags → (l : ℕ) → Contains (members_of ss tags t) l → IsOfTag p (sets_of ss tags) t (at_position p l)
   state_of_member zero le l c =
       ⊎_elim (λ e. ap (at_position p) e) (λ i. absurd i) (in_from_contains (0 ∷ []) l c)
   state_of_member (suc i) le l c =
@@ -105,7 +105,7 @@ module _ (fields : FieldTable) (topo : Topology) (tag : ℕ) (p : Policy) (st : 
       (set_of ss tags i, m.0, set_there ss tags i (omega (arith, le)), contains_from_in _ _ m.1, ap (at_position p) m.2 ∙ at_later p m.0)
 
   -- and each state is that of a member
-  member_of_state : (t : ℕ) (s : Policy) → IsState p (sets_of ss tags) t s → (l : ℕ) × Contains (members_of ss tags t) l × (at_position p l ≡ s)
+  member_of_state : (t : ℕ) (s : Policy) → IsOfTag p (sets_of ss tags) t s → (l : ℕ) × Contains (members_of ss tags t) l × (at_position p l ≡ s)
   member_of_state zero s e = (0, contains_from_in (0 ∷ []) 0 (inl refl), sym e)
   member_of_state (suc i) s h =
       let w = set_within ss tags i h.0 h.2 in

@@ -22,7 +22,7 @@ use Rattle.nk_names.specs.Accepted.{IsStart}
 use Rattle.nk_table.specs.declared.Tables.{Tables}
 use Rattle.nk_table.specs.Rules.{sent_for}
 use Rattle.nk_table.specs.Hops.{Copy, crossing, across, leaving, next_of, left_of, waiting, left_after, moved_to}
-use Rattle.nk_compile.specs.PrintedTable.{IsState, StateRecords, IsResult}
+use Rattle.nk_compile.specs.PrintedTable.{IsOfTag, StateRecords, IsResult}
 use Rattle.nk_compile.proofs.Reached.{Setting, AtState, Reached, Emits, past, erases, tagged_index, result_ok, next_literal, reached_first, reached_next}
 use Rattle.nk_compile.proofs.TagPlaces.{never_itself, one_place, place_of}
 
@@ -392,7 +392,7 @@ module _ (t : Tables) (p : Policy) (tag : ℕ) (tags : List (List ℕ)) (g : Set
         (lists_decided packets_decided c.records d.records)
 
     -- from a copy that waits, each history of its tag leaves after as many more crossings as it has pairs of records
-    arrives : (w : List Packet) (k : ℕ) (u : List Packet) (tg : ℕ) (x : Packet) → Reached t p tag tags pk k u tg x → In (waiting t k pk) (tagged u tg x) → (s : Policy) → IsState p tags tg s → (last : Packet) → Gives s x w last → (j : ℕ) → length w ≡ 2 * j → (In (left_after t (k + j) pk) record { records = u ++ w; packet = last } → ⊥) → ⊥
+    arrives : (w : List Packet) (k : ℕ) (u : List Packet) (tg : ℕ) (x : Packet) → Reached t p tag tags pk k u tg x → In (waiting t k pk) (tagged u tg x) → (s : Policy) → IsOfTag p tags tg s → (last : Packet) → Gives s x w last → (j : ℕ) → length w ≡ 2 * j → (In (left_after t (k + j) pk) record { records = u ++ w; packet = last } → ⊥) → ⊥
     arrives [] k u tg x r i s is last gv j e never =
         let none : k + j ≡ k = omega (arith, e) in
         never (subst (λ n. In (left_after t n pk) record { records = u ++ []; packet = last }) (sym none) (subst (λ v. In (left_after t k pk) record { records = v; packet = last }) (sym (append-nil u)) (in_joined (left_of t) (waiting t k pk) (tagged u tg x) record { records = u; packet = last } i (leaves k u tg x r last (s, is, gv)))))
@@ -420,7 +420,7 @@ module _ (t : Tables) (p : Policy) (tag : ℕ) (tags : List (List ℕ)) (g : Set
         let there = in_joined (next_of t) (waiting t k pk) (tagged u tg x) (tagged (u ++ y ∷ moved_to to y ∷ []) (suc place.0) (moved_to to y)) i here in
         let size : length w ≡ 2 * j = omega (arith, e) in
         let more : suc k + j ≡ k + suc j = omega arith in
-        let state : IsState p tags (suc place.0) (after p (a.0 + 1)) = (N, a.0, place.1, has, refl) in
+        let state : IsOfTag p tags (suc place.0) (after p (a.0 + 1)) = (N, a.0, place.1, has, refl) in
         let goes : Gives (after p (a.0 + 1)) (moved_to to y) w last =
         subst (λ q. Gives (after p (q + 1)) (moved_to to y) w last) lit.2 (subst (λ q. Gives (after p (lit.0.mark + 1)) q w last) on.1 (subst (λ q. Gives (after p q) y' w last) on.0 rest.2)) in
         arrives w (suc k) (u ++ y ∷ moved_to to y ∷ []) (suc place.0) (moved_to to y) next there (after p (a.0 + 1)) state last goes j size

@@ -12,17 +12,17 @@ use Rattle.nk_table.specs.declared.Bucket.{Bucket}
 use Rattle.nk_extract.specs.Buckets.{bucket_of, IsBucketBefore}
 
 -- the policies that a tag stands for: the whole policy for 0, else what is left after each second dup
-abbrev pub IsState : Policy → List (List ℕ) → ℕ → Policy → Type 0
-IsState p tags zero s = s ≡ p
-IsState p tags (suc t) s = (labels : List ℕ) × (l : ℕ) × (slice_get tags t ≡ Some labels) × Contains labels l × (s ≡ after p (l + 1))
+abbrev pub IsOfTag : Policy → List (List ℕ) → ℕ → Policy → Type 0
+IsOfTag p tags zero s = s ≡ p
+IsOfTag p tags (suc t) s = (labels : List ℕ) × (l : ℕ) × (slice_get tags t ≡ Some labels) × Contains labels l × (s ≡ after p (l + 1))
 
 -- some policy of the tag records x next, at dup l
 abbrev pub StateRecords : Policy → List (List ℕ) → ℕ → List ℕ → List ℕ → ℕ → Type 0
-StateRecords p tags t pk x l = (s : Policy) × IsState p tags t s × RecordsAt s pk [] x l
+StateRecords p tags t pk x l = (s : Policy) × IsOfTag p tags t s × RecordsAt s pk [] x l
 
 -- from pk the tag's policies lead to x, which goes on with the tag t'
 abbrev pub IsResult : Policy → List (List ℕ) → ℕ → List ℕ → List ℕ → ℕ → Type 0
-IsResult p tags t pk x zero = (s : Policy) × IsState p tags t s × Gives s pk [] x
+IsResult p tags t pk x zero = (s : Policy) × IsOfTag p tags t s × Gives s pk [] x
 IsResult p tags t pk x (suc t') =
     (labels : List ℕ) × (slice_get tags t' ≡ Some labels) × (labels ≢ []) × HasExactly (StateRecords p tags t pk x) labels
 

@@ -17,7 +17,7 @@ use Rattle.nk_table.specs.declared.Exit.TheVariants.{Back, Port}
 use Rattle.nk_tabtext.specs.ReadBack.{IsExit, IsBucketOf}
 use Rattle.nk_extract.specs.RuleTree.{put}
 use Rattle.nk_extract.specs.Buckets.{changes, bucket_of}
-use Rattle.nk_compile.specs.PrintedTable.{IsState, IsResult, IsBucketList}
+use Rattle.nk_compile.specs.PrintedTable.{IsOfTag, IsResult, IsBucketList}
 use Rattle.nk_readback.proofs.Climbs.{Climbs, climbs_within, put_ascends, in_put, differs, changes_climb}
 use Rattle.nk_compile.proofs.Fitting.{fronts}
 
@@ -31,7 +31,7 @@ some_member (x ∷ xs) h = (x, contains_from_in (x ∷ xs) x (inl refl))
 -- what a tag stands for sets fields to values in range
 state_in_range :
     (fields : FieldTable) (p : Policy) (tags : List (List ℕ)) (t : ℕ) (s : Policy) → IsInRange p fields
-    → IsState p tags t s → IsInRange s fields
+    → IsOfTag p tags t s → IsInRange s fields
 state_in_range fields p tags zero s h e = subst (λ q. IsInRange q fields) (sym e) h
 state_in_range fields p tags (suc t) s h e = subst (λ q. IsInRange q fields) (sym e.4) (after_in_range fields p (e.1 + 1) h)
 

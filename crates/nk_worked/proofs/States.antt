@@ -7,7 +7,7 @@ use Rattle.nk_policy.specs.Policy.{Policy}
 use Rattle.nk_policy.specs.After.{after}
 use Rattle.nk_policy.specs.Meaning.{Gives}
 use Rattle.nk_policy.specs.Progress.{RecordsAt}
-use Rattle.nk_compile.specs.PrintedTable.{IsState, IsResult}
+use Rattle.nk_compile.specs.PrintedTable.{IsOfTag, IsResult}
 use Rattle.nk_worked.specs.TwoSwitches.{over_one_link, behind_link, one_set}
 use Rattle.nk_worked.proofs.Crossing.{near, far, crossed, at_dups, recorded, rest_sets, rest_given, rest_records_nothing}
 
@@ -71,7 +71,7 @@ leads_over r = (
 )
 
 -- tag 1 stands for what is left after the link
-pub is_after_link : (s : Policy) → IsState over_one_link one_set 1 s → s ≡ behind_link
+pub is_after_link : (s : Policy) → IsOfTag over_one_link one_set 1 s → s ≡ behind_link
 is_after_link s h =
     let g = is_the_set 0 h.0 h.2 in
     let l : h.1 ≡ 1 = only_one 1 h.1 (subst (λ ls. Contains ls h.1) g.1 h.3) in
