@@ -30,7 +30,7 @@ use Rattle.nk_tabgrammar.specs.Terminal.{Terminal, name, number, mark, terminal_
 use Rattle.nk_tabgrammar.specs.Spelling.{spell_declaration, spell_group, spell_row, spell_table, spell_text}
 use Rattle.nk_tabgrammar.specs.Answer.{terminals, IsAnswer}
 use Rattle.nk_tabgrammar.specs.Machine.{written_of}
-use Rattle.nk_tabtext.specs.Values.{MaybeFault, fault_if, above, unless, checked, plain, fault_of, read_of, said_after}
+use Rattle.nk_tabtext.specs.Values.{FaultLine, line_if, line_above, unless_at, checked, plain, fault_of, read_of, said_after}
 use Rattle.nk_tabgrammar.proofs.Answering.{answers}
 
 -- ---- answers without fault
@@ -40,20 +40,20 @@ module _ {X : Type 0} where
   not_ok e x h = cc
 
   -- the value where there is no fault
-  pub unless_ok : (o : MaybeFault) (x y : X) → unless o x ≡ Ok y → (o ≡ None) × (x ≡ y)
+  pub unless_ok : (o : FaultLine) (x y : X) → unless_at o x ≡ Ok y → (o ≡ None) × (x ≡ y)
   unless_ok None x y e = (refl, ok_is x y e)
   unless_ok (Some l) x y e = absurd (not_ok (error.TableFault l) y e)
 
-  pub checked_ok : (o : MaybeFault) (r : Result X ReadError) (y : X) → checked o r ≡ Ok y → (o ≡ None) × (r ≡ Ok y)
+  pub checked_ok : (o : FaultLine) (r : Result X ReadError) (y : X) → checked o r ≡ Ok y → (o ≡ None) × (r ≡ Ok y)
   checked_ok None r y e = (refl, e)
   checked_ok (Some l) r y e = absurd (not_ok (error.TableFault l) y e)
 
 -- what is no fault isn't wrong
-pub not_wrong : (b : Bool) (line : ℕ) → fault_if b line ≡ None → b ≡ false
+pub not_wrong : (b : Bool) (line : ℕ) → line_if b line ≡ None → b ≡ false
 not_wrong true line e = absurd cc
 not_wrong false line e = refl
 
-pub within : (most : ℕ) (n : Number) → above most n ≡ None → n.value ≤ most
+pub within : (most : ℕ) (n : Number) → line_above most n ≡ None → n.value ≤ most
 within most n e = le most n.value (not_wrong (nat_lt most n.value) n.line e)
   where
     le : (m k : ℕ) → nat_lt m k ≡ false → k ≤ m

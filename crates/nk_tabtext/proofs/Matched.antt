@@ -13,7 +13,7 @@ use Rattle.nk_tabgrammar.specs.declared.written.ReadError.{ReadError}
 use Rattle.nk_tabtext.specs.InOrder.{MatchesAscend}
 use Rattle.nk_tabtext.specs.Text.{is_tag, is_exact, name_of}
 use Rattle.nk_declare.specs.Declarations.{is_from}
-use Rattle.nk_tabtext.specs.Values.{fault_if, unless, length_in, length_fault, ones_fault, match_read, put_match, matches_read}
+use Rattle.nk_tabtext.specs.Values.{line_if, unless_at, length_in, length_fault, ones_fault, match_read, put_match, matches_read}
 use Rattle.nk_tabtext.proofs.Keyed.{kept_where, match_field, matches_where, Below, Ascend, AtMostOne, both_miss, below_more, below_push, below_misses, above_misses, where_ascends, all_where, one_tag}
 use Rattle.nk_tabtext.proofs.Lines.{number_on, written_length, written_match}
 
@@ -67,22 +67,22 @@ equal a b e = grind (arith, nat_tests, e)
 module _ (version : ℕ) (line digits : ℕ) (m : ℕ × ℕ × ℕ) where
   abbrev of_digits : Option Number → Result (ℕ × ℕ × ℕ) ReadError
   of_digits l =
-      unless (first_of (length_fault version digits l) (ones_fault digits (length_in digits l) (number_on line m.1)))
+      unless_at (first_of (length_fault version digits l) (ones_fault digits (length_in digits l) (number_on line m.1)))
       (m.0, m.1, length_in digits l)
 
   zeros_fine : m.1 % 2 ^ (digits - m.2) ≡ 0 → ones_fault digits m.2 (number_on line m.1) ≡ None
-  zeros_fine z = ap (λ b. fault_if (not b) line) (equal (m.1 % 2 ^ (digits - m.2)) 0 z)
+  zeros_fine z = ap (λ b. line_if (not b) line) (equal (m.1 % 2 ^ (digits - m.2)) 0 z)
 
   digits_read : (b : Bool) → (m.2 == digits) ≡ b → 1 ≤ m.2 → m.2 ≤ digits → m.1 % 2 ^ (digits - m.2) ≡ 0 → (b ≡ false → version ≡ 2)
       → of_digits (written_length b line m.2) ≡ Ok m
   digits_read true e some most z v =
-      ap (λ k. unless (ones_fault digits k (number_on line m.1)) (m.0, m.1, k)) (sym (same m.2 digits e))
-      ∙ ap (λ f. unless f m) (zeros_fine z)
+      ap (λ k. unless_at (ones_fault digits k (number_on line m.1)) (m.0, m.1, k)) (sym (same m.2 digits e))
+      ∙ ap (λ f. unless_at f m) (zeros_fine z)
   digits_read false e some most z v =
-      ap (λ b. unless (first_of (fault_if (not b || ((m.2 == 0) || nat_lt digits m.2)) line) (ones_fault digits m.2 (number_on line m.1))) m) (equal version 2 (v refl))
-      ∙ ap (λ b. unless (first_of (fault_if (b || nat_lt digits m.2) line) (ones_fault digits m.2 (number_on line m.1))) m) (no_zero m.2 some)
-      ∙ ap (λ b. unless (first_of (fault_if b line) (ones_fault digits m.2 (number_on line m.1))) m) (no_more m.2 digits most)
-      ∙ ap (λ f. unless f m) (zeros_fine z)
+      ap (λ b. unless_at (first_of (line_if (not b || ((m.2 == 0) || nat_lt digits m.2)) line) (ones_fault digits m.2 (number_on line m.1))) m) (equal version 2 (v refl))
+      ∙ ap (λ b. unless_at (first_of (line_if (b || nat_lt digits m.2) line) (ones_fault digits m.2 (number_on line m.1))) m) (no_zero m.2 some)
+      ∙ ap (λ b. unless_at (first_of (line_if b line) (ones_fault digits m.2 (number_on line m.1))) m) (no_more m.2 digits most)
+      ∙ ap (λ f. unless_at f m) (zeros_fine z)
 
 -- it is read where no other of its field stands
 fine_read : (version : ℕ) (fs : FieldTable) (line : ℕ) (before : List (ℕ × ℕ × ℕ)) (m : ℕ × ℕ × ℕ) → IsFine version fs m
@@ -103,9 +103,9 @@ fine_read version fs line before m h none =
     answer : Option ℕ → (is_low taken above : Bool) → Result (ℕ × ℕ × ℕ) ReadError
     answer o is_low taken above =
         let digits = digits_of (slice_index fs.maxima (unwrap_or o 0)) in
-        unless
+        unless_at
         (first_of
-        (first_of (first_of (fault_if (not is_low) line) (fault_if taken line)) (fault_if above line))
+        (first_of (first_of (line_if (not is_low) line) (line_if taken line)) (line_if above line))
         (first_of (length_fault version digits length) (ones_fault digits (length_in digits length) (number_on line m.1))))
         (unwrap_or o 0, m.1, length_in digits length)
 

@@ -9,7 +9,7 @@ use Rattle.nk_field.specs.Act.{AscendsFrom, act_then}
 use Rattle.nk_field.proofs.Thens.{lay-less, lay-more}
 use Rattle.nk_tabtext.specs.Text.{is_tag, name_of}
 use Rattle.nk_declare.specs.Declarations.{is_from}
-use Rattle.nk_tabtext.specs.Values.{fault_if, unless, pair_read, pairs_read}
+use Rattle.nk_tabtext.specs.Values.{line_if, unless_at, pair_read, pairs_read}
 use Rattle.nk_tabtext.proofs.Keyed.{kept_where, set_field, sets_where, Below, Ascend, both_miss, below_more, below_push, both_below, ascend_push, below_misses, above_misses, no_tag}
 use Rattle.nk_tabtext.proofs.Lines.{written_pair}
 
@@ -37,10 +37,10 @@ AreGood fs low ms = AllByRecursion (IsGood fs low) ms
 good_read : (fs : FieldTable) (low line : ℕ) (before : List (ℕ × ℕ)) (m : ℕ × ℕ) → IsGood fs low m
     → list_any (λ s. s.0 == m.0) before ≡ false → pair_read fs low before (written_pair fs line m) ≡ Ok m
 good_read fs low line before m h none =
-    ap (λ o. unless (first_of (first_of (fault_if (not (is_from low o)) line) (fault_if (list_any (λ s. s.0 == unwrap_or o 0) before) line)) (fault_if (nat_lt (slice_index fs.maxima (unwrap_or o 0)) m.1) line)) (unwrap_or o 0, m.1)) h.0
-    ∙ ap (λ b. unless (first_of (first_of (fault_if (not b) line) (fault_if (list_any (λ s. s.0 == m.0) before) line)) (fault_if (nat_lt (slice_index fs.maxima m.0) m.1) line)) m) (from low m.0 h.1)
-    ∙ ap (λ b. unless (first_of (first_of None (fault_if b line)) (fault_if (nat_lt (slice_index fs.maxima m.0) m.1) line)) m) none
-    ∙ ap (λ b. unless (first_of (first_of None None) (fault_if b line)) m) (no_more m.1 (slice_index fs.maxima m.0) h.2)
+    ap (λ o. unless_at (first_of (first_of (line_if (not (is_from low o)) line) (line_if (list_any (λ s. s.0 == unwrap_or o 0) before) line)) (line_if (nat_lt (slice_index fs.maxima (unwrap_or o 0)) m.1) line)) (unwrap_or o 0, m.1)) h.0
+    ∙ ap (λ b. unless_at (first_of (first_of (line_if (not b) line) (line_if (list_any (λ s. s.0 == m.0) before) line)) (line_if (nat_lt (slice_index fs.maxima m.0) m.1) line)) m) (from low m.0 h.1)
+    ∙ ap (λ b. unless_at (first_of (first_of None (line_if b line)) (line_if (nat_lt (slice_index fs.maxima m.0) m.1) line)) m) none
+    ∙ ap (λ b. unless_at (first_of (first_of None None) (line_if b line)) m) (no_more m.1 (slice_index fs.maxima m.0) h.2)
   where
     from : (a b : ℕ) → a ≤ b → nat_le a b ≡ true
     from a b le = grind (arith, nat_tests)

@@ -16,7 +16,7 @@ use Rattle.nk_tabgrammar.specs.declared.written.ReadError.TheVariants as error
 use Rattle.nk_declare.proofs.Kept.{both_ok}
 use Rattle.nk_declare.specs.Declarations.{DeclaredValue, nothing_declared}
 use Rattle.nk_tabgrammar.specs.Machine.{written_of, Returns}
-use Rattle.nk_tabtext.specs.Values.{version_fault, fault_if, unless, said_after, tables_read, table_for, whole, tables_from, lexed, tables_of}
+use Rattle.nk_tabtext.specs.Values.{version_fault, line_if, unless_at, said_after, tables_read, table_for, whole, tables_from, lexed, tables_of}
 use Rattle.nk_lex.specs.Spans.{last_line}
 use Rattle.nk_tabtext.specs.ReadBack.{IsPrintable, IsTableOf}
 use Rattle.nk_tabtext.proofs.HeadKept.{checked_ok, unless_ok, not_wrong, of_text, IsDeclarationOfText, IsTableOfText, IsSaid, declared_fits}
@@ -52,11 +52,11 @@ from_is : (line : ℕ) (x : WrittenTables) (t : Tables) → AllByRecursion IsDec
 from_is line x t ds ts e =
     let q = checked_ok (version_fault x.version) _ t e in
     let said = both_ok (said_after x.declarations nothing_declared)
-    (λ s. and_then (tables_read x.version.value s [] x.tables) (λ es. unless (fault_if (is_none s.fields.tag) line) (whole s es))) t q.1 in
+    (λ s. and_then (tables_read x.version.value s [] x.tables) (λ es. unless_at (line_if (is_none s.fields.tag) line) (whole s es))) t q.1 in
     let s = said.0 in
-    let read = both_ok (tables_read x.version.value s [] x.tables) (λ es. unless (fault_if (is_none s.fields.tag) line) (whole s es)) t said.2 in
+    let read = both_ok (tables_read x.version.value s [] x.tables) (λ es. unless_at (line_if (is_none s.fields.tag) line) (whole s es)) t said.2 in
     let fits : IsSaid s = declared_fits x.declarations s ds said.1 in
-    let last = unless_ok (fault_if (is_none s.fields.tag) line) (whole s read.0) t read.2 in
+    let last = unless_ok (line_if (is_none s.fields.tag) line) (whole s read.0) t read.2 in
     subst IsPrintable last.1 (whole_is s read.0 fits
     (some_tag s.fields.tag (not_wrong (is_none s.fields.tag) line last.0))
     (tables_kept x.version.value s fits.fields.table [] x.tables read.0 ts tt tt read.1))

@@ -24,7 +24,7 @@ use Rattle.nk_declare.specs.Declarations.{DeclaredValue, nothing_declared, decla
 use Rattle.nk_declare.specs.Kept.{IsWritable}
 use Rattle.nk_tabgrammar.specs.Machine.{written_of}
 use Rattle.nk_tabtext.specs.Text.{name_of, have_prefix, field_lines, tag_line, switch_text, link_text, section_text, version_of, version_text, table_bytes}
-use Rattle.nk_tabtext.specs.Values.{fault_if, unless, checked, plain, read_of, said_after, tables_read, table_for, whole, tables_from, lexed}
+use Rattle.nk_tabtext.specs.Values.{line_if, unless_at, checked, plain, read_of, said_after, tables_read, table_for, whole, tables_from, lexed}
 use Rattle.nk_lex.specs.Spans.{last_line}
 use Rattle.nk_lex.specs.Faults.{and_then}
 use Rattle.nk_tabtext.specs.ReadBack.{IsPrintable, IsReadBack, IsTableOf}
@@ -221,15 +221,15 @@ all_said t f h =
 
 values : (t : Tables) (f line : ℕ) → Fits t f → tables_from line (written t f) ≡ Ok t
 values t f line h =
-    ap (λ b. checked (fault_if (not b) 1) (and_then (said_after (head_declared t f) nothing_declared) rest)) (version_known (some_prefix t))
+    ap (λ b. checked (line_if (not b) 1) (and_then (said_after (head_declared t f) nothing_declared) rest)) (version_known (some_prefix t))
     ∙ ap (λ r. and_then (read_of r) rest) (all_said t f h)
-    ∙ ap (λ r. and_then r (λ ts. unless (fault_if (is_none t.fields.tag) line) (whole (value_of t) ts))) (tables_back (version_of t) (value_of t) (tables_at t) 0 [] t.tables tt h.tables_good)
-    ∙ ap (λ o. unless (fault_if (is_none o) line) (whole (value_of t) (map table_entry t.tables))) h.tag
+    ∙ ap (λ r. and_then r (λ ts. unless_at (line_if (is_none t.fields.tag) line) (whole (value_of t) ts))) (tables_back (version_of t) (value_of t) (tables_at t) 0 [] t.tables tt h.tables_good)
+    ∙ ap (λ o. unless_at (line_if (is_none o) line) (whole (value_of t) (map table_entry t.tables))) h.tag
     ∙ ap (λ ns. Ok (record { fields = t.fields; topo = t.topo; tables = map (table_for (map table_entry t.tables)) ns })) (sym h.each)
     ∙ ap (λ ts. Ok (record { fields = t.fields; topo = t.topo; tables = ts })) (each_is 0 [] t.tables tt h.tables_rise)
   where
     rest : DeclaredValue → Result Tables ReadError
-    rest s = and_then (tables_read (version_of t) s [] (written_tables t.fields (tables_at t) t.tables)) (λ ts. unless (fault_if (is_none s.fields.tag) line) (whole s ts))
+    rest s = and_then (tables_read (version_of t) s [] (written_tables t.fields (tables_at t) t.tables)) (λ ts. unless_at (line_if (is_none s.fields.tag) line) (whole s ts))
 
 -- ---- what printable tables are
 

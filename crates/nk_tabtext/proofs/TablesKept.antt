@@ -39,7 +39,7 @@ use Rattle.nk_tabgrammar.specs.declared.written.ReadError.{ReadError}
 use Rattle.nk_tabgrammar.specs.declared.written.ReadError.TheVariants as error
 use Rattle.nk_declare.proofs.Checks.{none_both}
 use Rattle.nk_declare.specs.Declarations.{DeclaredValue, is_from}
-use Rattle.nk_tabtext.specs.Values.{fault_if, above, unless, pair_read, pairs_read, length_in, length_fault, ones_fault, match_read, put_match, matches_read, way_read, bucket_of, bucket_read, buckets_read, has_key, group_fault, group_of, group_read, groups_read, target_read, row_with, row_read, rows_read, table_of, table_read, tables_read, empty_table, table_for}
+use Rattle.nk_tabtext.specs.Values.{line_if, line_above, unless_at, pair_read, pairs_read, length_in, length_fault, ones_fault, match_read, put_match, matches_read, way_read, bucket_of, bucket_read, buckets_read, has_key, group_fault, group_of, group_read, groups_read, target_read, row_with, row_read, rows_read, table_of, table_read, tables_read, empty_table, table_for}
 use Rattle.nk_tabtext.specs.InOrder.{MatchesAscend}
 use Rattle.nk_tabtext.specs.ReadBack.{IsExit, IsBucketOf, IsGroupOf, IsTargetOf, IsMatchOf, IsRowOf, IsTableOf}
 use Rattle.nk_tabtext.proofs.Valued.{above_key, same_test}
@@ -72,10 +72,10 @@ pair_kept fs is low before p s e = by (field_named fs p.name.text) refl e
   where
     read : Option ℕ → Result (ℕ × ℕ) ReadError
     read o =
-        unless
+        unless_at
         (first_of
-        (first_of (fault_if (not (is_from low o)) p.name.line) (fault_if (list_any (λ x. x.0 == unwrap_or o 0) before) p.name.line))
-        (fault_if (nat_lt (slice_index fs.maxima (unwrap_or o 0)) p.number.value) p.number.line))
+        (first_of (line_if (not (is_from low o)) p.name.line) (line_if (list_any (λ x. x.0 == unwrap_or o 0) before) p.name.line))
+        (line_if (nat_lt (slice_index fs.maxima (unwrap_or o 0)) p.number.value) p.number.line))
         (unwrap_or o 0, p.number.value)
 
     le : (m k : ℕ) → nat_lt m k ≡ false → k ≤ m
@@ -140,11 +140,11 @@ match_kept version fs is before m s e = by (field_named fs m.name.text) refl e
 
     read : Option ℕ → Result (ℕ × ℕ × ℕ) ReadError
     read o =
-        unless
+        unless_at
         (first_of
         (first_of
-        (first_of (fault_if (not (is_from 1 o)) m.name.line) (fault_if (list_any (λ x. x.0 == unwrap_or o 0) before) m.name.line))
-        (fault_if (nat_lt (slice_index fs.maxima (unwrap_or o 0)) m.number.value) m.number.line))
+        (first_of (line_if (not (is_from 1 o)) m.name.line) (line_if (list_any (λ x. x.0 == unwrap_or o 0) before) m.name.line))
+        (line_if (nat_lt (slice_index fs.maxima (unwrap_or o 0)) m.number.value) m.number.line))
         (first_of (length_fault version (digits o) m.length) (ones_fault (digits o) (length_in (digits o) m.length) m.number)))
         (unwrap_or o 0, m.number.value, length_in (digits o) m.length)
 
@@ -229,7 +229,7 @@ push_all P (y ∷ xs) x h p = (h.0, push_all P xs x h.1 p)
 
 exit_kept : (w : Way) (e : Exit) → way_read w ≡ Ok e → IsExit e
 exit_kept way.Back e h = subst IsExit (ok_is exit.Back e h) tt
-exit_kept (way.Port n) e h = let r = unless_ok (above 65535 n) (exit.Port n.value) e h in subst IsExit r.1 (within 65535 n r.0)
+exit_kept (way.Port n) e h = let r = unless_ok (line_above 65535 n) (exit.Port n.value) e h in subst IsExit r.1 (within 65535 n r.0)
 
 module _ (fs : FieldTable) (is : IsFieldTable fs) where
   bucket_kept : (b : WrittenBucket) (x : Bucket) → bucket_read fs b ≡ Ok x → IsBucketOf fs x
@@ -324,7 +324,7 @@ groups_rise : (fs : FieldTable) (low : ℕ) (es : List (ℕ × Group)) → KeysR
     → InOrder (λ g k. g.number < k.number) (groups_in es)
 groups_rise fs low [] up h = tt
 groups_rise fs low (e ∷ es) up h = (
-  (λ g i. let above = groups_above fs (e.0 + 1) es up.1 h.1 g i in omega (arith, above, h.0.0)),
+  (λ g i. let line_above = groups_above fs (e.0 + 1) es up.1 h.1 g i in omega (arith, line_above, h.0.0)),
   groups_rise fs (e.0 + 1) es up.1 h.1,
 )
 
@@ -382,14 +382,14 @@ module _ (fs : FieldTable) (is : IsFieldTable fs) where
       let r = both_ok (bucket_read fs b) (λ y. Ok (does.Bucket y)) x e in
       subst (IsTargetOf fs (groups_in es)) (ok_is (does.Bucket r.0) x r.2) (bucket_kept fs is b r.0 r.1)
   target_kept es (target.Group n) x h e =
-      let r = unless_ok (fault_if (not (has_key es n.value)) n.line) (does.Group n.value) x e in
+      let r = unless_ok (line_if (not (has_key es n.value)) n.line) (does.Group n.value) x e in
       subst (IsTargetOf fs (groups_in es)) r.1 (key_there fs es n.value h (holds _ (not_wrong _ n.line r.0)))
   target_kept es target.Discard x h e = subst (IsTargetOf fs (groups_in es)) (ok_is does.Discard x e) tt
 
   row_kept : (version : ℕ) (es : List (ℕ × Group)) (r : WrittenRow) (x : Row) → AllByRecursion (IsGroupEntry fs) es → row_read version fs es r ≡ Ok x
       → IsRowOf fs (groups_in es) x
   row_kept version es r x h e =
-      let q = checked_ok (above 65535 r.priority) _ x e in
+      let q = checked_ok (line_above 65535 r.priority) _ x e in
       let ms = both_ok (matches_read version fs [] r.matches) (λ m. and_then (target_read fs es r.target) (λ t. Ok (row_with r.priority m t))) x q.1 in
       let to = both_ok (target_read fs es r.target) (λ t. Ok (row_with r.priority ms.0 t)) x ms.2 in
       let all : AreMatches fs ms.0 = matches_kept version fs is [] r.matches ms.0 (tt, tt) ms.1 in

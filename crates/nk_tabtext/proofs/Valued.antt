@@ -21,7 +21,7 @@ use Rattle.nk_table.specs.declared.Exit.{Exit}
 use Rattle.nk_table.specs.declared.Exit.TheVariants as exit
 use Rattle.nk_tabgrammar.specs.declared.written.WrittenTable.{WrittenTable}
 use Rattle.nk_declare.specs.Declarations.{DeclaredValue}
-use Rattle.nk_tabtext.specs.Values.{fault_if, unless, checked, way_read, bucket_of, bucket_read, buckets_read, has_key, group_of, group_fault, group_read, groups_read, target_read, row_with, row_read, rows_read, table_fault, table_of, table_read, tables_read, empty_table, table_for, matches_read}
+use Rattle.nk_tabtext.specs.Values.{line_if, unless_at, checked, way_read, bucket_of, bucket_read, buckets_read, has_key, group_of, group_fault, group_read, groups_read, target_read, row_with, row_read, rows_read, table_fault, table_of, table_read, tables_read, empty_table, table_for, matches_read}
 use Rattle.nk_tabtext.specs.ReadBack.{IsExit}
 use Rattle.nk_tabtext.proofs.Lines.{number_on, written_way, written_bucket}
 use Rattle.nk_tabtext.proofs.TableLines.{HasOne, group_with, written_group, written_groups, written_target, written_row, written_rows, behind, written_tables}
@@ -44,7 +44,7 @@ AreBucketsGood fs (b ∷ bs) = IsBucketGood fs b × AreBucketsGood fs bs
 
 way_back : (line : ℕ) (e : Exit) → IsExit e → way_read (written_way line e) ≡ Ok e
 way_back line exit.Back h = refl
-way_back line (exit.Port n) h = ap (λ b. unless (fault_if b line) (exit.Port n)) (not_above n 65535 h)
+way_back line (exit.Port n) h = ap (λ b. unless_at (line_if b line) (exit.Port n)) (not_above n 65535 h)
 
 bucket_back : (fs : FieldTable) (line : ℕ) (b : Bucket) → IsBucketGood fs b → bucket_read fs (written_bucket fs line b) ≡ Ok b
 bucket_back fs line b h =
@@ -133,8 +133,8 @@ group_back fs line before g low keys h one = by g.buckets h one
 
     fine : group_fault before (number_on line g.number) ≡ None
     fine =
-        ap (λ b. fault_if (b || has_key before g.number) line) (not_zero g.number low)
-        ∙ ap (λ o. fault_if (is_some o) line) (no_key g.number before keys)
+        ap (λ b. line_if (b || has_key before g.number) line) (not_zero g.number low)
+        ∙ ap (λ o. line_if (is_some o) line) (no_key g.number before keys)
 
     by : (bs : List Bucket) → AreBucketsGood fs bs → HasOne bs
         → group_read fs before (group_with fs line g.number bs) ≡ Ok (record { number = g.number; buckets = bs })
@@ -201,7 +201,7 @@ AreRowsGood version fs gs (w ∷ ws) =
 target_back : (fs : FieldTable) (line : ℕ) (gs : List Group) (t : Target) → IsTargetGood fs gs t
     → target_read fs (map group_entry gs) (written_target fs line t) ≡ Ok t
 target_back fs line gs (does.Bucket b) h = ap (λ r. and_then r (λ x. Ok (does.Bucket x))) (bucket_back fs line b h)
-target_back fs line gs (does.Group n) h = ap (λ b. unless (fault_if (not b) line) (does.Group n)) (group_there n gs h)
+target_back fs line gs (does.Group n) h = ap (λ b. unless_at (line_if (not b) line) (does.Group n)) (group_there n gs h)
 target_back fs line gs does.Discard h = refl
 
 rows_back : (version : ℕ) (fs : FieldTable) (line : ℕ) (gs : List Group) (before ws : List Row) → AreRowsGood version fs gs ws
@@ -217,7 +217,7 @@ rows_back version fs line gs before (w ∷ ws) h =
 
     one : row_read version fs es (written_row fs line w) ≡ Ok w
     one =
-        ap (λ b. checked (fault_if b line) (and_then (matches_read version fs [] (written_row fs line w).matches) (λ ms. and_then (target_read fs es (written_target fs line w.target)) (λ t. Ok (row_with (number_on line w.priority) ms t))))) (not_above w.priority 65535 h.0.0)
+        ap (λ b. checked (line_if b line) (and_then (matches_read version fs [] (written_row fs line w).matches) (λ ms. and_then (target_read fs es (written_target fs line w.target)) (λ t. Ok (row_with (number_on line w.priority) ms t))))) (not_above w.priority 65535 h.0.0)
         ∙ ap (λ r. and_then r (λ ms. and_then (target_read fs es (written_target fs line w.target)) (λ t. Ok (row_with (number_on line w.priority) ms t)))) (tag_first version fs line 1 w.matches h.0.1 h.0.2)
         ∙ ap (λ r. and_then r (λ t. Ok (row_with (number_on line w.priority) w.matches t))) (target_back fs line gs w.target h.0.3)
 
@@ -258,9 +258,9 @@ tables_back version s line low before (t ∷ ts) keys h =
 
     fine : table_fault s.topo before (number_on line t.switch) ≡ None
     fine =
-        ap (λ b. first_of (fault_if b line) (fault_if (not (is_switch s.topo t.switch) || has_key before t.switch) line)) (not_above t.switch 65535 h.0.1)
-        ∙ ap (λ b. fault_if (not b || has_key before t.switch) line) h.0.2
-        ∙ ap (λ o. fault_if (is_some o) line) (no_key t.switch before below)
+        ap (λ b. first_of (line_if b line) (line_if (not (is_switch s.topo t.switch) || has_key before t.switch) line)) (not_above t.switch 65535 h.0.1)
+        ∙ ap (λ b. line_if (not b || has_key before t.switch) line) h.0.2
+        ∙ ap (λ o. line_if (is_some o) line) (no_key t.switch before below)
 
     one : table_read version s before (record { switch = number_on line t.switch; groups = written_groups s.fields (line + 1) t.groups; rows = written_rows s.fields rl t.rows }) ≡ Ok t
     one =

@@ -49,24 +49,24 @@ use Rattle.nk_declare.specs.Declarations as declare
 use Rattle.nk_tabgrammar.specs.Machine.{written_of}
 
 -- the line of a fault, or none
-abbrev pub MaybeFault : Type 0
-MaybeFault = Option ℕ
+abbrev pub FaultLine : Type 0
+FaultLine = Option ℕ
 
 -- a fault on this line, where something is wrong
-abbrev pub fault_if : Bool → ℕ → MaybeFault
-fault_if wrong line = if wrong then Some line else None
+abbrev pub line_if : Bool → ℕ → FaultLine
+line_if wrong line = if wrong then Some line else None
 
 -- a number above a bound
-abbrev pub above : ℕ → Number → MaybeFault
-above most n = fault_if (nat_lt most n.value) n.line
+abbrev pub line_above : ℕ → Number → FaultLine
+line_above most n = line_if (nat_lt most n.value) n.line
 
 -- the value, unless there is a fault
-abbrev pub unless : {X : Type 0} → MaybeFault → X → Result X ReadError
-unless None x = Ok x
-unless (Some line) x = Err (error.TableFault line)
+abbrev pub unless_at : {X : Type 0} → FaultLine → X → Result X ReadError
+unless_at None x = Ok x
+unless_at (Some line) x = Err (error.TableFault line)
 
 -- the rest, unless there is a fault
-abbrev pub checked : {X : Type 0} → MaybeFault → Result X ReadError → Result X ReadError
+abbrev pub checked : {X : Type 0} → FaultLine → Result X ReadError → Result X ReadError
 checked None rest = rest
 checked (Some line) rest = Err (error.TableFault line)
 
@@ -96,22 +96,22 @@ said_after ds s = read_of (declared_after (map plain ds) s)
 -- ---- the tables of switches
 
 -- a field with a value: its name is that of a field from `low` on which is not taken, and the value is in its range
-abbrev pub value_fault : FieldTable → (low : ℕ) → (taken : Bool) → Word → Number → MaybeFault
+abbrev pub value_fault : FieldTable → (low : ℕ) → (taken : Bool) → Word → Number → FaultLine
 value_fault fields low taken w n =
     first_of
     (first_of
-    (fault_if (not (is_from low (field_named fields w.text))) w.line)
-    (fault_if taken w.line))
-    (above (most_in fields w) n)
+    (line_if (not (is_from low (field_named fields w.text))) w.line)
+    (line_if taken w.line))
+    (line_above (most_in fields w) n)
 
 -- an assignment behind others: its field, from `low` on, has none of them
-abbrev pub pair_fault : FieldTable → (low : ℕ) → List (ℕ × ℕ) → Pair → MaybeFault
+abbrev pub pair_fault : FieldTable → (low : ℕ) → List (ℕ × ℕ) → Pair → FaultLine
 pair_fault fields low before p =
     value_fault fields low (list_any (λ s. s.0 == place_in fields p.name) before) p.name p.number
 
 -- the field and the value
 abbrev pub pair_read : FieldTable → (low : ℕ) → List (ℕ × ℕ) → Pair → Result (ℕ × ℕ) ReadError
-pair_read fields low before p = unless (pair_fault fields low before p) (place_in fields p.name, p.number.value)
+pair_read fields low before p = unless_at (pair_fault fields low before p) (place_in fields p.name, p.number.value)
 
 -- all of them, by field
 abbrev pub pairs_read : FieldTable → (low : ℕ) → List (ℕ × ℕ) → List Pair → Result (List (ℕ × ℕ)) ReadError
@@ -129,17 +129,17 @@ length_in digits None = digits
 length_in digits (Some l) = l.value
 
 -- a length is written in a text of version 2 alone, and at least one digit counts, at most all
-abbrev pub length_fault : (version digits : ℕ) → Option Number → MaybeFault
+abbrev pub length_fault : (version digits : ℕ) → Option Number → FaultLine
 length_fault version digits None = None
 length_fault version digits (Some l) =
-    fault_if (not (version == 2) || ((l.value == 0) || nat_lt digits l.value)) l.line
+    line_if (not (version == 2) || ((l.value == 0) || nat_lt digits l.value)) l.line
 
 -- behind the digits that count a value has zeros
-abbrev pub ones_fault : (digits length : ℕ) → Number → MaybeFault
-ones_fault digits length n = fault_if (not (n.value % 2 ^ (digits - length) == 0)) n.line
+abbrev pub ones_fault : (digits length : ℕ) → Number → FaultLine
+ones_fault digits length n = line_if (not (n.value % 2 ^ (digits - length) == 0)) n.line
 
 -- a match behind others: its field, but the switch, has none of them; last it is looked at its digits
-abbrev pub match_fault : (version : ℕ) → FieldTable → List (ℕ × ℕ × ℕ) → WrittenMatch → MaybeFault
+abbrev pub match_fault : (version : ℕ) → FieldTable → List (ℕ × ℕ × ℕ) → WrittenMatch → FaultLine
 match_fault version fields before m =
     let digits = digits_in fields m.name in
     first_of
@@ -149,7 +149,7 @@ match_fault version fields before m =
 -- the field, the value and how many of its digits count
 abbrev pub match_read : (version : ℕ) → FieldTable → List (ℕ × ℕ × ℕ) → WrittenMatch → Result (ℕ × ℕ × ℕ) ReadError
 match_read version fields before m =
-    unless (match_fault version fields before m)
+    unless_at (match_fault version fields before m)
     (place_in fields m.name, m.number.value, length_in (digits_in fields m.name) m.length)
 
 -- a match put behind those of lower fields
@@ -165,7 +165,7 @@ matches_read version fields before (m ∷ ms) =
 -- an exit: its number is a port's
 abbrev pub way_read : Way → Result Exit ReadError
 way_read way.Back = Ok exit.Back
-way_read (way.Port n) = unless (above 65535 n) (exit.Port n.value)
+way_read (way.Port n) = unless_at (line_above 65535 n) (exit.Port n.value)
 
 -- a bucket by its parts
 abbrev pub bucket_of : List (ℕ × ℕ) → Exit → Bucket
@@ -187,8 +187,8 @@ abbrev pub has_key : {X : Type 0} → List (ℕ × X) → ℕ → Bool
 has_key entries n = is_some (lookup (is_at (nat_cmp n)) entries)
 
 -- a group's number is at least 1, and new
-abbrev pub group_fault : List (ℕ × Group) → Number → MaybeFault
-group_fault before n = fault_if ((n.value == 0) || has_key before n.value) n.line
+abbrev pub group_fault : List (ℕ × Group) → Number → FaultLine
+group_fault before n = line_if ((n.value == 0) || has_key before n.value) n.line
 
 -- a group by its parts
 abbrev pub group_of : Number → List Bucket → Group
@@ -209,7 +209,7 @@ groups_read fields before (g ∷ gs) =
 -- a target: a group is one of the table's
 abbrev pub target_read : FieldTable → List (ℕ × Group) → WrittenTarget → Result Target ReadError
 target_read fields groups (target.Bucket b) = and_then (bucket_read fields b) (λ x. Ok (does.Bucket x))
-target_read fields groups (target.Group n) = unless (fault_if (not (has_key groups n.value)) n.line) (does.Group n.value)
+target_read fields groups (target.Group n) = unless_at (line_if (not (has_key groups n.value)) n.line) (does.Group n.value)
 target_read fields groups target.Discard = Ok does.Discard
 
 -- a row by its parts
@@ -219,7 +219,7 @@ row_with p ms t = record { priority = p.value; matches = ms; target = t }
 -- a row: it matches fields but the switch
 abbrev pub row_read : (version : ℕ) → FieldTable → List (ℕ × Group) → WrittenRow → Result Row ReadError
 row_read version fields groups r =
-    checked (above 65535 r.priority)
+    checked (line_above 65535 r.priority)
     (and_then (matches_read version fields [] r.matches) (λ ms. and_then (target_read fields groups r.target) (λ t. Ok (row_with r.priority ms t))))
 
 -- rows behind others
@@ -229,9 +229,9 @@ rows_read version fields groups before (r ∷ rs) =
     and_then (row_read version fields groups r) (λ x. rows_read version fields groups (before ++ x ∷ []) rs)
 
 -- a table's switch is declared, and has no table before
-abbrev pub table_fault : Topology → List (ℕ × Table) → Number → MaybeFault
+abbrev pub table_fault : Topology → List (ℕ × Table) → Number → FaultLine
 table_fault topo before n =
-    first_of (above 65535 n) (fault_if (not (is_switch topo n.value) || has_key before n.value) n.line)
+    first_of (line_above 65535 n) (line_if (not (is_switch topo n.value) || has_key before n.value) n.line)
 
 -- a table by its parts
 abbrev pub table_of : Number → List (ℕ × Group) → List Row → Table
@@ -260,8 +260,8 @@ table_for tables sw = unwrap_or (lookup (is_at (nat_cmp sw)) tables) (empty_tabl
 -- ---- the whole
 
 -- the number behind the word `tables` is 1 or 2
-abbrev pub version_fault : Number → MaybeFault
-version_fault n = fault_if (not ((n.value == 1) || (n.value == 2))) n.line
+abbrev pub version_fault : Number → FaultLine
+version_fault n = line_if (not ((n.value == 1) || (n.value == 2))) n.line
 
 -- the tables of all declared switches
 abbrev pub whole : DeclaredValue → List (ℕ × Table) → Tables
@@ -272,7 +272,7 @@ abbrev pub tables_from : ℕ → WrittenTables → Result Tables ReadError
 tables_from line x =
     checked (version_fault x.version)
     (and_then (said_after x.declarations nothing_declared)
-    (λ s. and_then (tables_read x.version.value s [] x.tables) (λ ts. unless (fault_if (is_none s.fields.tag) line) (whole s ts))))
+    (λ s. and_then (tables_read x.version.value s [] x.tables) (λ ts. unless_at (line_if (is_none s.fields.tag) line) (whole s ts))))
 
 -- a lexical fault
 abbrev pub lexed : {X : Type 0} → Result X LexError → Result X ReadError

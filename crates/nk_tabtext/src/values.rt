@@ -6,7 +6,7 @@ ghost use Rattle.nk_tabgrammar.specs.Machine.{Returns};
 ghost use Rattle.nk_tabtext.specs.Values.{
   bucket_read,
   buckets_read,
-  fault_if,
+  line_if,
   group_fault,
   group_read,
   groups_read,
@@ -22,9 +22,9 @@ ghost use Rattle.nk_tabtext.specs.Values.{
   row_read,
   rows_read,
   target_read,
-  unless,
+  unless_at,
   way_read,
-  above,
+  line_above,
 };
 
 use nk_declare::field_with;
@@ -46,7 +46,7 @@ pub(crate) type Groups = BTreeMap<u64, Group>;
 
 /// Ends with a table fault on the line, where something is wrong.
 pub(crate) fn refuse_if(wrong: bool, line: u64) -> Result<(), ReadError>
-    ensures { result ≡ unless (fault_if wrong line) tt }
+    ensures { result ≡ unless_at (line_if wrong line) tt }
 {
     if wrong {
         Err(ReadError::TableFault { line })
@@ -57,7 +57,7 @@ pub(crate) fn refuse_if(wrong: bool, line: u64) -> Result<(), ReadError>
 
 /// The number of a switch or a port, or a priority.
 pub(crate) fn small(n: Number) -> Result<u16, ReadError>
-    ensures { result ≡ unless (above 65535 n) n.value }
+    ensures { result ≡ unless_at (line_above 65535 n) n.value }
 {
     if LARGEST < n.value {
         Err(ReadError::TableFault { line: n.line })
@@ -120,7 +120,7 @@ fn is_matched(matches: &[(Fid, u64, u8)], field: Fid) -> bool
 
 /// How many of so many digits count, in a text of a version.
 fn length_of(version: u64, digits: u8, length: Option<Number>) -> Result<u8, ReadError>
-    ensures is { result ≡ unless (length_fault version digits length) (length_in digits length) }
+    ensures is { result ≡ unless_at (length_fault version digits length) (length_in digits length) }
     ensures most { IfOk result (λ n. n ≤ digits) }
 {
     match length {
@@ -138,7 +138,7 @@ fn length_of(version: u64, digits: u8, length: Option<Number>) -> Result<u8, Rea
 fn check_zeros(digits: u8, length: u8, n: Number) -> Result<(), ReadError>
     requires some { length ≤ digits }
     requires most { digits ≤ 64 }
-    ensures { result ≡ unless (ones_fault digits length n) tt }
+    ensures { result ≡ unless_at (ones_fault digits length n) tt }
 {
     let rest = (digits - length) as u32;
     refuse_if((n.value as u128) % (1u128 << rest) != 0, n.line)
