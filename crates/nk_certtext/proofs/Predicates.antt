@@ -9,7 +9,7 @@ use Rattle.nk_policy.proofs.Remade.{marked_predicate}
 use Rattle.nk_grammar.specs.Tree.{Tree}
 use Rattle.nk_grammar.specs.Certified.{Row, row}
 use Rattle.nk_names.specs.declared.fault.NamesError.{NamesError}
-use Rattle.nk_names.specs.Meant.{MaybeFault, policy_for}
+use Rattle.nk_names.specs.Meant.{MaybeTextFault, policy_for}
 use Rattle.nk_names.specs.ProgramOf.{predicate_fault, row_policy}
 use Rattle.nk_names.proofs.Predicates.{faultless_row}
 use Rattle.nk_cert.specs.Certificates.{RowValue, CertRow, later_row, rows_of}
@@ -36,7 +36,7 @@ rows_in (Err e) = []
 row_predicate : (fields : FieldTable) (t : Tree) (line : ℕ) (p : Policy) → row_policy fields t line ≡ Ok p → is_predicate p ≡ true
 row_predicate fields t line p e = by (predicate_fault fields [] t line) refl e
   where
-    by : (o : MaybeFault) → predicate_fault fields [] t line ≡ o → unless o (marked_from (policy_for fields [] t) 1) ≡ Ok p → is_predicate p ≡ true
+    by : (o : MaybeTextFault) → predicate_fault fields [] t line ≡ o → unless o (marked_from (policy_for fields [] t) 1) ≡ Ok p → is_predicate p ≡ true
     by None none e =
         ap is_predicate (sym (ap policy_in e)) ∙ marked_predicate (policy_for fields [] t) 1 ∙ (faultless_row fields [] t line none).predicate
     by (Some f) none e = absurd cc

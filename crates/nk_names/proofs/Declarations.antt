@@ -9,12 +9,12 @@ use Rattle.nk_declare.proofs.Checks.{none_both}
 use Rattle.nk_grammar.specs.Tree.{Tree}
 use Rattle.nk_names.specs.declared.fault.FaultKind.{FaultKind}
 use Rattle.nk_names.specs.declared.fault.FaultKind.TheVariants as kind
-use Rattle.nk_names.specs.Meant.{Lets, fault_if, above, policy_for, unknown_in, misplaced_in}
+use Rattle.nk_names.specs.Meant.{Lets, text_fault_if, value_above, policy_for, unknown_in, misplaced_in}
 use Rattle.nk_names.specs.ProgramOf.{let_fault}
 use Rattle.nk_names.proofs.Good.{few_dups}
 
 -- a fault that isn't there is no fault
-pub not_wrong : (b : Bool) (k : FaultKind) (line : ℕ) → fault_if b k line ≡ None → b ≡ false
+pub not_wrong : (b : Bool) (k : FaultKind) (line : ℕ) → text_fault_if b k line ≡ None → b ≡ false
 not_wrong true k line h = absurd cc
 not_wrong false k line h = refl
 
@@ -23,7 +23,7 @@ pub at_most : (m n : ℕ) → nat_lt m n ≡ false → n ≤ m
 at_most m n h = grind (arith, h)
 
 -- a number that isn't above a bound is at most it
-pub in_bound : (most : ℕ) (n : Number) → above most n ≡ None → n.value ≤ most
+pub in_bound : (most : ℕ) (n : Number) → value_above most n ≡ None → n.value ≤ most
 in_bound most n h = at_most most n.value (not_wrong (nat_lt most n.value) kind.ValueOutOfRange n.line h)
 
 -- what is known of a policy that has no fault

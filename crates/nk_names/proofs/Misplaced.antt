@@ -7,11 +7,11 @@ use Rattle.nk_policy.specs.Policy.{is_predicate, are_predicates}
 use Rattle.nk_policy.proofs.Tests.{both_true}
 use Rattle.nk_grammar.specs.Tree.{Tree, Trees, name_of, test, range, assign, sum_of, seq_of, not_of, star_of, dup, link, no_part, part}
 use Rattle.nk_names.specs.declared.fault.FaultKind.TheVariants as kind
-use Rattle.nk_names.specs.Meant.{Lets, MaybeFault, fault_if, policy_for, policies_for, misplaced_in, misplaced_among}
+use Rattle.nk_names.specs.Meant.{Lets, MaybeTextFault, text_fault_if, policy_for, policies_for, misplaced_in, misplaced_among}
 
 module _ (fields : FieldTable) (lets : Lets) where
   -- two that are none have no first
-  none_first : (a b : MaybeFault) → a ≡ None → b ≡ None → first_of a b ≡ None
+  none_first : (a b : MaybeTextFault) → a ≡ None → b ≡ None → first_of a b ≡ None
   none_first a b e f = ap (λ o. option_or o b) e ∙ f
 
   mutual
@@ -23,7 +23,7 @@ module _ (fields : FieldTable) (lets : Lets) where
     none_misplaced (sum_of ts) h = none_among ts h
     none_misplaced (seq_of ts) h = none_among ts h
     none_misplaced (not_of t line) h =
-        none_first (fault_if (not (is_predicate (policy_for fields lets t))) kind.NotAPredicate line) (misplaced_in fields lets t) (ap (λ b. fault_if (not b) kind.NotAPredicate line) h) (none_misplaced t h)
+        none_first (text_fault_if (not (is_predicate (policy_for fields lets t))) kind.NotAPredicate line) (misplaced_in fields lets t) (ap (λ b. text_fault_if (not b) kind.NotAPredicate line) h) (none_misplaced t h)
     none_misplaced (star_of t) h = absurd cc
     none_misplaced dup h = refl
     none_misplaced (link a m b n) h = refl
@@ -37,7 +37,7 @@ module _ (fields : FieldTable) (lets : Lets) where
 
   -- so whether the part of a `~` is a predicate decides alone
   pub misplaced_not : (t : Tree) (line : ℕ) (b : Bool) → b ≡ is_predicate (policy_for fields lets t)
-      → fault_if (not b) kind.NotAPredicate line ≡ misplaced_in fields lets (not_of t line)
+      → text_fault_if (not b) kind.NotAPredicate line ≡ misplaced_in fields lets (not_of t line)
   misplaced_not t line true e =
-      sym (none_first (fault_if (not (is_predicate (policy_for fields lets t))) kind.NotAPredicate line) (misplaced_in fields lets t) (ap (λ b. fault_if (not b) kind.NotAPredicate line) (sym e)) (none_misplaced t (sym e)))
-  misplaced_not t line false e = ap (λ b. first_of (fault_if (not b) kind.NotAPredicate line) (misplaced_in fields lets t)) e
+      sym (none_first (text_fault_if (not (is_predicate (policy_for fields lets t))) kind.NotAPredicate line) (misplaced_in fields lets t) (ap (λ b. text_fault_if (not b) kind.NotAPredicate line) (sym e)) (none_misplaced t (sym e)))
+  misplaced_not t line false e = ap (λ b. first_of (text_fault_if (not b) kind.NotAPredicate line) (misplaced_in fields lets t)) e

@@ -21,7 +21,7 @@ use Rattle.nk_grammar.specs.File.{definition}
 use Rattle.nk_names.specs.declared.fault.FaultKind.{FaultKind}
 use Rattle.nk_names.specs.declared.fault.FaultKind.TheVariants as kind
 use Rattle.nk_names.specs.Complements.{NegatesPredicates, AllNegatePredicates}
-use Rattle.nk_names.specs.Meant.{Lets, MaybeFault, fault_if, above, no_value, no_range, place_in, most_in, policy_among, policy_for, policies_for, unknown_in, unknown_among, misplaced_in, misplaced_among}
+use Rattle.nk_names.specs.Meant.{Lets, MaybeTextFault, text_fault_if, value_above, no_value, no_range, place_in, most_in, policy_among, policy_for, policies_for, unknown_in, unknown_among, misplaced_in, misplaced_among}
 use Rattle.nk_names.specs.ProgramOf.{Said, said_with, let_fault}
 use Rattle.nk_names.specs.ReadBack.{IsWritable, IsNotOne, HasNoLonePart, HaveNoLonePart, IsReadable, IsReadBack, let_bytes, in_first_line}
 use Rattle.nk_names.proofs.Good.{AreOver, dups_marked, depth_marked, size_marked, predicate_marked}
@@ -279,15 +279,15 @@ module _ (line : ℕ) (fields : FieldTable) where
 -- ---- what it stands for
 
 -- two that are none have no first
-pub none_first : (a b : MaybeFault) → a ≡ None → b ≡ None → first_of a b ≡ None
+pub none_first : (a b : MaybeTextFault) → a ≡ None → b ≡ None → first_of a b ≡ None
 none_first a b e f = ap (λ o. option_or o b) e ∙ f
 
 -- what isn't wrong is no fault
-pub no_fault : (b : Bool) (k : FaultKind) (line : ℕ) → b ≡ false → fault_if b k line ≡ None
-no_fault b k line e = ap (λ c. fault_if c k line) e
+pub no_fault : (b : Bool) (k : FaultKind) (line : ℕ) → b ≡ false → text_fault_if b k line ≡ None
+no_fault b k line e = ap (λ c. text_fault_if c k line) e
 
 -- a number that is in range
-not_above : (most : ℕ) (n : Number) → n.value ≤ most → above most n ≡ None
+not_above : (most : ℕ) (n : Number) → n.value ≤ most → value_above most n ≡ None
 not_above most n le = no_fault (nat_lt most n.value) kind.ValueOutOfRange n.line (test_fails most n.value le)
   where
     test_fails : (m k : ℕ) → k ≤ m → nat_lt m k ≡ false

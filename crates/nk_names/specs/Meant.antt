@@ -31,20 +31,20 @@ policy_among [] name = None
 policy_among (l ∷ ls) name = if bytes_eq l.0 name then Some l.1 else policy_among ls name
 
 -- a fault, or none
-abbrev pub MaybeFault : Type 0
-MaybeFault = Option NamesError
+abbrev pub MaybeTextFault : Type 0
+MaybeTextFault = Option NamesError
 
 -- the fault of this kind, where a test passes
-abbrev pub fault_if : Bool → FaultKind → ℕ → MaybeFault
-fault_if wrong k line = if wrong then Some (Fault k line) else None
+abbrev pub text_fault_if : Bool → FaultKind → ℕ → MaybeTextFault
+text_fault_if wrong k line = if wrong then Some (Fault k line) else None
 
 -- a number above a bound
-abbrev pub above : ℕ → Number → MaybeFault
-above most n = fault_if (nat_lt most n.value) kind.ValueOutOfRange n.line
+abbrev pub value_above : ℕ → Number → MaybeTextFault
+value_above most n = text_fault_if (nat_lt most n.value) kind.ValueOutOfRange n.line
 
 -- the four numbers of a link, which are a switch and a port, twice
-abbrev pub links_ends : Number → Number → Number → Number → MaybeFault
-links_ends a m b n = first_of (first_of (first_of (above 65535 a) (above 65535 m)) (above 65535 b)) (above 65535 n)
+abbrev pub literal_ends : Number → Number → Number → Number → MaybeTextFault
+literal_ends a m b n = first_of (first_of (first_of (value_above 65535 a) (value_above 65535 m)) (value_above 65535 b)) (value_above 65535 n)
 
 -- Each name is written out as its policy. A name of no policy or of no field and a number out of range are at fault; here
 -- they count as `drop`, as the first field and as the largest number. The dups are numbered later.
@@ -66,18 +66,18 @@ abbrev mutual
   policies_for fields lets (part t ts) = policy.part (policy_for fields lets t) (policies_for fields lets ts)
 
 -- a field and its value
-abbrev pub no_value : FieldTable → Word → Number → MaybeFault
+abbrev pub no_value : FieldTable → Word → Number → MaybeTextFault
 no_value fields w n =
-    first_of (fault_if (is_none (field_named fields w.text)) kind.UnknownField w.line) (above (most_in fields w) n)
+    first_of (text_fault_if (is_none (field_named fields w.text)) kind.UnknownField w.line) (value_above (most_in fields w) n)
 
 -- a field and the two ends of a range of its values; the first may be above the second
-abbrev pub no_range : FieldTable → Word → (low high : Number) → MaybeFault
-no_range fields w low high = first_of (no_value fields w low) (above (most_in fields w) high)
+abbrev pub no_range : FieldTable → Word → (low high : Number) → MaybeTextFault
+no_range fields w low high = first_of (no_value fields w low) (value_above (most_in fields w) high)
 
 -- the first name of no policy, name of no field or number out of range, from left to right
 abbrev mutual
-  pub unknown_in : FieldTable → Lets → Tree → MaybeFault
-  unknown_in fields lets (name_of w) = fault_if (is_none (policy_among lets w.text)) kind.UnknownName w.line
+  pub unknown_in : FieldTable → Lets → Tree → MaybeTextFault
+  unknown_in fields lets (name_of w) = text_fault_if (is_none (policy_among lets w.text)) kind.UnknownName w.line
   unknown_in fields lets (test w n) = no_value fields w n
   unknown_in fields lets (range w low high) = no_range fields w low high
   unknown_in fields lets (assign w n) = no_value fields w n
@@ -86,15 +86,15 @@ abbrev mutual
   unknown_in fields lets (not_of t line) = unknown_in fields lets t
   unknown_in fields lets (star_of t) = unknown_in fields lets t
   unknown_in fields lets dup = None
-  unknown_in fields lets (link a m b n) = links_ends a m b n
+  unknown_in fields lets (link a m b n) = literal_ends a m b n
 
-  pub unknown_among : FieldTable → Lets → Trees → MaybeFault
+  pub unknown_among : FieldTable → Lets → Trees → MaybeTextFault
   unknown_among fields lets no_part = None
   unknown_among fields lets (part t ts) = first_of (unknown_in fields lets t) (unknown_among fields lets ts)
 
 -- the first `~` over what is no predicate
 abbrev mutual
-  pub misplaced_in : FieldTable → Lets → Tree → MaybeFault
+  pub misplaced_in : FieldTable → Lets → Tree → MaybeTextFault
   misplaced_in fields lets (name_of w) = None
   misplaced_in fields lets (test w n) = None
   misplaced_in fields lets (range w low high) = None
@@ -102,11 +102,11 @@ abbrev mutual
   misplaced_in fields lets (sum_of ts) = misplaced_among fields lets ts
   misplaced_in fields lets (seq_of ts) = misplaced_among fields lets ts
   misplaced_in fields lets (not_of t line) =
-      first_of (fault_if (not (is_predicate (policy_for fields lets t))) kind.NotAPredicate line) (misplaced_in fields lets t)
+      first_of (text_fault_if (not (is_predicate (policy_for fields lets t))) kind.NotAPredicate line) (misplaced_in fields lets t)
   misplaced_in fields lets (star_of t) = misplaced_in fields lets t
   misplaced_in fields lets dup = None
   misplaced_in fields lets (link a m b n) = None
 
-  pub misplaced_among : FieldTable → Lets → Trees → MaybeFault
+  pub misplaced_among : FieldTable → Lets → Trees → MaybeTextFault
   misplaced_among fields lets no_part = None
   misplaced_among fields lets (part t ts) = first_of (misplaced_in fields lets t) (misplaced_among fields lets ts)

@@ -21,7 +21,7 @@ use Rattle.nk_names.specs.declared.fault.FaultKind.{FaultKind}
 use Rattle.nk_names.specs.declared.fault.FaultKind.TheVariants as kind
 use Rattle.nk_names.specs.declared.fault.NamesError.{NamesError}
 use Rattle.nk_names.specs.declared.fault.NamesError.TheVariants.{Fault, NoMemory}
-use Rattle.nk_names.specs.Meant.{Lets, lets_of, policy_among, MaybeFault, fault_if, policy_for, unknown_in, misplaced_in}
+use Rattle.nk_names.specs.Meant.{Lets, lets_of, policy_among, MaybeTextFault, text_fault_if, policy_for, unknown_in, misplaced_in}
 
 -- what a program says: its fields, its topology, and the policies of its names
 pub record Said : Type 0 where
@@ -34,27 +34,27 @@ abbrev pub nothing_said : Said
 nothing_said = record { fields = built_in; topo = no_topology; lets = [] }
 
 -- a policy: its name is new; then its names and numbers, then its complements, then its depth, then its size
-abbrev pub let_fault : FieldTable → Lets → Word → Tree → (line : ℕ) → MaybeFault
+abbrev pub let_fault : FieldTable → Lets → Word → Tree → (line : ℕ) → MaybeTextFault
 let_fault fields lets w t line =
     first_of
-    (fault_if (is_some (policy_among lets w.text)) kind.LetTwice w.line)
+    (text_fault_if (is_some (policy_among lets w.text)) kind.LetTwice w.line)
     (first_of
     (unknown_in fields lets t)
     (first_of
     (misplaced_in fields lets t)
     (first_of
-    (fault_if (nat_lt 256 (depth_of (policy_for fields lets t))) kind.TooDeep line)
-    (fault_if (nat_lt 1048576 (size_of (policy_for fields lets t))) kind.TooLarge line))))
+    (text_fault_if (nat_lt 256 (depth_of (policy_for fields lets t))) kind.TooDeep line)
+    (text_fault_if (nat_lt 1048576 (size_of (policy_for fields lets t))) kind.TooLarge line))))
 
 -- the predicate of a certificate's row, whose word `row` stands on the line: its names and numbers, then whether it is a
 -- predicate, then its depth; a `~` over no predicate makes the whole row no predicate
-abbrev pub predicate_fault : FieldTable → Lets → Tree → (line : ℕ) → MaybeFault
+abbrev pub predicate_fault : FieldTable → Lets → Tree → (line : ℕ) → MaybeTextFault
 predicate_fault fields lets t line =
     first_of
     (unknown_in fields lets t)
     (first_of
-    (fault_if (not (is_predicate (policy_for fields lets t))) kind.NotAPredicate line)
-    (fault_if (nat_lt 256 (depth_of (policy_for fields lets t))) kind.TooDeep line))
+    (text_fault_if (not (is_predicate (policy_for fields lets t))) kind.NotAPredicate line)
+    (text_fault_if (nat_lt 256 (depth_of (policy_for fields lets t))) kind.TooDeep line))
 
 -- the policy of a row, where no name of a policy is known
 abbrev pub row_policy : FieldTable → Tree → (line : ℕ) → Result Policy NamesError

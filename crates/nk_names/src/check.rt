@@ -2,7 +2,7 @@
 ghost use Rattle.std.specs.Prelude.{◌≡◌, min};
 ghost use Rattle.nk_policy.specs.Policy.{depth_of, depths_of, size_of, sizes_of, is_predicate, are_predicates};
 ghost use Rattle.nk_grammar.specs.Tree.{tree_of, trees_of};
-ghost use Rattle.nk_names.specs.Meant.{lets_of, fault_if, above, no_value, no_range, links_ends, policy_for, policies_for, unknown_in, unknown_among, misplaced_in, misplaced_among};
+ghost use Rattle.nk_names.specs.Meant.{lets_of, text_fault_if, value_above, no_value, no_range, literal_ends, policy_for, policies_for, unknown_in, unknown_among, misplaced_in, misplaced_among};
 
 use crate::fault::{FaultKind, NamesError};
 use crate::lets::Lets;
@@ -19,7 +19,7 @@ pub(crate) const LARGEST_PLACE: u64 = 65_535;
 
 /// The fault of this kind, where something is wrong.
 pub(crate) fn fault_if(wrong: bool, kind: FaultKind, line: u64) -> Option<NamesError>
-    ensures { result ≡ fault_if wrong kind line }
+    ensures { result ≡ text_fault_if wrong kind line }
 {
     if wrong {
         Some(NamesError::Fault { kind, line })
@@ -30,14 +30,14 @@ pub(crate) fn fault_if(wrong: bool, kind: FaultKind, line: u64) -> Option<NamesE
 
 /// The fault of a number above `most`.
 fn above(most: u64, n: Number) -> Option<NamesError>
-    ensures { result ≡ above most n }
+    ensures { result ≡ value_above most n }
 {
     fault_if(most < n.value, FaultKind::ValueOutOfRange, n.line)
 }
 
 /// The first number of a link that no switch and no port has.
 fn first_above(a: Number, m: Number, b: Number, n: Number) -> Option<NamesError>
-    ensures { result ≡ links_ends a m b n }
+    ensures { result ≡ literal_ends a m b n }
 {
     above(LARGEST_PLACE, a)
         .or(above(LARGEST_PLACE, m))
