@@ -6,7 +6,7 @@ use Rattle.std.proofs.lemmas.List.Sums.{sum_by-cons}
 use Rattle.std.proofs.lemmas.List.Elements.{All-nil, All-cons, All-contains, Contains-append_cases, Contains-append_right}
 use Rattle.std.proofs.lemmas.Bool.Decides.{nat_tests, leb_tells, eqb_tells}
 use Rattle.nk_prefix.specs.Prefix.{digits_of, agrees_to}
-use Rattle.nk_prefix.specs.Blocks.{fits, largest, end_of, cut, blocks_of, is_in_block, Ascend, IsBlockOf}
+use Rattle.nk_prefix.specs.Blocks.{fits, largest_fit, end_of, blocks_from, blocks_of, is_in_block, BlocksAscend, IsBlockOf}
 use Rattle.nk_prefix.proofs.Powers.{near, near_back, max_below}
 use Rattle.nk_prefix.proofs.Fitting.{not_true, fits_says, fits_one, largest_fits, largest_is}
 use Rattle.nk_prefix.proofs.Cuts.{step, first, first_free, cut_on, cut_stop, cut_past, cut_next, goes_on, IsPiece, pieces, ends}
@@ -63,28 +63,28 @@ exact v d x =
     ap (λ k. x / 2 ^ k == v / 2 ^ k) zero_free ∙ ap (λ y. y == v / 1) (whole x) ∙ ap (λ y. x == y) (whole v)
 
 -- the first block is aligned
-pub first_aligned : (d e v : ℕ) → v ≤ e → v % 2 ^ (d - (d - largest v e d)) ≡ 0
-first_aligned d e v h = subst (λ s. v % s ≡ 0) (sym (first_free d e v)) (fits_says v e (largest v e d) (largest_fits v e d h)).0
+pub first_aligned : (d e v : ℕ) → v ≤ e → v % 2 ^ (d - (d - largest_fit v e d)) ≡ 0
+first_aligned d e v h = subst (λ s. v % s ≡ 0) (sym (first_free d e v)) (fits_says v e (largest_fit v e d) (largest_fits v e d h)).0
 
 -- what agrees with the first block
-pub first_near : (d e v x : ℕ) → v ≤ e → agrees_to v (d - largest v e d) d x ≡ true → (v ≤ x) × (x < v + step d e v)
+pub first_near : (d e v x : ℕ) → v ≤ e → agrees_to v (d - largest_fit v e d) d x ≡ true → (v ≤ x) × (x < v + step d e v)
 first_near d e v x h a =
-    let at = agree_near v (d - largest v e d) d x (first_aligned d e v h) a in
+    let at = agree_near v (d - largest_fit v e d) d x (first_aligned d e v h) a in
     (at.0, subst (λ s. x < v + s) (first_free d e v) at.1)
 
-pub near_first : (d e v x : ℕ) → v ≤ e → v ≤ x → x < v + step d e v → agrees_to v (d - largest v e d) d x ≡ true
+pub near_first : (d e v x : ℕ) → v ≤ e → v ≤ x → x < v + step d e v → agrees_to v (d - largest_fit v e d) d x ≡ true
 near_first d e v x h low high =
-    near_agree v (d - largest v e d) d x (first_aligned d e v h) low (subst (λ s. x < v + s) (sym (first_free d e v)) high)
+    near_agree v (d - largest_fit v e d) d x (first_aligned d e v h) low (subst (λ s. x < v + s) (sym (first_free d e v)) high)
 
 -- each block begins behind the one before
-pub ascends : (e max n v : ℕ) → Ascend max v (cut (digits_of max) e max n v)
+pub ascends : (e max n v : ℕ) → BlocksAscend max v (blocks_from (digits_of max) e max n v)
 ascends e max zero v = tt
 ascends e max (suc n) v =
     elim (goes_on e max v) [
       | inl on ↦
-          subst (Ascend max v) (sym (cut_on (digits_of max) e max n v on.0 on.1))
-          (refl, subst (λ s. Ascend max (v + s) (cut (digits_of max) e max n (v + step (digits_of max) e v))) (sym (first_free (digits_of max) e v)) (ascends e max n (v + step (digits_of max) e v)))
-      | inr stop ↦ subst (Ascend max v) (sym (cut_stop (digits_of max) e max (suc n) v stop)) tt
+          subst (BlocksAscend max v) (sym (cut_on (digits_of max) e max n v on.0 on.1))
+          (refl, subst (λ s. BlocksAscend max (v + s) (blocks_from (digits_of max) e max n (v + step (digits_of max) e v))) (sym (first_free (digits_of max) e v)) (ascends e max n (v + step (digits_of max) e v)))
+      | inr stop ↦ subst (BlocksAscend max v) (sym (cut_stop (digits_of max) e max (suc n) v stop)) tt
     ]
 
 -- an element at the head, or behind it
@@ -104,27 +104,27 @@ there_cases c b bs h =
 -- a value up to the end and the largest value is in a block
 pub found :
     (d e m n v x : ℕ) → v ≤ x → x ≤ e → x ≤ m → e + 1 ≤ v + n
-    → (b : ℕ × ℕ) × Contains (cut d e m n v) b × (agrees_to b.0 b.1 d x ≡ true)
+    → (b : ℕ × ℕ) × Contains (blocks_from d e m n v) b × (agrees_to b.0 b.1 d x ≡ true)
 found d e m zero v x low high most room = absurd (omega (arith, low, high, room))
 found d e m (suc n) v x low high most room =
     let a : v ≤ e = omega (arith, low, high) in
     let on = cut_on d e m n v a (omega (arith, low, most)) in
     elim (leb_tells (v + step d e v) x) [
       | inl later ↦
-          let (b, there, agrees) = found d e m n (v + step d e v) x later.1 high most (omega (arith, room, pow_pos (largest v e d))) in
-          (b, subst (λ bs. Contains bs b) (sym on) (there_later (first d e v) b (cut d e m n (v + step d e v)) there), agrees)
+          let (b, there, agrees) = found d e m n (v + step d e v) x later.1 high most (omega (arith, room, pow_pos (largest_fit v e d))) in
+          (b, subst (λ bs. Contains bs b) (sym on) (there_later (first d e v) b (blocks_from d e m n (v + step d e v)) there), agrees)
       | inr here ↦
-          (first d e v, subst (λ bs. Contains bs (first d e v)) (sym on) (there_first (first d e v) (cut d e m n (v + step d e v))), near_first d e v x a low here.1)
+          (first d e v, subst (λ bs. Contains bs (first d e v)) (sym on) (there_first (first d e v) (blocks_from d e m n (v + step d e v))), near_first d e v x a low here.1)
     ]
 
 -- a block of a cut from v on, as a piece
-pub piece_of : (d e m n v : ℕ) (b : ℕ × ℕ) → Contains (cut d e m n v) b → IsPiece d e m v b
-piece_of d e m n v b h = All-contains (IsPiece d e m v) (cut d e m n v) b (pieces d e m n v v (omega arith)) h
+pub piece_of : (d e m n v : ℕ) (b : ℕ × ℕ) → Contains (blocks_from d e m n v) b → IsPiece d e m v b
+piece_of d e m n v b h = All-contains (IsPiece d e m v) (blocks_from d e m n v) b (pieces d e m n v v (omega arith)) h
 
 -- no value is in the first block and in a later one
 first_alone :
-    (d e m n v x : ℕ) (b : ℕ × ℕ) → v ≤ e → Contains (cut d e m n (v + step d e v)) b
-    → agrees_to v (d - largest v e d) d x ≡ true → agrees_to b.0 b.1 d x ≡ true → ⊥
+    (d e m n v x : ℕ) (b : ℕ × ℕ) → v ≤ e → Contains (blocks_from d e m n (v + step d e v)) b
+    → agrees_to v (d - largest_fit v e d) d x ≡ true → agrees_to b.0 b.1 d x ≡ true → ⊥
 first_alone d e m n v x b a there here later =
     let p = piece_of d e m n (v + step d e v) b there in
     let low = agree_near b.0 b.1 d x p.aligned later in
@@ -133,7 +133,7 @@ first_alone d e m n v x b a there here later =
 
 -- two blocks of an interval that have a value in common are one
 pub alone :
-    (d e m n v x : ℕ) (b c : ℕ × ℕ) → Contains (cut d e m n v) b → Contains (cut d e m n v) c
+    (d e m n v x : ℕ) (b c : ℕ × ℕ) → Contains (blocks_from d e m n v) b → Contains (blocks_from d e m n v) c
     → agrees_to b.0 b.1 d x ≡ true → agrees_to c.0 c.1 d x ≡ true → b ≡ c
 alone d e m zero v x b c inb inc p q = absurd (All-contains (λ z. ⊥) [] b (All-nil (λ z. ⊥)) inb)
 alone d e m (suc n) v x b c inb inc p q =
@@ -141,7 +141,7 @@ alone d e m (suc n) v x b c inb inc p q =
       | inr stop ↦ absurd (All-contains (λ z. ⊥) [] b (All-nil (λ z. ⊥)) (subst (λ bs. Contains bs b) (cut_stop d e m (suc n) v stop) inb))
       | inl on ↦
           let eq = cut_on d e m n v on.0 on.1 in
-          let rest : List (ℕ × ℕ) = cut d e m n (v + step d e v) in
+          let rest : List (ℕ × ℕ) = blocks_from d e m n (v + step d e v) in
           let one = there_cases (first d e v) b rest (subst (λ bs. Contains bs b) eq inb) in
           let two = there_cases (first d e v) c rest (subst (λ bs. Contains bs c) eq inc) in
           elim one [
@@ -252,7 +252,7 @@ too_large v = not_true (fits v v 1) (λ h. let says = fits_says v v 1 h in absur
 -- how many of the blocks from v on a value is in
 pub counted_in :
     (d e m n v x : ℕ) → x ≤ m → e + 1 ≤ v + n
-    → count_by (λ b. agrees_to b.0 b.1 d x) (cut d e m n v) ≡ one_if (nat_le v x && nat_le x e)
+    → count_by (λ b. agrees_to b.0 b.1 d x) (blocks_from d e m n v) ≡ one_if (nat_le v x && nat_le x e)
 counted_in d e m zero v x most room = sym (past_end v e x (omega (arith, room)))
 counted_in d e m (suc n) v x most room =
     let test : ℕ × ℕ → Bool = λ b. agrees_to b.0 b.1 d x in
@@ -264,11 +264,11 @@ counted_in d e m (suc n) v x most room =
             | inr over ↦ sym (before_first v e x (omega (arith, over, most)))
           ]
       | inl on ↦
-          let size = pow_pos (largest v e d) in
-          let inside = (fits_says v e (largest v e d) (largest_fits v e d on.0)).1 in
+          let size = pow_pos (largest_fit v e d) in
+          let inside = (fits_says v e (largest_fit v e d) (largest_fits v e d on.0)).1 in
           let rest = counted_in d e m n (v + step d e v) x most (omega (arith, room, size)) in
           ap (count_by test) (cut_on d e m n v on.0 on.1)
-          ∙ sum_by-cons (λ b. one_if (test b)) (first d e v) (cut d e m n (v + step d e v))
+          ∙ sum_by-cons (λ b. one_if (test b)) (first d e v) (blocks_from d e m n (v + step d e v))
           ∙ elim (leb_tells v x) [
             | inr under ↦
                 let not : test (first d e v) ≡ false = not_true (test (first d e v)) (λ h. let at = first_near d e v x on.0 h in absurd (omega (arith, at.0, under.1))) in
@@ -320,9 +320,9 @@ pub single : (v max : ℕ) → v ≤ max → blocks_of v v max ≡ (v, digits_of
 single v max h =
     let d = digits_of max in
     let is : end_of v v max ≡ v = elim (ends v v max h) [ inl same ↦ same | inr past ↦ absurd (omega (arith, past.1)) ] in
-    let none : largest v v d ≡ 0 = largest_is v v d 0 (omega arith) (omega arith) (fits_one v v (omega arith)) (λ l. too_large v) in
-    let all : first d v v ≡ (v, d) = (let free : d - largest v v d ≡ d = omega (arith, none) in ap (λ k. (v, k)) free) in
-    ap (λ e. cut d e max (e + 1) v) is
+    let none : largest_fit v v d ≡ 0 = largest_is v v d 0 (omega arith) (omega arith) (fits_one v v (omega arith)) (λ l. too_large v) in
+    let all : first d v v ≡ (v, d) = (let free : d - largest_fit v v d ≡ d = omega (arith, none) in ap (λ k. (v, k)) free) in
+    ap (λ e. blocks_from d e max (e + 1) v) is
     ∙ cut_next d v max v (omega arith) h
-    ∙ ap (λ bs. first d v v ∷ bs) (cut_past d v max (v + 1) (v + step d v v) (omega (arith, pow_pos (largest v v d))))
+    ∙ ap (λ bs. first d v v ∷ bs) (cut_past d v max (v + 1) (v + step d v v) (omega (arith, pow_pos (largest_fit v v d))))
     ∙ ap (λ b. b ∷ []) all

@@ -6,7 +6,7 @@ use Rattle.std.proofs.lemmas.Grind.{pow_more}
 use Rattle.std.proofs.Math.Pow.{pow_mono}
 use Rattle.std.proofs.lemmas.Bool.Decides.{leb_tells, eqb_tells}
 use Rattle.nk_prefix.specs.Prefix.{digits_of}
-use Rattle.nk_prefix.specs.Blocks.{fits, largest, end_of, cut, blocks_of}
+use Rattle.nk_prefix.specs.Blocks.{fits, largest_fit, end_of, blocks_from, blocks_of}
 use Rattle.nk_prefix.proofs.Powers.{max_below}
 use Rattle.nk_prefix.proofs.Fitting.{not_fits, not_aligned, fits_if, largest_is, largest_above}
 use Rattle.nk_prefix.proofs.Cuts.{step, cut_on, cut_stop, cut_past, goes_on, ends}
@@ -50,7 +50,7 @@ aligned_up v k h =
 
 -- at most k blocks are left where fewer than 2 ^ k values are, from a multiple of 2 ^ k on
 pub few_left :
-    (d e m n k v : ℕ) → k ≤ d → v % 2 ^ k ≡ 0 → e + 1 < v + 2 ^ k → length (cut d e m n v) ≤ k
+    (d e m n k v : ℕ) → k ≤ d → v % 2 ^ k ≡ 0 → e + 1 < v + 2 ^ k → length (blocks_from d e m n v) ≤ k
 few_left d e m n zero v le a room = let none = ap length (cut_past d e m n v (omega (arith, room))) in omega (arith, none)
 few_left d e m zero (suc k) v le a room = omega arith
 few_left d e m (suc n) (suc k) v le a room =
@@ -60,13 +60,13 @@ few_left d e m (suc n) (suc k) v le a room =
       | inr small ↦ omega (arith, few_left d e m (suc n) k v (omega (arith, le)) aligned small.1)
       | inl fit ↦
           let within : v ≤ e = omega (arith, fit.1, pow_pos k) in
-          let is : largest v e d ≡ k = largest_is v e d k within (omega (arith, le)) (fits_if v e k aligned fit.1) (λ l. not_fits v e (k + 1) room') in
+          let is : largest_fit v e d ≡ k = largest_is v e d k within (omega (arith, le)) (fits_if v e k aligned fit.1) (λ l. not_fits v e (k + 1) room') in
           elim (goes_on e m v) [
             | inr stop ↦ let none = ap length (cut_stop d e m (suc n) v stop) in omega (arith, none)
             | inl on ↦
                 let on_is = ap length (cut_on d e m n v on.0 on.1) in
                 let there : v + step d e v ≡ v + 2 ^ k = ap (λ j. v + 2 ^ j) is in
-                let same : length (cut d e m n (v + step d e v)) ≡ length (cut d e m n (v + 2 ^ k)) = ap (λ w. length (cut d e m n w)) there in
+                let same : length (blocks_from d e m n (v + step d e v)) ≡ length (blocks_from d e m n (v + 2 ^ k)) = ap (λ w. length (blocks_from d e m n w)) there in
                 let rest = few_left d e m n k (v + 2 ^ k) (omega (arith, le)) (aligned_on v k aligned) (omega (arith, room', pow_more 2 k)) in
                 omega (arith, on_is, same, rest)
           ]
@@ -74,14 +74,14 @@ few_left d e m (suc n) (suc k) v le a room =
 
 -- one block of all values leaves none
 one_left :
-    (d e m n v : ℕ) → v % 2 ^ d ≡ 0 → e + 1 ≤ 2 ^ d → v + 2 ^ d ≤ e + 1 → length (cut d e m n v) ≤ 1
+    (d e m n v : ℕ) → v % 2 ^ d ≡ 0 → e + 1 ≤ 2 ^ d → v + 2 ^ d ≤ e + 1 → length (blocks_from d e m n v) ≤ 1
 one_left d e m zero v a end fit = omega arith
 one_left d e m (suc n) v a end fit =
     elim (goes_on e m v) [
       | inr stop ↦ let none = ap length (cut_stop d e m (suc n) v stop) in omega (arith, none)
       | inl on ↦
-          let is : d ≤ largest v e d = largest_above v e d d (omega arith) (fits_if v e d a fit) in
-          let size : 2 ^ d ≤ step d e v = pow_mono {i = d} {j = largest v e d} is in
+          let is : d ≤ largest_fit v e d = largest_above v e d d (omega arith) (fits_if v e d a fit) in
+          let size : 2 ^ d ≤ step d e v = pow_mono {i = d} {j = largest_fit v e d} is in
           let on_is = ap length (cut_on d e m n v on.0 on.1) in
           let none = ap length (cut_past d e m n (v + step d e v) (omega (arith, end, fit, size))) in
           omega (arith, on_is, none)
@@ -90,22 +90,22 @@ one_left d e m (suc n) v a end fit =
 -- a block, and at most so many behind it
 few_step :
     (d e m n i k v : ℕ) → suc i + k ≡ d → v ≤ e → fits v e k ≡ true → fits v e (k + 1) ≡ false
-    → ((l : ℕ) → length (cut d e m l (v + 2 ^ k)) ≤ i + d) → length (cut d e m n v) ≤ suc i + d
+    → ((l : ℕ) → length (blocks_from d e m l (v + 2 ^ k)) ≤ i + d) → length (blocks_from d e m n v) ≤ suc i + d
 few_step d e m zero i k v at within fit stop rest = omega arith
 few_step d e m (suc n) i k v at within fit stop rest =
     elim (goes_on e m v) [
       | inr past ↦ let none = ap length (cut_stop d e m (suc n) v past) in omega (arith, none)
       | inl on ↦
-          let is : largest v e d ≡ k = largest_is v e d k within (omega (arith, at)) fit (λ l. stop) in
+          let is : largest_fit v e d ≡ k = largest_is v e d k within (omega (arith, at)) fit (λ l. stop) in
           let on_is = ap length (cut_on d e m n v on.0 on.1) in
           let there : v + step d e v ≡ v + 2 ^ k = ap (λ j. v + 2 ^ j) is in
-          let same : length (cut d e m n (v + step d e v)) ≡ length (cut d e m n (v + 2 ^ k)) = ap (λ w. length (cut d e m n w)) there in
+          let same : length (blocks_from d e m n (v + step d e v)) ≡ length (blocks_from d e m n (v + 2 ^ k)) = ap (λ w. length (blocks_from d e m n w)) there in
           omega (arith, on_is, same, rest n)
     ]
 
 -- from a multiple of 2 ^ k on, so many blocks at most
 pub few_from :
-    (d e m n j k v : ℕ) → j + k ≡ d → 1 ≤ d → e + 1 ≤ 2 ^ d → v % 2 ^ k ≡ 0 → length (cut d e m n v) ≤ j + d
+    (d e m n j k v : ℕ) → j + k ≡ d → 1 ≤ d → e + 1 ≤ 2 ^ d → v % 2 ^ k ≡ 0 → length (blocks_from d e m n v) ≤ j + d
 few_from d e m n zero k v at p end a =
     let same : k ≡ d = omega (arith, at) in
     let aligned : v % 2 ^ d ≡ 0 = subst (λ i. v % 2 ^ i ≡ 0) same a in

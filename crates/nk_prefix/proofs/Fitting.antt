@@ -4,7 +4,7 @@ use Rattle.std.specs.Prelude.{Bool, true, false, cond}
 use Rattle.std.proofs.lemmas.Nat.{pow_pos, mod-pow-add}
 use Rattle.std.proofs.Math.Pow.{pow_mono}
 use Rattle.std.proofs.lemmas.Bool.Decides.{nat_tests, leb_tells, eqb_tells}
-use Rattle.nk_prefix.specs.Blocks.{fits, largest}
+use Rattle.nk_prefix.specs.Blocks.{fits, largest_fit}
 
 -- what fits is aligned, and ends by the end
 pub fits_says : (v e k : ℕ) → fits v e k ≡ true → (v % 2 ^ k ≡ 0) × (v + 2 ^ k ≤ e + 1)
@@ -49,12 +49,12 @@ one_step true x y = inl (refl, refl)
 one_step false x y = inr (refl, refl)
 
 pub largest_step :
-    (v e k : ℕ) → ((fits v e (suc k) ≡ true) × (largest v e (suc k) ≡ suc k))
-    ⊎ ((fits v e (suc k) ≡ false) × (largest v e (suc k) ≡ largest v e k))
-largest_step v e k = one_step (fits v e (suc k)) (suc k) (largest v e k)
+    (v e k : ℕ) → ((fits v e (suc k) ≡ true) × (largest_fit v e (suc k) ≡ suc k))
+    ⊎ ((fits v e (suc k) ≡ false) × (largest_fit v e (suc k) ≡ largest_fit v e k))
+largest_step v e k = one_step (fits v e (suc k)) (suc k) (largest_fit v e k)
 
 -- it is at most as large as may be
-pub largest_most : (v e k : ℕ) → largest v e k ≤ k
+pub largest_most : (v e k : ℕ) → largest_fit v e k ≤ k
 largest_most v e zero = omega arith
 largest_most v e (suc k) =
     elim (largest_step v e k) [
@@ -63,7 +63,7 @@ largest_most v e (suc k) =
     ]
 
 -- it fits
-pub largest_fits : (v e k : ℕ) → v ≤ e → fits v e (largest v e k) ≡ true
+pub largest_fits : (v e k : ℕ) → v ≤ e → fits v e (largest_fit v e k) ≡ true
 largest_fits v e zero h = fits_one v e h
 largest_fits v e (suc k) h =
     elim (largest_step v e k) [
@@ -72,7 +72,7 @@ largest_fits v e (suc k) h =
     ]
 
 -- none of these fits that is larger than it
-pub largest_above : (v e k j : ℕ) → j ≤ k → fits v e j ≡ true → j ≤ largest v e k
+pub largest_above : (v e k j : ℕ) → j ≤ k → fits v e j ≡ true → j ≤ largest_fit v e k
 largest_above v e zero j le h = omega (arith, le)
 largest_above v e (suc k) j le h =
     elim (largest_step v e k) [
@@ -86,12 +86,12 @@ largest_above v e (suc k) j le h =
 
 -- one that fits where the next doesn't is the largest
 pub largest_is :
-    (v e k j : ℕ) → v ≤ e → j ≤ k → fits v e j ≡ true → (j < k → fits v e (j + 1) ≡ false) → largest v e k ≡ j
+    (v e k j : ℕ) → v ≤ e → j ≤ k → fits v e j ≡ true → (j < k → fits v e (j + 1) ≡ false) → largest_fit v e k ≡ j
 largest_is v e k j within le h stop =
-    elim (leb_tells (largest v e k) j) [
+    elim (leb_tells (largest_fit v e k) j) [
       | inl at ↦ omega (arith, at.1, largest_above v e k j le h)
       | inr past ↦
-          let next : fits v e (j + 1) ≡ true = fits_lower v e (j + 1) (largest v e k) (omega (arith, past.1)) (largest_fits v e k within) in
+          let next : fits v e (j + 1) ≡ true = fits_lower v e (j + 1) (largest_fit v e k) (omega (arith, past.1)) (largest_fits v e k within) in
           let not_next : fits v e (j + 1) ≡ false = stop (omega (arith, past.1, largest_most v e k)) in
           absurd (cc (next, not_next))
     ]

@@ -7,7 +7,7 @@ use Rattle.std.proofs.lemmas.Nat.{pow_pos, mod-pow-add}
 use Rattle.std.proofs.lemmas.Nat.Bits.{bit_at-trailing_zeros}
 use Rattle.std.proofs.Math.Pow.{pow_mono}
 use Rattle.std.proofs.lemmas.Bool.Decides.{leb_tells, eqb_tells}
-use Rattle.nk_prefix.specs.Blocks.{fits, largest}
+use Rattle.nk_prefix.specs.Blocks.{fits, largest_fit}
 use Rattle.nk_prefix.proofs.Fitting.{fits_if, not_fits, not_aligned, aligned_lower, largest_is}
 
 -- one digit more of a remainder
@@ -48,7 +48,7 @@ zeros_stop n d h small less =
 -- the largest block that fits has as many free digits as the least of three numbers
 pub least_of_three :
     (v e d t f j : ℕ) → v ≤ e → v % 2 ^ t ≡ 0 → (t < d → v % 2 ^ (t + 1) ≡ 2 ^ t)
-    → 2 ^ f ≤ e - v + 1 → e - v + 1 < 2 ^ (f + 1) → j ≡ min (min t f) d → largest v e d ≡ j
+    → 2 ^ f ≤ e - v + 1 → e - v + 1 < 2 ^ (f + 1) → j ≡ min (min t f) d → largest_fit v e d ≡ j
 least_of_three v e d t f j within aligned stop most next is =
     let below_t : j ≤ t = omega (arith, is) in
     let below_f : j ≤ f = omega (arith, is) in

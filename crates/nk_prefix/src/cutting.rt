@@ -2,7 +2,7 @@
 ghost use Rattle.std.specs.Prelude.{◌≡◌, ◌≤◌, ◌<◌, ◌+◌, ◌^◌, IfOk};
 ghost use Rattle.nk_prefix.specs.Prefix as prefix;
 ghost use Rattle.nk_prefix.specs.Prefix.{agrees_to};
-ghost use Rattle.nk_prefix.specs.Blocks.{blocks_of, end_of, largest};
+ghost use Rattle.nk_prefix.specs.Blocks.{blocks_of, end_of, largest_fit};
 
 use std::alloc::{AllocError, Global};
 
@@ -63,7 +63,7 @@ fn last(lo: u64, hi: u64, max: u64, digits: u8) -> u64
 fn free_digits(from: u64, end: u64, digits: u8) -> u8
     requires within { from ≤ end }
     requires small { digits ≤ 64 }
-    ensures is { result ≡ largest from end digits }
+    ensures is { result ≡ largest_fit from end digits }
     ensures most { result ≤ digits }
 {
     let aligned = from.trailing_zeros();

@@ -1,7 +1,7 @@
 //! Laws of prefixes and of the blocks of an interval, and some worked by hand.
 ghost use Rattle.std.specs.Prelude.{◌≡◌, ℕ, ◌+◌, ◌-◌, ◌*◌, ◌≤◌, ◌<◌, ◌%◌, ◌^◌, ◌==◌, ◌&&◌, true, nat_lt, nat_le, if◌then◌else◌, [], ◌∷◌, length, count_by, Contains};
 ghost use Rattle.nk_prefix.specs.Prefix.{digits_of, agrees_to};
-ghost use Rattle.nk_prefix.specs.Blocks.{fits, largest, blocks_of, is_in_block, Ascend, IsBlockOf};
+ghost use Rattle.nk_prefix.specs.Blocks.{fits, largest_fit, blocks_of, is_in_block, BlocksAscend, IsBlockOf};
 ghost use Rattle.nk_prefix.specs.Worked.{DigitsByHand, UpToSeven, UpToNine};
 
 /// A number is below the power of two of its digits, and no smaller power of two but 1 will do. A prefix of all digits
@@ -16,14 +16,14 @@ pub fn prefixes_are_intervals()
 
 /// The block at a value is the largest that is aligned and doesn't go past the end.
 pub fn blocks_are_largest()
-    ensures fit { (v end digits : ℕ) → v ≤ end → fits v end (largest v end digits) ≡ true }
-    ensures most { (v end digits k : ℕ) → k ≤ digits → fits v end k ≡ true → k ≤ largest v end digits }
+    ensures fit { (v end digits : ℕ) → v ≤ end → fits v end (largest_fit v end digits) ≡ true }
+    ensures most { (v end digits k : ℕ) → k ≤ digits → fits v end k ≡ true → k ≤ largest_fit v end digits }
 {}
 
 /// The blocks of an interval ascend and are disjoint, each within it, aligned, and with one shared digit or more unless
 /// the interval is all values. There are at most two for each digit. A single value is one block of all digits.
 pub fn blocks_are_aligned()
-    ensures ascend { (lo hi max : ℕ) → Ascend max lo (blocks_of lo hi max) }
+    ensures ascend { (lo hi max : ℕ) → BlocksAscend max lo (blocks_of lo hi max) }
     ensures each { (lo hi max : ℕ) (b : ℕ × ℕ) → hi ≤ max → Contains (blocks_of lo hi max) b → IsBlockOf lo hi max b }
     ensures few { (lo hi max : ℕ) → hi ≤ max → length (blocks_of lo hi max) ≤ 2 * digits_of max }
     ensures single { (v max : ℕ) → v ≤ max → blocks_of v v max ≡ (v, digits_of max) ∷ [] }
