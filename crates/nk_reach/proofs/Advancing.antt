@@ -20,7 +20,7 @@ use Rattle.nk_reach.proofs.Kept.{Has, packet_on, packet_back}
 use Rattle.nk_reach.proofs.Growing.{sets_known, sets_same, under_on, under_back, under_named, named_known, packets_of, step_on, step_back}
 use Rattle.nk_reach.proofs.Adding.{not_found, found_under, under_found}
 use Rattle.nk_reach.specs.declared.choice.Choice.{Choice}
-use Rattle.nk_reach.specs.Histories.{Leads, IsUpTo}
+use Rattle.nk_reach.specs.Histories.{LeadsToBad, IsUpTo}
 use Rattle.nk_reach.specs.Backs.{IsBack}
 use Rattle.nk_reach.specs.Choices.{IsAhead, IsAny, IsChoiceUpTo, IsBest, NoneCount}
 use Rattle.nk_reach.specs.Finds.{IsNextLeast, IsForward}
@@ -117,7 +117,7 @@ pub ahead_of : (old st : Held) (oss ss : List (List ℕ)) (states : List ℕ) (s
 ahead_of old st oss ss states set start bad ls broken h i r here next first x records s states_ok k count e g1 hb nb f =
     let m : Node = (get_or ss s [], x) in
     let known = named_known st ss (length states) here s hb.pairs.each (under_named st here s x f.under) in
-    let l : Leads (IsStep old states) (Bad bad) (suc r) m = (hb.sound m f.packet (s, refl, f.under)).1 in
+    let l : LeadsToBad (IsStep old states) (Bad bad) (suc r) m = (hb.sound m f.packet (s, refl, f.under)).1 in
     let q : Node = l.0 in
     let level : InLevel old oss ls (suc i) q = leads_level old old oss states set start bad ls broken h (suc i) r q k count e (m, f.at, l.1) l.2 in
     (q, step_on old st states m q g1 states_ok known.1 l.1, nb.full q l.1.packet level l.2)
@@ -146,14 +146,14 @@ forward_step old st new oss ss nss states set start bad ls broken h i r here nex
     step_new : IsStep old states m (get_or nss t [], y)
     step_new = subst (λ (v : List ℕ). IsStep old states m (v, y)) (sym (sets_same ss nss t s2 nl.known)) step_old
 
-    least : (p : Node) → IsStep old states m p → Leads (IsStep old states) (Bad bad) r p → IsUpTo y p.1
+    least : (p : Node) → IsStep old states m p → LeadsToBad (IsStep old states) (Bad bad) r p → IsUpTo y p.1
     least p sp l =
         let level : InLevel old oss ls (suc i) p = leads_level old old oss states set start bad ls broken h (suc i) r p k count e (m, f.at, sp) l in
         nl.first p (step_on old st states m p g1 states_ok places sp) (nb.full p sp.packet level l)
 
 -- what is reached and leads on is led to from a start
-pub reach_leads : (Start : Node → Type 0) (Step : Node → Node → Type 0) (Bad : Node → Type 0) (i r j : ℕ) (n : Node) → Reach Start Step i n → Leads Step Bad r n → i + r ≡ j → (m : Node) × Start m × Leads Step Bad j m
-reach_leads Start Step Bad zero r j n s l e = let z : r ≡ j = omega (arith, e) in (n, s, subst (λ q. Leads Step Bad q n) z l)
+pub reach_leads : (Start : Node → Type 0) (Step : Node → Node → Type 0) (Bad : Node → Type 0) (i r j : ℕ) (n : Node) → Reach Start Step i n → LeadsToBad Step Bad r n → i + r ≡ j → (m : Node) × Start m × LeadsToBad Step Bad j m
+reach_leads Start Step Bad zero r j n s l e = let z : r ≡ j = omega (arith, e) in (n, s, subst (λ q. LeadsToBad Step Bad q n) z l)
 reach_leads Start Step Bad (suc i) r j n s l e = reach_leads Start Step Bad i (suc r) j s.0 s.1 (n, s.2, l) (omega (arith, e))
 
 -- the set that levels start from is one of the sets
@@ -162,7 +162,7 @@ start_known old oss states set start bad ls broken k = (subst (ArePairs old oss 
 
 -- a start that leads to something bad stands in the entries of the first level
 pub start_under : (old st : Held) (oss ss : List (List ℕ)) (states : List ℕ) (set start : ℕ) (bad : List ℕ → List ℕ → List Out) (ls : List (List (ℕ × ℕ))) (broken : Bool) (h : ℕ) (back : List (ℕ × ℕ)) (m : Node) →
-    AreLevels old old oss states set start bad ls broken → length ls ≡ h + 1 → SetsGrow oss ss → Differ ss → IsBack old st ss states bad (InLevel old oss ls 0) h back → IsStart old (get_or oss set []) start m → Leads (IsStep old states) (Bad bad) h m → Under st back set m.1
+    AreLevels old old oss states set start bad ls broken → length ls ≡ h + 1 → SetsGrow oss ss → Differ ss → IsBack old st ss states bad (InLevel old oss ls 0) h back → IsStart old (get_or oss set []) start m → LeadsToBad (IsStep old states) (Bad bad) h m → Under st back set m.1
 start_under old st oss ss states set start bad ls broken h back m k count s1 differ b is l =
     let level : InLevel old oss ls 0 m = leads_level old old oss states set start bad ls broken h 0 h m k count (omega arith) is l in
     let w = b.full m is.packet level l in
@@ -173,7 +173,7 @@ start_under old st oss ss states set start bad ls broken h back m k count s1 dif
     subst (λ n. Under st back n m.1) same w.2
 
 -- where the levels ended at a bad final, some start leads to something bad
-pub start_leads : (old : Held) (oss : List (List ℕ)) (states : List ℕ) (set start : ℕ) (bad : List ℕ → List ℕ → List Out) (ls : List (List (ℕ × ℕ))) (broken : Bool) (h : ℕ) → AreLevels old old oss states set start bad ls broken → broken ≡ true → length ls ≡ h + 1 → (m : Node) × IsStart old (get_or oss set []) start m × Leads (IsStep old states) (Bad bad) h m
+pub start_leads : (old : Held) (oss : List (List ℕ)) (states : List ℕ) (set start : ℕ) (bad : List ℕ → List ℕ → List Out) (ls : List (List (ℕ × ℕ))) (broken : Bool) (h : ℕ) → AreLevels old old oss states set start bad ls broken → broken ≡ true → length ls ≡ h + 1 → (m : Node) × IsStart old (get_or oss set []) start m × LeadsToBad (IsStep old states) (Bad bad) h m
 start_leads old oss states set start bad ls broken h k b count =
     let w = k.broken_at b in
     let below : length ls - 1 < length ls = omega (arith, count) in
@@ -189,7 +189,7 @@ start_some old st oss ss states set start bad ls broken h back k b count g s1 di
 -- the least packet under the start set starts, and is the least of those from where something bad is met
 pub record IsFirst (old : Held) (states set : List ℕ) (start : ℕ) (bad : List ℕ → List ℕ → List Out) (h : ℕ) (y : List ℕ) : Type 0 where
   pub starts : IsStart old set start (set, y)
-  pub first : (z : List ℕ) → IsStart old set start (set, z) → Leads (IsStep old states) (Bad bad) h (set, z) → IsUpTo y z
+  pub first : (z : List ℕ) → IsStart old set start (set, z) → LeadsToBad (IsStep old states) (Bad bad) h (set, z) → IsUpTo y z
 
 module _ (old st : Held) (oss ss : List (List ℕ)) (states : List ℕ) (set start : ℕ) (bad : List ℕ → List ℕ → List Out) (ls : List (List (ℕ × ℕ))) (broken : Bool) (h : ℕ) (back : List (ℕ × ℕ)) (p : ℕ) (y : List ℕ)
     (k : AreLevels old old oss states set start bad ls broken) (count : length ls ≡ h + 1) (g : Grows old st) (s1 : SetsGrow oss ss) (differ : Differ ss) (b : IsBack old st ss states bad (InLevel old oss ls 0) h back) (found : lookup (eqb set) back ≡ Some p) (least : IsLeast st p y) where

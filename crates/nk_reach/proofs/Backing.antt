@@ -17,7 +17,7 @@ use Rattle.nk_reach.proofs.Kept.{Has, packet_on, has_on, has_back}
 use Rattle.nk_reach.proofs.Growing.{sets_known, sets_same, under_on, under_back, under_named, named_known, pairs_of, pairs_on, within_on, within_back, within_places, step_on, step_back}
 use Rattle.nk_reach.proofs.Adding.{under_append, under_left, under_right, named_left, named_right}
 use Rattle.nk_reach.proofs.Going.{level_old, level_new}
-use Rattle.nk_reach.specs.Histories.{Leads}
+use Rattle.nk_reach.specs.Histories.{LeadsToBad}
 use Rattle.nk_reach.specs.Pulls.{IsPulledSoFar}
 use Rattle.nk_reach.specs.Backs.{IsBadSoFar, IsBack, AreBacks}
 use Rattle.nk_reach.proofs.Greedy.{leads_level}
@@ -120,7 +120,7 @@ back_next old st new oss ss nss states set start bad ls broken h i r next back s
     longer : (j : ℕ) → j < length ss → j < length nss
     longer j l = sets_known ss nss j s2 l
 
-    ahead : (n : Node) → IsGood old n → InLevel old oss ls i n → Leads (IsStep old states) (Bad bad) (suc r) n → Within new nss back n
+    ahead : (n : Node) → IsGood old n → InLevel old oss ls i n → LeadsToBad (IsStep old states) (Bad bad) (suc r) n → Within new nss back n
     ahead n w lev l =
         let below : i < length ls = omega (arith, count, e) in
         let at = k.exact.sound i n below w lev in

@@ -9,7 +9,7 @@ use Rattle.nk_algebra.specs.Seqs.{no_out}
 use Rattle.nk_sets.specs.PacketSets.{IsSet}
 use Rattle.nk_sets.proofs.SetLemmas.{set_grows}
 use Rattle.nk_reach.specs.declared.outs.Given.{Given}
-use Rattle.nk_reach.specs.Outs.{given, entry, IsGiven, AreGiven, AreLater, Gives, GivesAny}
+use Rattle.nk_reach.specs.Outs.{given, entry, IsGiven, AreGiven, AreLater, GivesOut, GivesAny}
 use Rattle.nk_reach.proofs.Kept.{Has, has_on, has_back}
 
 -- an entry stays one as the store grows
@@ -33,25 +33,25 @@ pub given_at : (st : Held) (es : List Given) (n : ℕ) (q : Given) → AreGiven 
 given_at st es n q k l is = (is_given_at st es n q k l is).packets
 
 -- what entries give they give in a grown store
-pub gives_on : (a b : Held) (es : List Given) (from to : ℕ) (x : List ℕ) (o : Out) → Grows a b → AreGiven a es → to ≤ length es → Gives a es from to x o → Gives b es from to x o
+pub gives_on : (a b : Held) (es : List Given) (from to : ℕ) (x : List ℕ) (o : Out) → Grows a b → AreGiven a es → to ≤ length es → GivesOut a es from to x o → GivesOut b es from to x o
 gives_on a b es from to x o g k l w = (w.0, w.1, w.2, w.3, has_on a b (entry es w.0).packets x g (k w.0 (omega (arith, l, w.2))).packets.id w.4)
 
 -- what entries give in a grown store they gave before
-pub gives_back : (a b : Held) (es : List Given) (from to : ℕ) (x : List ℕ) (o : Out) → Grows a b → AreGiven a es → to ≤ length es → Gives b es from to x o → Gives a es from to x o
+pub gives_back : (a b : Held) (es : List Given) (from to : ℕ) (x : List ℕ) (o : Out) → Grows a b → AreGiven a es → to ≤ length es → GivesOut b es from to x o → GivesOut a es from to x o
 gives_back a b es from to x o g k l w = (w.0, w.1, w.2, w.3, has_back a b (entry es w.0).packets x g (k w.0 (omega (arith, l, w.2))).packets.id w.4)
 
 -- what the first entries give, one more gives too
-pub gives_more : (st : Held) (es : List Given) (n : ℕ) (x : List ℕ) (o : Out) → Gives st es 0 n x o → Gives st es 0 (n + 1) x o
+pub gives_more : (st : Held) (es : List Given) (n : ℕ) (x : List ℕ) (o : Out) → GivesOut st es 0 n x o → GivesOut st es 0 (n + 1) x o
 gives_more st es n x o w = (w.0, w.1, omega (arith, w.2), w.3, w.4)
 
 -- what one more gives
-pub gives_last : (st : Held) (es : List Given) (n : ℕ) (q : Given) (x : List ℕ) (o : Out) → n < length es → q ≡ get_or es n q → q.out ≡ o → Has st q.packets x → Gives st es 0 (n + 1) x o
+pub gives_last : (st : Held) (es : List Given) (n : ℕ) (q : Given) (x : List ℕ) (o : Out) → n < length es → q ≡ get_or es n q → q.out ≡ o → Has st q.packets x → GivesOut st es 0 (n + 1) x o
 gives_last st es n q x o l is e h =
     let at : q ≡ entry es n = entry_at es n q l is in
     (n, omega arith, omega arith, subst (λ (z : Given). z.out ≡ o) at e, subst (λ (z : Given). Has st z.packets x) at h)
 
 -- what the first entries and one more give, they give or it gives
-pub gives_less : (st : Held) (es : List Given) (n : ℕ) (q : Given) (x : List ℕ) (o : Out) → n < length es → q ≡ get_or es n q → Gives st es 0 (n + 1) x o → Gives st es 0 n x o ⊎ ((q.out ≡ o) × Has st q.packets x)
+pub gives_less : (st : Held) (es : List Given) (n : ℕ) (q : Given) (x : List ℕ) (o : Out) → n < length es → q ≡ get_or es n q → GivesOut st es 0 (n + 1) x o → GivesOut st es 0 n x o ⊎ ((q.out ≡ o) × Has st q.packets x)
 gives_less st es n q x o l is w = elim (eqb_tells w.0 n) [
   | inl same ↦
       let at : entry es w.0 ≡ q = ap (λ k. entry es k) same.1 ∙ sym (entry_at es n q l is) in

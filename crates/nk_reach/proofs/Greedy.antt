@@ -12,7 +12,7 @@ use Rattle.nk_reach.proofs.Rising.{rising_one}
 use Rattle.nk_reach.proofs.Graphs.{reach_good}
 use Rattle.nk_reach.proofs.Growing.{within_or_not}
 use Rattle.nk_reach.proofs.Ways.{bad_not_early}
-use Rattle.nk_reach.specs.Histories.{Walks, IsBreak, Breaks, Leads, IsGreedy}
+use Rattle.nk_reach.specs.Histories.{Walks, IsBreak, Breaks, LeadsToBad, IsGreedy}
 use Rattle.nk_reach.proofs.Walking.{reach_walk, leads_walk, leads_end, least_walks, least_is_least}
 
 -- a step's packet decides its set
@@ -34,7 +34,7 @@ not_early old st ss states set start bad ls broken h j n k count b l r =
     g b j l r
 
 -- from a node of a level that leads to something bad in the steps that are left: it stands in its level
-pub leads_level : (old st : Held) (ss : List (List ℕ)) (states : List ℕ) (set start : ℕ) (bad : List ℕ → List ℕ → List Out) (ls : List (List (ℕ × ℕ))) (broken : Bool) (h i r : ℕ) (n : Node) → AreLevels old st ss states set start bad ls broken → length ls ≡ h + 1 → i + r ≡ h → At old states (get_or ss set []) start i n → Leads (IsStep old states) (Bad bad) r n → InLevel st ss ls i n
+pub leads_level : (old st : Held) (ss : List (List ℕ)) (states : List ℕ) (set start : ℕ) (bad : List ℕ → List ℕ → List Out) (ls : List (List (ℕ × ℕ))) (broken : Bool) (h i r : ℕ) (n : Node) → AreLevels old st ss states set start bad ls broken → length ls ≡ h + 1 → i + r ≡ h → At old states (get_or ss set []) start i n → LeadsToBad (IsStep old states) (Bad bad) r n → InLevel st ss ls i n
 leads_level old st ss states set start bad ls broken h i r n k count e a l =
     k.exact.full i n (omega (arith, count, e)) a
     (λ j c q. let w = leads_end (IsStart old (get_or ss set []) start) (IsStep old states) (Bad bad) j (j + r) r n q l refl in

@@ -10,7 +10,7 @@ use Rattle.nk_algebra.proofs.Built.{Ends, ends_push, ends_rise, each_push, child
 use Rattle.nk_algebra.proofs.PartSums.{rising_some}
 use Rattle.nk_sets.specs.PacketSets.{has_out}
 use Rattle.nk_reach.specs.declared.groups.Stretch.{Stretch}
-use Rattle.nk_reach.specs.Outs.{piece, IsStretch, AreStretches, HasAt, IsNone, AreAlike, with_gap, with_part, HaveRun, IsRunOf}
+use Rattle.nk_reach.specs.Outs.{piece, IsStretch, AreStretches, HasAt, IsNone, HaveOneOut, with_gap, with_stretch, HaveRun, IsRunOf}
 use Rattle.nk_reach.proofs.Kept.{Has}
 
 -- at each value below a bound the parts have the packets of those at these places, which end below it
@@ -18,7 +18,7 @@ pub record IsLaid (st : Held) (f : ℕ) (ss : List Stretch) (from to bound : ℕ
   pub ends : Ends bound 0 parts
   pub children : Each (IsChild st f) parts
   pub sets : Each (IsPredicate st) parts
-  pub alike : AreAlike ss from to
+  pub alike : HaveOneOut ss from to
   pub below : (k : ℕ) → from ≤ k → k < to → (piece ss k).end < bound
   pub goes : (v : ℕ) (x : List ℕ) → IsWhole x → v < bound → Has st (child_at 0 parts v) x → HasAt st ss from to v x (piece ss from).out
   pub comes : (v : ℕ) (x : List ℕ) (o : Out) → IsWhole x → v < bound → HasAt st ss from to v x o → Has st (child_at 0 parts v) x
@@ -99,13 +99,13 @@ laid_part st f ss from to parts h k le is =
 
 -- one more behind the others
 laid_push : (st : Held) (f : ℕ) (ss : List Stretch) (from to bound none : ℕ) (parts : List (ℕ × ℕ)) → IsLaid st f ss from to bound parts → IsNone st none → f < 18 → IsStretch st f (piece ss to) → from ≤ to → (piece ss to).out ≡ (piece ss from).out → bound ≤ (piece ss to).from →
-    IsLaid st f ss from (to + 1) ((piece ss to).end + 1) (with_part bound none (piece ss to) parts)
+    IsLaid st f ss from (to + 1) ((piece ss to).end + 1) (with_stretch bound none (piece ss to) parts)
 laid_push st f ss from to bound none parts h n field k le is l =
     laid_part st f ss from to (with_gap bound none (piece ss to).from parts) (laid_gap st f ss from to bound (piece ss to).from none parts h n field l) k le is
 
 -- one more behind the others, by what stands there
 pub laid_step : (st : Held) (f : ℕ) (ss : List Stretch) (from k bound none e : ℕ) (parts new : List (ℕ × ℕ)) → IsLaid st f ss from k bound parts → IsNone st none → f < 18 → AreStretches st f ss → k < length ss → from ≤ k → (piece ss k).out ≡ (piece ss from).out → bound ≤ (piece ss k).from →
-    new ≡ with_part bound none (piece ss k) parts → e ≡ (piece ss k).end → IsLaid st f ss from (k + 1) (e + 1) new
+    new ≡ with_stretch bound none (piece ss k) parts → e ≡ (piece ss k).end → IsLaid st f ss from (k + 1) (e + 1) new
 laid_step st f ss from k bound none e parts new h n field are l le is low at last =
     let laid = laid_push st f ss from k bound none parts h n field (are k l) le is low in
     subst (λ b. IsLaid st f ss from (k + 1) (b + 1) new) (sym last) (subst (IsLaid st f ss from (k + 1) ((piece ss k).end + 1)) (sym at) laid)

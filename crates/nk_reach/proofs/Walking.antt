@@ -3,7 +3,7 @@ use Rattle.std.proofs.Common.{◌≡◌, ℕ, zero, suc, ◌+◌, ◌⊎◌, inl
 use Rattle.nk_field.specs.Order.{AllPrecede}
 use Rattle.nk_reach.specs.Reach.{Reach}
 use Rattle.nk_reach.specs.Pairs.{Node}
-use Rattle.nk_reach.specs.Histories.{Walks, Leads, IsUpTo, IsLeastWalk}
+use Rattle.nk_reach.specs.Histories.{Walks, LeadsToBad, IsUpTo, IsLeastWalk}
 
 -- a walk from what is reached reaches its end
 pub reach_walk : (Start : Node → Type 0) (Step : Node → Node → Type 0) (i j : ℕ) (m n : Node) (u : List (List ℕ)) → Reach Start Step i m → Walks Step m u n → i + length u ≡ j → Reach Start Step j n
@@ -11,14 +11,14 @@ reach_walk Start Step i j m n [] r w e = let z : i ≡ j = omega (arith, e) in s
 reach_walk Start Step i j m n (y ∷ u) r w e = reach_walk Start Step (suc i) j (w.0, y) n u (m, r, w.1) w.2 (omega (arith, e))
 
 -- a walk to something bad
-pub leads_walk : (Step : Node → Node → Type 0) (Bad : Node → Type 0) (k : ℕ) (m n : Node) (u : List (List ℕ)) → Walks Step m u n → length u ≡ k → Bad n → Leads Step Bad k m
+pub leads_walk : (Step : Node → Node → Type 0) (Bad : Node → Type 0) (k : ℕ) (m n : Node) (u : List (List ℕ)) → Walks Step m u n → length u ≡ k → Bad n → LeadsToBad Step Bad k m
 leads_walk Step Bad zero m n [] w e b = subst Bad (sym w) b
 leads_walk Step Bad (suc k) m n [] w e b = absurd (omega (arith, e))
 leads_walk Step Bad zero m n (y ∷ u) w e b = absurd (omega (arith, e))
 leads_walk Step Bad (suc k) m n (y ∷ u) w e b = ((w.0, y), w.1, leads_walk Step Bad k (w.0, y) n u w.2 (omega (arith, e)) b)
 
 -- something bad that is met from what is reached is reached
-pub leads_end : (Start : Node → Type 0) (Step : Node → Node → Type 0) (Bad : Node → Type 0) (i j k : ℕ) (m : Node) → Reach Start Step i m → Leads Step Bad k m → i + k ≡ j → (n : Node) × Reach Start Step j n × Bad n
+pub leads_end : (Start : Node → Type 0) (Step : Node → Node → Type 0) (Bad : Node → Type 0) (i j k : ℕ) (m : Node) → Reach Start Step i m → LeadsToBad Step Bad k m → i + k ≡ j → (n : Node) × Reach Start Step j n × Bad n
 leads_end Start Step Bad i j zero m r l e = let z : i ≡ j = omega (arith, e) in (m, subst (λ q. Reach Start Step q m) z r, l)
 leads_end Start Step Bad i j (suc k) m r l e = leads_end Start Step Bad (suc i) j k l.0 (m, r, l.1) l.2 (omega (arith, e))
 
@@ -29,11 +29,11 @@ least_walks Step Bad zero m n (y ∷ u) w = absurd w
 least_walks Step Bad (suc k) m n (y ∷ u) w = (w.0, w.1, least_walks Step Bad k (w.0, y) n u w.3)
 
 -- one more record of a least walk
-pub least_push : (Step : Node → Node → Type 0) (Bad : Node → Type 0) (k r : ℕ) (m q : Node) (u : List (List ℕ)) (set y : List ℕ) → IsLeastWalk Step Bad k m u q → k ≡ length u + suc r → Step q (set, y) → ((p : Node) → Step q p → Leads Step Bad r p → IsUpTo y p.1) → IsLeastWalk Step Bad k m (u ++ y ∷ []) (set, y)
+pub least_push : (Step : Node → Node → Type 0) (Bad : Node → Type 0) (k r : ℕ) (m q : Node) (u : List (List ℕ)) (set y : List ℕ) → IsLeastWalk Step Bad k m u q → k ≡ length u + suc r → Step q (set, y) → ((p : Node) → Step q p → LeadsToBad Step Bad r p → IsUpTo y p.1) → IsLeastWalk Step Bad k m (u ++ y ∷ []) (set, y)
 least_push Step Bad zero r m q [] set y w e s f = absurd (omega (arith, e))
 least_push Step Bad (suc k) r m q [] set y w e s f =
     let z : r ≡ k = omega (arith, e) in
-    (set, subst (λ v. Step v (set, y)) (sym w) s, λ p t l. f p (subst (λ v. Step v p) w t) (subst (λ v. Leads Step Bad v p) (sym z) l), refl)
+    (set, subst (λ v. Step v (set, y)) (sym w) s, λ p t l. f p (subst (λ v. Step v p) w t) (subst (λ v. LeadsToBad Step Bad v p) (sym z) l), refl)
 least_push Step Bad zero r m q (x ∷ u) set y w e s f = absurd w
 least_push Step Bad (suc k) r m q (x ∷ u) set y w e s f = (w.0, w.1, w.2, least_push Step Bad k r (w.0, x) q u set y w.3 (omega (arith, e)) s f)
 

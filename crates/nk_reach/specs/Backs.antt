@@ -5,7 +5,7 @@ use Rattle.nk_store.specs.Held.{Held, IsPacket}
 use Rattle.nk_reach.specs.Pairs.{Node, Under, Named, Once, Within, ArePairs, IsStep, IsGood}
 use Rattle.nk_reach.specs.Levels.{Bad, InLevel}
 use Rattle.nk_reach.specs.Rounds.{HaveSets}
-use Rattle.nk_reach.specs.Histories.{Leads}
+use Rattle.nk_reach.specs.Histories.{LeadsToBad}
 
 -- back has the packets of these entries with a bad final
 pub record IsBadSoFar (st : Held) (ss : List (List ℕ)) (bad : List ℕ → List ℕ → List Out) (done : List (ℕ × ℕ)) (new : Held) (back : List (ℕ × ℕ)) : Type 0 where
@@ -17,8 +17,8 @@ pub record IsBadSoFar (st : Held) (ss : List (List ℕ)) (bad : List ℕ → Lis
 
 -- the entries are the nodes of a level from where something bad is met in r steps
 pub record IsBack (old : Held) (st : Held) (ss : List (List ℕ)) (states : List ℕ) (bad : List ℕ → List ℕ → List Out) (Lev : Node → Type 0) (r : ℕ) (back : List (ℕ × ℕ)) : Type 0 where
-  pub sound : (n : Node) → IsGood old n → Within st ss back n → Lev n × Leads (IsStep old states) (Bad bad) r n
-  pub full : (n : Node) → IsGood old n → Lev n → Leads (IsStep old states) (Bad bad) r n → Within st ss back n
+  pub sound : (n : Node) → IsGood old n → Within st ss back n → Lev n × LeadsToBad (IsStep old states) (Bad bad) r n
+  pub full : (n : Node) → IsGood old n → Lev n → LeadsToBad (IsStep old states) (Bad bad) r n → Within st ss back n
   pub pairs : ArePairs st ss (length states) back
 
 -- of the first n lists, list k has the nodes of the level k before level h from where something bad is met in k steps

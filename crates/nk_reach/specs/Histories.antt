@@ -9,9 +9,9 @@ use Rattle.nk_reach.specs.Levels.{Bad}
 use Rattle.nk_reach.specs.Sides.{Makes}
 
 -- something bad is met in exactly so many steps
-abbrev pub Leads : (Node → Node → Type 0) → (Node → Type 0) → ℕ → Node → Type 0
-Leads Step Bad zero n = Bad n
-Leads Step Bad (suc k) n = (m : Node) × Step n m × Leads Step Bad k m
+abbrev pub LeadsToBad : (Node → Node → Type 0) → (Node → Type 0) → ℕ → Node → Type 0
+LeadsToBad Step Bad zero n = Bad n
+LeadsToBad Step Bad (suc k) n = (m : Node) × Step n m × LeadsToBad Step Bad k m
 
 -- the packet is the other, or comes before it
 abbrev pub IsUpTo : List ℕ → List ℕ → Type 0
@@ -23,13 +23,13 @@ abbrev pub IsLeastWalk : (Node → Node → Type 0) → (Node → Type 0) → �
 IsLeastWalk Step Bad k m [] n = m ≡ n
 IsLeastWalk Step Bad zero m (y ∷ u) n = ⊥
 IsLeastWalk Step Bad (suc k) m (y ∷ u) n =
-    (set : List ℕ) × Step m (set, y) × ((q : Node) → Step m q → Leads Step Bad k q → IsUpTo y q.1) × IsLeastWalk Step Bad k (set, y) u n
+    (set : List ℕ) × Step m (set, y) × ((q : Node) → Step m q → LeadsToBad Step Bad k q → IsUpTo y q.1) × IsLeastWalk Step Bad k (set, y) u n
 
 -- what makes a history the least one: the least start from where something bad is met in h steps, the least walk from it,
 -- and the least packet that the bad finals make there
 pub record IsGreedy (st : Held) (states set : List ℕ) (start : ℕ) (bad : List ℕ → List ℕ → List Out) (h : ℕ) (f : Found) (n : Node) (target : ℕ) : Type 0 where
   pub starts : IsStart st set start (set, f.start)
-  pub first : (y : List ℕ) → IsStart st set start (set, y) → Leads (IsStep st states) (Bad bad) h (set, y) → IsUpTo f.start y
+  pub first : (y : List ℕ) → IsStart st set start (set, y) → LeadsToBad (IsStep st states) (Bad bad) h (set, y) → IsUpTo f.start y
   pub walk : IsLeastWalk (IsStep st states) (Bad bad) h (set, f.start) f.records n
   pub count : length f.records ≡ h
   pub makes : Makes (bad n.0 n.1) n.1 f.last target

@@ -6,14 +6,14 @@ use Rattle.nk_store.specs.Held.{Held, IsId, Grows}
 use Rattle.nk_determ.specs.Sets.{SetsGrow}
 use Rattle.nk_reach.specs.Pairs.{Node, AreStates, HavePlaces, IsStep}
 use Rattle.nk_reach.specs.Levels.{At, Bad, InLevel, AreLevels}
-use Rattle.nk_reach.specs.Histories.{Breaks, Leads, IsGreedy}
+use Rattle.nk_reach.specs.Histories.{Breaks, LeadsToBad, IsGreedy}
 use Rattle.nk_reach.specs.Finds.{first_set, first_packets}
 
 -- what is met in i steps, and from where something bad is met in the steps that are left to the last level, stands in level i
 abbrev pub LeadingStandInLevels : Type 0
 LeadingStandInLevels =
     (st : Held) (ss : List (List ℕ)) (states : List ℕ) (set start : ℕ) (bad : List ℕ → List ℕ → List Out) (ls : List (List (ℕ × ℕ))) (broken : Bool) (i r : ℕ) (n : Node) →
-    AreLevels st st ss states set start bad ls broken → length ls ≡ i + r + 1 → At st states (slice_index_or ss set []) start i n → Leads (IsStep st states) (Bad bad) r n → InLevel st ss ls i n
+    AreLevels st st ss states set start bad ls broken → length ls ≡ i + r + 1 → At st states (slice_index_or ss set []) start i n → LeadsToBad (IsStep st states) (Bad bad) r n → InLevel st ss ls i n
 
 -- the least start from where something bad is met in as many steps as lead to the last level, the least walk from it and the
 -- least end of that walk are the least history that breaks the goal

@@ -33,12 +33,12 @@ abbrev pub AreLater : Held → ℕ → List Given → Type 0
 AreLater st f es = (k : ℕ) → k < length es → f ≤ top st (entry es k).packets
 
 -- an entry at one of these places has the out, and its set has the packet
-abbrev pub Gives : Held → List Given → ℕ → ℕ → List ℕ → Out → Type 0
-Gives st es from to x o = (k : ℕ) × (from ≤ k) × (k < to) × ((entry es k).out ≡ o) × (is_in st (entry es k).packets x ≡ true)
+abbrev pub GivesOut : Held → List Given → ℕ → ℕ → List ℕ → Out → Type 0
+GivesOut st es from to x o = (k : ℕ) × (from ≤ k) × (k < to) × ((entry es k).out ≡ o) × (is_in st (entry es k).packets x ≡ true)
 
 -- the same of all places
 abbrev pub GivesAny : Held → List Given → List ℕ → Out → Type 0
-GivesAny st es x o = Gives st es 0 (length es) x o
+GivesAny st es x o = GivesOut st es 0 (length es) x o
 
 -- the entries have for each out of the diagram exactly the packets with that out
 pub record IsByOut (st : Held) (d : ℕ) (es : List Given) : Type 0 where
@@ -116,18 +116,18 @@ abbrev pub with_gap : ℕ → ℕ → ℕ → List (ℕ × ℕ) → List (ℕ ×
 with_gap next none from parts = cond (leb from next) parts (parts ++ (from - 1, none) ∷ [])
 
 -- the parts, with the stretch's one behind them, and what is between of no packets
-abbrev pub with_part : ℕ → ℕ → Stretch → List (ℕ × ℕ) → List (ℕ × ℕ)
-with_part next none s parts = with_gap next none s.from parts ++ (s.end, s.packets) ∷ []
+abbrev pub with_stretch : ℕ → ℕ → Stretch → List (ℕ × ℕ) → List (ℕ × ℕ)
+with_stretch next none s parts = with_gap next none s.from parts ++ (s.end, s.packets) ∷ []
 
 -- those at these places have the out of the first one
-abbrev pub AreAlike : List Stretch → ℕ → ℕ → Type 0
-AreAlike ss from to = (k : ℕ) → from ≤ k → k < to → (piece ss k).out ≡ (piece ss from).out
+abbrev pub HaveOneOut : List Stretch → ℕ → ℕ → Type 0
+HaveOneOut ss from to = (k : ℕ) → from ≤ k → k < to → (piece ss k).out ≡ (piece ss from).out
 
 -- those at these places have one out, and at each value of f the parts have their packets
 pub record HaveRun (st : Held) (f : ℕ) (ss : List Stretch) (from to : ℕ) (parts : List (ℕ × ℕ)) : Type 0 where
   pub later : from < to
   pub within : to ≤ length ss
-  pub alike : AreAlike ss from to
+  pub alike : HaveOneOut ss from to
   pub parts_ok : AreParts st f parts
   pub sets : Each (IsPredicate st) parts
   pub goes : (v : ℕ) (x : List ℕ) → IsWhole x → v ≤ slice_index st.maxes f → is_in st (child_at 0 parts v) x ≡ true → HasAt st ss from to v x (piece ss from).out
@@ -137,7 +137,7 @@ pub record HaveRun (st : Held) (f : ℕ) (ss : List Stretch) (from to : ℕ) (pa
 pub record IsRunOf (old : Held) (f : ℕ) (ss : List Stretch) (from to : ℕ) (new : Held) (p : ℕ) : Type 0 where
   pub later : from < to
   pub within : to ≤ length ss
-  pub alike : AreAlike ss from to
+  pub alike : HaveOneOut ss from to
   pub packets : IsSet new p
   pub first : f ≤ top new p
   pub goes : (x : List ℕ) → IsPacket old x → is_in new p x ≡ true → HasAt old ss from to (slice_index x f) x (piece ss from).out

@@ -7,7 +7,7 @@ use Rattle.nk_sets.specs.PacketSets.{is_in, IsSet}
 use Rattle.nk_determ.specs.Sets.{Differ}
 use Rattle.nk_reach.specs.Pairs.{Node, Under, Named, Once, EachPair, Within, ArePairs, HavePlaces, IsStep}
 use Rattle.nk_reach.specs.Levels.{IsFilled}
-use Rattle.nk_reach.specs.Outs.{Gives}
+use Rattle.nk_reach.specs.Outs.{GivesOut}
 use Rattle.nk_reach.specs.declared.outs.Given.{Given}
 
 -- each entry has a set of packets
@@ -103,9 +103,9 @@ pub record IsSent (st : Held) (o : Out) (p : ℕ) (ps : List (ℕ × ℕ)) (new 
 
 -- beside what was there stands what the first n of these entries make
 pub record IsAllSent (st : Held) (es : List Given) (n : ℕ) (ps : List (ℕ × ℕ)) (new : Held) (qs : List (ℕ × ℕ)) : Type 0 where
-  pub from : (i : ℕ) (y : List ℕ) → IsPacket st y → Under new qs i y → Under st ps i y ⊎ ((z : List ℕ) × (g : List (ℕ × ℕ)) × IsPacket st z × Gives st es 0 n z (sent_to g (i + 1)) × (applied g z ≡ y))
+  pub from : (i : ℕ) (y : List ℕ) → IsPacket st y → Under new qs i y → Under st ps i y ⊎ ((z : List ℕ) × (g : List (ℕ × ℕ)) × IsPacket st z × GivesOut st es 0 n z (sent_to g (i + 1)) × (applied g z ≡ y))
   pub old : (i : ℕ) (y : List ℕ) → IsPacket st y → Under st ps i y → Under new qs i y
-  pub every : (i : ℕ) (z y : List ℕ) (g : List (ℕ × ℕ)) → IsPacket st z → IsPacket st y → Gives st es 0 n z (sent_to g (i + 1)) → applied g z ≡ y → Under new qs i y
-  pub named : (i : ℕ) → Named qs i → Named ps i ⊎ ((z : List ℕ) × (g : List (ℕ × ℕ)) × IsPacket st z × Gives st es 0 n z (sent_to g (i + 1)) × IsPacket st (applied g z))
+  pub every : (i : ℕ) (z y : List ℕ) (g : List (ℕ × ℕ)) → IsPacket st z → IsPacket st y → GivesOut st es 0 n z (sent_to g (i + 1)) → applied g z ≡ y → Under new qs i y
+  pub named : (i : ℕ) → Named qs i → Named ps i ⊎ ((z : List ℕ) × (g : List (ℕ × ℕ)) × IsPacket st z × GivesOut st es 0 n z (sent_to g (i + 1)) × IsPacket st (applied g z))
   pub packets : HaveSets new qs
   pub once : Once qs

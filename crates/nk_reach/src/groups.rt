@@ -1,7 +1,7 @@
 //! Outs by the values of a field, those of one out put together.
 ghost use Rattle.std.specs.Prelude.{◌≡◌, ℕ, ◌<◌, ◌≤◌, IfOk, OnOk, true, [], length, slice_index, IsPermutation};
 ghost use Rattle.nk_store.specs.Held.{IsId, Grows, HasLeaves, top};
-ghost use Rattle.nk_reach.specs.Outs.{IsByOut, AreStretches, AreOfDiagram, AreUnited, IsRunOf, HaveRun, IsNone, piece, with_part};
+ghost use Rattle.nk_reach.specs.Outs.{IsByOut, AreStretches, AreOfDiagram, AreUnited, IsRunOf, HaveRun, IsNone, piece, with_stretch};
 
 use crate::outs::Given;
 use nk_algebra::empty;
@@ -141,7 +141,7 @@ fn put_part(
     k: usize,
 ) -> Result<(), AllocError>
     requires { k < length ss.now }
-    ensures { OnOk result (parts.new ≡ with_part next none (piece ss.now k) parts.old) }
+    ensures { OnOk result (parts.new ≡ with_stretch next none (piece ss.now k) parts.old) }
 {
     let from = ss[k].from;
     if next < from {
