@@ -14,7 +14,7 @@ use Rattle.std.proofs.lemmas.List.Kept.{AllPairs-cons}
 use Rattle.std.proofs.lemmas.List.Sorted.{sorted_far, ranks_by}
 use Rattle.nk_field.specs.declared.history.History.{History}
 use Rattle.nk_field.specs.Order.{Precedes, AllPrecede, IsLess}
-use Rattle.nk_sim.specs.Flights.{AreAlike}
+use Rattle.nk_sim.specs.Flights.{HaveOneLength}
 use Rattle.nk_sim.specs.Traces.{AreOrderedFrom, found}
 use Rattle.nk_sim.proofs.Sizes.{Long, IsHistorySized}
 
@@ -78,7 +78,7 @@ histories_ranked pk n m g h a b =
     by_records Equal Greater p q = inr (b.0 ∙ sym a.0, inr (refl, inr (sym p, q)))
 
 -- sorted histories are in order
-pub sorted_in_order : (hs : List History) → IsSorted history_cmp hs → AreAlike hs → (pk : List ℕ) → AreOrderedFrom pk hs
+pub sorted_in_order : (hs : List History) → IsSorted history_cmp hs → HaveOneLength hs → (pk : List ℕ) → AreOrderedFrom pk hs
 sorted_in_order hs up alike pk = λ i j d lt less.
     let g : History = slice_index_or hs i d in
     let h : History = slice_index_or hs j d in

@@ -5,20 +5,20 @@ use Rattle.std.specs.List.{list_any}
 use Rattle.std.proofs.lemmas.Bool.Decides.{nat_tests}
 use Rattle.nk_topo.specs.Topology.{SwitchPorts, Link, Topology, IsTopology, target_among, link_from, is_port}
 use Rattle.nk_topo.proofs.Members.{In, contains_from_in}
-use Rattle.nk_sim.specs.Emitted.{AreNumbers}
+use Rattle.nk_sim.specs.Emitted.{ArePlaceNumbers}
 
 -- a number below isn't one that isn't
 differs : (m n : ℕ) → m < 65536 → 65536 ≤ n → (m == n) ≡ false
 differs m n lt le = grind (arith, nat_tests)
 
 -- no port is as large
-pub no_port : (ns : List ℕ) (n : ℕ) → 65536 ≤ n → AreNumbers ns → list_any (λ p. p == n) ns ≡ false
+pub no_port : (ns : List ℕ) (n : ℕ) → 65536 ≤ n → ArePlaceNumbers ns → list_any (λ p. p == n) ns ≡ false
 no_port [] n le h = refl
 no_port (m ∷ ns) n le h =
     ap (λ b. b || list_any (λ p. p == n) ns) (differs m n (h 0) le) ∙ no_port ns n le (λ k. h (suc k))
 
 -- no switch is as large
-pub no_switch : (ss : List SwitchPorts) (sw pt : ℕ) → 65536 ≤ sw → AreNumbers (map (λ s. s.switch) ss)
+pub no_switch : (ss : List SwitchPorts) (sw pt : ℕ) → 65536 ≤ sw → ArePlaceNumbers (map (λ s. s.switch) ss)
     → list_any (λ s. (s.switch == sw) && list_any (λ p. p == pt) s.ports) ss ≡ false
 no_switch [] sw pt le h = refl
 no_switch (s ∷ ss) sw pt le h =

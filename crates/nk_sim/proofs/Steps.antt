@@ -17,7 +17,7 @@ use Rattle.nk_sim.specs.declared.flight.Crossing.{Crossing}
 use Rattle.nk_sim.specs.declared.flight.Flying.{Flying}
 use Rattle.nk_sim.specs.declared.tracing.State.{State}
 use Rattle.nk_sim.specs.declared.tracing.Traced.{Traced}
-use Rattle.nk_sim.specs.Flights.{HaveTrails, copy_of, copies_of, sent_flying, crossed, leaves, left_by, AreCrossed, AreWaiting, IsAt, AreAlike, IsSortedFrom}
+use Rattle.nk_sim.specs.Flights.{HaveTrails, copy_of, copies_of, sent_flying, crossed, leaves, left_by, AreCrossed, AreWaiting, IsAt, HaveOneLength, IsSortedFrom}
 use Rattle.nk_sim.specs.Traces.{as_history, histories_after, histories_before, AreOrderedFrom, IsTrace}
 use Rattle.nk_sim.proofs.Trails.{Has}
 use Rattle.nk_sim.proofs.Sizes.{all_joined, IsHistorySized, after_sized, before_shorter}
@@ -96,7 +96,7 @@ pub all_next : (t : Tables) (pk : List ℕ) (k : ℕ) (so_far left later all : L
     → IsPermutation (histories_before t (k + 1) pk) all × AreOrderedFrom pk all
 all_next t pk k so_far left later all before ordered e joined sorted =
     let after : IsPermutation (histories_after t k pk) later = subst (λ l. IsPermutation l later) e sorted.all in
-    let alike : AreAlike left = (length pk, k + k, subst (All (IsHistorySized (length pk) (k + k))) (sym e) (after_sized t k pk)) in
+    let alike : HaveOneLength left = (length pk, k + k, subst (All (IsHistorySized (length pk) (k + k))) (sym e) (after_sized t k pk)) in
     let short : All (λ (h : History). length h.records < k + k) so_far =
     All-permutation (λ (h : History). length h.records < k + k) (histories_before t k pk) so_far before (before_shorter t k pk) in
     let size : All (IsHistorySized (length pk) (k + k)) later =

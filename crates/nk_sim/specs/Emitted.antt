@@ -28,5 +28,5 @@ abbrev pub sent_by_table : (maxima pk : List ℕ) → Table → List (List ℕ)
 sent_by_table maxima pk t = sent_by_all pk (buckets_of_row t.groups (highest [] (filter (agrees maxima pk) t.rows)))
 
 -- numbers of switches or ports
-abbrev pub AreNumbers : List ℕ → Type 0
-AreNumbers ns = (k : ℕ) → slice_index ns k < 65536
+abbrev pub ArePlaceNumbers : List ℕ → Type 0
+ArePlaceNumbers ns = (k : ℕ) → slice_index ns k < 65536

@@ -87,10 +87,10 @@ pub record IsAt (t : Tables) (pk : List ℕ) (k : ℕ) (s : State) : Type 0 wher
   pub ordered : AreOrderedFrom pk s.histories.items
 
 -- records and last packets of histories are of the same lengths, and there are as many records
-abbrev pub AreAlike : List History → Type 0
-AreAlike hs = (n m : ℕ) × All (λ (h : History). (length h.records ≡ m) × All (λ p. length p ≡ n) h.records × (length h.last ≡ n)) hs
+abbrev pub HaveOneLength : List History → Type 0
+HaveOneLength hs = (n m : ℕ) × All (λ (h : History). (length h.records ≡ m) × All (λ p. length p ≡ n) h.records × (length h.last ≡ n)) hs
 
 -- the same histories, in order where they are alike
 pub record IsSortedFrom (hs sorted : List History) : Type 0 where
   pub all : IsPermutation hs sorted
-  pub ordered : AreAlike hs → (pk : List ℕ) → AreOrderedFrom pk sorted
+  pub ordered : HaveOneLength hs → (pk : List ℕ) → AreOrderedFrom pk sorted

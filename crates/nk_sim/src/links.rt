@@ -1,7 +1,7 @@
 //! Where a packet that was sent goes on.
 ghost use Rattle.std.specs.Prelude.{◌≡◌, ◌<◌, ◌≤◌, Some, None, MatchOption, false, slice_index};
 ghost use Rattle.nk_topo.specs.Topology as declared;
-ghost use Rattle.nk_sim.specs.Emitted.{AreNumbers};
+ghost use Rattle.nk_sim.specs.Emitted.{ArePlaceNumbers};
 
 use nk_field::{Fid, Packet};
 use nk_topo::Topo;
@@ -66,5 +66,5 @@ fn place(p: &Packet, f: Fid) -> Option<u16>
 
 /// Switches and ports are below 65,536.
 fn are_numbers(numbers: &[u16])
-    ensures { AreNumbers numbers.now }
+    ensures { ArePlaceNumbers numbers.now }
 {}

@@ -1,7 +1,7 @@
 use Rattle.std.proofs.Common.{◌∙◌, ap, sym, subst}
 use Rattle.std.specs.Prelude.{slice_index}
 use Rattle.nk_topo.specs.Topology.{is_port}
-use Rattle.nk_sim.specs.Emitted.{AreNumbers}
+use Rattle.nk_sim.specs.Emitted.{ArePlaceNumbers}
 use Rattle.nk_sim.proofs.Ports.{no_port, no_switch}
 use Rattle.nk_sim.proofs.links.numbers_at.Goals as goal
 
@@ -13,4 +13,4 @@ returns-in-None-place c =
 
 pub returns-in-None : goal.returns-in-None
 returns-in-None c =
-    no_switch c.args.topo.now.switches _ _ c.in-None.ensures (subst AreNumbers c.switches.ensures.numbers c.are_numbers.ensures)
+    no_switch c.args.topo.now.switches _ _ c.in-None.ensures (subst ArePlaceNumbers c.switches.ensures.numbers c.are_numbers.ensures)
