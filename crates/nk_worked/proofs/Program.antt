@@ -16,7 +16,7 @@ use Rattle.nk_table.specs.Worked.{one_link}
 use Rattle.nk_compile.specs.Carries.{Carries}
 use Rattle.nk_compile.proofs.Printed.{accepted_carries}
 use Rattle.nk_worked.specs.TwoSwitches.{dst_and_tag, over_one_link, one_set, two_tables}
-use Rattle.nk_worked.specs.TheirTable.{program_of, IsAcceptedThere}
+use Rattle.nk_worked.specs.TheirTable.{program_with, IsAcceptedThere}
 use Rattle.nk_worked.proofs.States.{there}
 use Rattle.nk_worked.proofs.TagSet.{compilable, is_the_one}
 use Rattle.nk_worked.proofs.Tables.{all_of_one, all_of_two, fields_are, links_are, in_range, table_is}
@@ -101,13 +101,13 @@ is_program = record {
   policies = all_of_one (λ (l : List ℕ × Pol). IsLet dst_and_tag (tree_of l.1)) (codes "p", held) (subst (IsLet dst_and_tag) (sym held_is) is_let);
 }
 
-pub is_accepted : IsAccepted (program_of held) over_one_link
+pub is_accepted : IsAccepted (program_with held) over_one_link
 is_accepted = (compilable, (one_set, omega arith, λ s h. subst (λ q. Contains one_set q) (sym (is_the_one s h)) (there (1 ∷ []))))
 
 -- the law on printed tables, of this program
-pub carried : Carries (program_of held) over_one_link two_tables
+pub carried : Carries (program_with held) over_one_link two_tables
 carried =
-    accepted_carries (program_of held) (codes "p") over_one_link two_tables is_program (ap Some held_is) is_accepted table_is
+    accepted_carries (program_with held) (codes "p") over_one_link two_tables is_program (ap Some held_is) is_accepted table_is
 
 pub accepted : IsAcceptedThere
 accepted = record {

@@ -32,18 +32,18 @@ pub record IsPrintedThere : Type 0 where
   pub table : IsTableOf dst_and_tag one_link (IsStart dst_and_tag one_link) over_one_link two_tables
 
 -- the program whose one let has the name p
-abbrev pub program_of : Pol → Program
-program_of q = record { fields = dst_and_tag; topo = one_link; lets = (codes "p", q) ∷ [] }
+abbrev pub program_with : Pol → Program
+program_with q = record { fields = dst_and_tag; topo = one_link; lets = (codes "p", q) ∷ [] }
 
 -- a program has the policy under the name p, with all that the law asks of an accepted policy; so the tables carry it
 pub record IsAcceptedThere : Type 0 where
   pub held : Pol
   pub tree : tree_of held ≡ over_one_link
   pub program : IsProgram dst_and_tag one_link ((codes "p", held) ∷ [])
-  pub named : policy_named (program_of held) (codes "p") ≡ Some over_one_link
-  pub accepted : IsAccepted (program_of held) over_one_link
+  pub named : policy_named (program_with held) (codes "p") ≡ Some over_one_link
+  pub accepted : IsAccepted (program_with held) over_one_link
   pub table : IsTableOf dst_and_tag one_link (IsStart dst_and_tag one_link) over_one_link two_tables
-  pub carries : Carries (program_of held) over_one_link two_tables
+  pub carries : Carries (program_with held) over_one_link two_tables
 
 -- the packet that enters at port 1 of switch 1 with dst 3, and the history with which it leaves
 abbrev pub entering : List ℕ
