@@ -10,7 +10,7 @@ use Rattle.nk_store.specs.Diagram.{case}
 use Rattle.nk_store.specs.Intervals.{same_tree, with_most, values_with}
 use Rattle.nk_prefix.specs.Blocks.{blocks_of}
 use Rattle.nk_table.specs.Buckets.{same_buckets}
-use Rattle.nk_extract.specs.RuleTree.{Path, PathInterval, is_drop, with_match, block_paths, paths_of, path_intervals}
+use Rattle.nk_extract.specs.RuleTree.{Path, PathInterval, is_drop_leaf, with_match, block_paths, paths_of, path_intervals}
 use Rattle.nk_store.specs.ElseChild.{Span, spans, size_of, largest, else_of}
 use Rattle.nk_extract.specs.Ways.{span_ways, node_ways, is_empty_leaf, ways_in, bucket_list}
 use Rattle.nk_extract.proofs.Trees.{Tree, same_tree_tells, same_tree_self}
@@ -80,19 +80,19 @@ module _ (maxima : List ℕ) (tree : ℕ → Tree) (ways : ℕ → List Path) (G
   blocks_are :
       (max f : ℕ) (other : PathInterval) (c : ℕ) (ps : List (ℕ × ℕ)) (from : ℕ) → IsAt other c
       → Each Good ps
-      → flat_map (span_ways max f (is_drop (tree c)) c ways) (spans ps from) ≡ flat_map (block_paths max f other) (path_intervals maxima (branches_of ps tree) from)
+      → flat_map (span_ways max f (is_drop_leaf (tree c)) c ways) (spans ps from) ≡ flat_map (block_paths max f other) (path_intervals maxima (branches_of ps tree) from)
   blocks_are max f other c [] from a e = refl
   blocks_are max f other c (p ∷ ps) from a e =
-      ap (λ l. l ++ flat_map (span_ways max f (is_drop (tree c)) c ways) (spans ps (p.0 + 1)))
-      (ap (λ t. cond t [] (flat_map (λ b. map (with_match f (is_drop (tree c)) b) (ways p.1)) (blocks_of from p.0 max))) (sym (same_back c p.1 a.good e.0))
-      ∙ ap (λ l. cond (same_tree (tree c) same_buckets (tree p.1)) [] (flat_map (λ b. map (with_match f (is_drop (tree c)) b) l) (blocks_of from p.0 max))) (made p.1 e.0)
-      ∙ ap (λ t. cond (same_tree t same_buckets (tree p.1)) [] (flat_map (λ b. map (with_match f (is_drop t) b) (paths_of maxima (tree p.1))) (blocks_of from p.0 max))) (sym a.child))
+      ap (λ l. l ++ flat_map (span_ways max f (is_drop_leaf (tree c)) c ways) (spans ps (p.0 + 1)))
+      (ap (λ t. cond t [] (flat_map (λ b. map (with_match f (is_drop_leaf (tree c)) b) (ways p.1)) (blocks_of from p.0 max))) (sym (same_back c p.1 a.good e.0))
+      ∙ ap (λ l. cond (same_tree (tree c) same_buckets (tree p.1)) [] (flat_map (λ b. map (with_match f (is_drop_leaf (tree c)) b) l) (blocks_of from p.0 max))) (made p.1 e.0)
+      ∙ ap (λ t. cond (same_tree t same_buckets (tree p.1)) [] (flat_map (λ b. map (with_match f (is_drop_leaf t) b) (paths_of maxima (tree p.1))) (blocks_of from p.0 max))) (sym a.child))
       ∙ ap (λ l. block_paths max f other record { first = from; last = p.0; child = tree p.1; made = paths_of maxima (tree p.1) } ++ l) (blocks_are max f other c ps (p.0 + 1) a e.1)
 
   -- the ways of a choice are those of its tree
   pub node_is :
       (maxes : List ℕ) (tag f : ℕ) (ps : List (ℕ × ℕ)) (drops : ℕ → Bool)
-      → slice_index maxes f ≡ slice_index maxima f → ((c : ℕ) → Good c → drops c ≡ is_drop (tree c))
+      → slice_index maxes f ≡ slice_index maxima f → ((c : ℕ) → Good c → drops c ≡ is_drop_leaf (tree c))
       → 0 < length ps → Each Good ps
       → node_ways maxes tag (Case f ps) drops ways ≡ paths_of maxima (case f (branches_of ps tree))
   node_is maxes tag f [] drops same d h e = absurd (omega arith)
@@ -124,10 +124,10 @@ module _ (maxima : List ℕ) (tree : ℕ → Tree) (ways : ℕ → List Path) (G
 drops_by :
     (tag : ℕ) (ns : List Node) (c : ℕ) (n : Node) → c < length ns → node_at ns c ≡ n
     → ((f : ℕ) (ps : List (ℕ × ℕ)) → n ≡ Case f ps → Each (λ k. k < c) ps)
-    → is_empty_leaf n ≡ is_drop (tree_in (bucket_list tag) ns c)
-drops_by tag ns c (Leaf []) h e b = sym (ap is_drop (tree_leaf (bucket_list tag) ns c [] h e))
-drops_by tag ns c (Leaf (o ∷ os)) h e b = sym (ap is_drop (tree_leaf (bucket_list tag) ns c (o ∷ os) h e))
-drops_by tag ns c (Case f ps) h e b = sym (ap is_drop (tree_case (bucket_list tag) ns c f ps h e (b f ps refl)))
+    → is_empty_leaf n ≡ is_drop_leaf (tree_in (bucket_list tag) ns c)
+drops_by tag ns c (Leaf []) h e b = sym (ap is_drop_leaf (tree_leaf (bucket_list tag) ns c [] h e))
+drops_by tag ns c (Leaf (o ∷ os)) h e b = sym (ap is_drop_leaf (tree_leaf (bucket_list tag) ns c (o ∷ os) h e))
+drops_by tag ns c (Case f ps) h e b = sym (ap is_drop_leaf (tree_case (bucket_list tag) ns c f ps h e (b f ps refl)))
 
 module _ (maxes maxima : List ℕ) (same : (f : ℕ) → slice_index maxes f ≡ slice_index maxima f) (tag : ℕ) (ns : List Node) (Good : ℕ → Type 0) (id : (d : ℕ) → Good d → d < length ns) (some : (d f : ℕ) (ps : List (ℕ × ℕ)) → Good d → node_at ns d ≡ Case f ps → 0 < length ps) (below : (d f : ℕ) (ps : List (ℕ × ℕ)) → Good d → node_at ns d ≡ Case f ps → Each (λ c. c < d) ps) (good : (d f : ℕ) (ps : List (ℕ × ℕ)) → Good d → node_at ns d ≡ Case f ps → Each Good ps) (one : (c d : ℕ) → Good c → Good d → tree_in (bucket_list tag) ns c ≡ tree_in (bucket_list tag) ns d → c ≡ d) where
   -- what holds of each child twice

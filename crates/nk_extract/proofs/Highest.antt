@@ -9,7 +9,7 @@ use Rattle.nk_store.specs.Intervals.{same_tree, with_most}
 use Rattle.nk_field.proofs.Lists.{In, in_from_contains}
 use Rattle.nk_table.specs.declared.Bucket.{Bucket}
 use Rattle.nk_table.specs.Buckets.{same_buckets}
-use Rattle.nk_extract.specs.RuleTree.{Path, PathInterval, is_drop, with_match, block_paths, paths_of, path_intervals, bit_of, priority_of}
+use Rattle.nk_extract.specs.RuleTree.{Path, PathInterval, is_drop_leaf, with_match, block_paths, paths_of, path_intervals, bit_of, priority_of}
 use Rattle.nk_extract.specs.Chosen.{Apart, IsTop}
 use Rattle.nk_extract.proofs.Lists.{every_in, every_weaker, every_append, every_map, every_flat_map, every_filter, every_true, filter_append_is, apart_append, apart_map, top_map, top_append}
 use Rattle.nk_extract.proofs.Bits.{bits_double, bit_positive}
@@ -39,12 +39,12 @@ module _ (width tag : ℕ) (maxima : List ℕ) where
       let other = other_of maxima bs end d in
       let Small : Path → Type 0 = λ p. weight width tag p < bit_of width tag g in
       let Below : Path → Type 0 = λ p. weight width tag p < bit_of width tag f in
-      let raise : (b : ℕ × ℕ) (ps : List Path) → AllByRecursion Small ps → AllByRecursion Below (map (with_match g (is_drop other.child) b) ps) =
-      λ b ps small. every_map Below (with_match g (is_drop other.child) b) ps (every_weaker Small (λ p. Below (with_match g (is_drop other.child) b p)) ps (λ p s. omega (arith, s, double)) small) in
-      let by : (i : PathInterval) (t : Bool) → AllByRecursion Small i.made → AllByRecursion Below (cond t [] (flat_map (λ b. map (with_match g (is_drop other.child) b) i.made) (blocks_of i.first i.last max))) =
-      λ i t small. elim t as (λ z. AllByRecursion Below (cond z [] (flat_map (λ b. map (with_match g (is_drop other.child) b) i.made) (blocks_of i.first i.last max)))) [
+      let raise : (b : ℕ × ℕ) (ps : List Path) → AllByRecursion Small ps → AllByRecursion Below (map (with_match g (is_drop_leaf other.child) b) ps) =
+      λ b ps small. every_map Below (with_match g (is_drop_leaf other.child) b) ps (every_weaker Small (λ p. Below (with_match g (is_drop_leaf other.child) b p)) ps (λ p s. omega (arith, s, double)) small) in
+      let by : (i : PathInterval) (t : Bool) → AllByRecursion Small i.made → AllByRecursion Below (cond t [] (flat_map (λ b. map (with_match g (is_drop_leaf other.child) b) i.made) (blocks_of i.first i.last max))) =
+      λ i t small. elim t as (λ z. AllByRecursion Below (cond z [] (flat_map (λ b. map (with_match g (is_drop_leaf other.child) b) i.made) (blocks_of i.first i.last max)))) [
         | true ↦ tt
-        | false ↦ every_flat_map (λ b. Unit {0}) Below (λ b. map (with_match g (is_drop other.child) b) i.made) (blocks_of i.first i.last max) (λ b u. raise b i.made small) (every_true (λ b. Unit {0}) (blocks_of i.first i.last max) (λ b. tt))
+        | false ↦ every_flat_map (λ b. Unit {0}) Below (λ b. map (with_match g (is_drop_leaf other.child) b) i.made) (blocks_of i.first i.last max) (λ b u. raise b i.made small) (every_true (λ b. Unit {0}) (blocks_of i.first i.last max) (λ b. tt))
       ] in
       every_append Below (flat_map (block_paths max g other) (path_intervals maxima (branch end d bs) 0)) other.made
       (every_flat_map (λ i. AllByRecursion Small i.made) Below (block_paths max g other) (path_intervals maxima (branch end d bs) 0) (λ i small. by i (same_tree other.child same_buckets i.child) small) e)
@@ -121,7 +121,7 @@ module _ (width tag : ℕ) (maxima : List ℕ) where
       ∙ ap (λ l. l ++ met maxima pk e (other_of maxima bs end d).made) (block_at maxima pk e f (other_of maxima bs end d) h (branch end d bs) 0 r x.interval x.there x.block x.among x.has)
 
   -- the drop tree is the empty leaf
-  drop_is : (t : Tree) → is_drop t ≡ true → t ≡ leaf []
+  drop_is : (t : Tree) → is_drop_leaf t ≡ true → t ≡ leaf []
   drop_is (leaf []) e = refl
   drop_is (leaf (b ∷ bs)) e = absurd cc
   drop_is (case f bs) e = absurd cc
@@ -171,7 +171,7 @@ module _ (width tag : ℕ) (maxima : List ℕ) where
   -- what a packet meets at a node, where its value is in block b, with child c, and the else-child is t
   abbrev pub parts : List ℕ → ℕ → ℕ × ℕ → Tree → Tree → Bool → Bool → List Path
   parts pk f b c t same e =
-      cond same [] (map (with_match f (is_drop t) b) (met maxima pk (not (is_drop t) || e) (paths_of maxima c))) ++ met maxima pk e (paths_of maxima t)
+      cond same [] (map (with_match f (is_drop_leaf t) b) (met maxima pk (not (is_drop_leaf t) || e) (paths_of maxima c))) ++ met maxima pk e (paths_of maxima t)
 
   abbrev NodeOutcome : List ℕ → Tree → Bool → List Path → Type 0
   NodeOutcome pk c e ms =
@@ -187,24 +187,24 @@ module _ (width tag : ℕ) (maxima : List ℕ) where
     node_outcome true s e = subst (λ x. ((p : Path) × IsTop Path (weight width tag) (met maxima pk e (paths_of maxima t)) p × (p.buckets ≡ leaf_at x [] pk)) ⊎ ((met maxima pk e (paths_of maxima t) ≡ []) × (leaf_at x [] pk ≡ []) × (e ≡ false))) (same_tree_tells t c s) (lt.outcome e)
     node_outcome false s e =
         ⊎_elim
-        (λ q. inl (with_match f (is_drop t) b q.0, lifted f b (is_drop t) (met maxima pk (not (is_drop t) || e) (paths_of maxima c)) (met maxima pk e (paths_of maxima t)) q.0 (small e) q.1, q.2))
+        (λ q. inl (with_match f (is_drop_leaf t) b q.0, lifted f b (is_drop_leaf t) (met maxima pk (not (is_drop_leaf t) || e) (paths_of maxima c)) (met maxima pk e (paths_of maxima t)) q.0 (small e) q.1, q.2))
         (λ n.
-        let unset : e ≡ false = or_right (not (is_drop t)) e n.2 in
-        let dropped : t ≡ leaf [] = drop_is t (not_is (is_drop t) (or_left (not (is_drop t)) e n.2)) in
+        let unset : e ≡ false = or_right (not (is_drop_leaf t)) e n.2 in
+        let dropped : t ≡ leaf [] = drop_is t (not_is (is_drop_leaf t) (or_left (not (is_drop_leaf t)) e n.2)) in
         inr (
-          ap (λ l. map (with_match f (is_drop t) b) l ++ met maxima pk e (paths_of maxima t)) n.0
+          ap (λ l. map (with_match f (is_drop_leaf t) b) l ++ met maxima pk e (paths_of maxima t)) n.0
               ∙ ap (λ z. met maxima pk z (paths_of maxima t)) unset
               ∙ ap (λ z. met maxima pk false (paths_of maxima z)) dropped
               ∙ drop_met pk,
           n.1,
           unset,
         ))
-        (lc.outcome (not (is_drop t) || e))
+        (lc.outcome (not (is_drop_leaf t) || e))
 
     -- no two ways met at the node have one priority
     node_apart : (same : Bool) (e : Bool) → Apart (weight width tag) (parts pk f b c t same e)
     node_apart true e = lt.apart e
-    node_apart false e = lifted_apart f b (is_drop t) (met maxima pk (not (is_drop t) || e) (paths_of maxima c)) (met maxima pk e (paths_of maxima t)) (small e) (lc.apart (not (is_drop t) || e)) (lt.apart e)
+    node_apart false e = lifted_apart f b (is_drop_leaf t) (met maxima pk (not (is_drop_leaf t) || e) (paths_of maxima c)) (met maxima pk e (paths_of maxima t)) (small e) (lc.apart (not (is_drop_leaf t) || e)) (lt.apart e)
 
   module _ (pk : List ℕ) (within : (f : ℕ) → f ≢ tag → slice_index pk f ≤ slice_index maxima f) where
     -- the law at a node

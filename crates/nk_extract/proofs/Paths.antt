@@ -11,7 +11,7 @@ use Rattle.nk_store.specs.Diagram.{Branches, no_branch, branch}
 use Rattle.nk_store.specs.Intervals.{same_tree}
 use Rattle.nk_table.specs.declared.Bucket.{Bucket}
 use Rattle.nk_table.specs.Buckets.{same_buckets}
-use Rattle.nk_extract.specs.RuleTree.{Path, PathInterval, is_drop_list, is_drop, with_match, block_paths, paths_of, path_intervals}
+use Rattle.nk_extract.specs.RuleTree.{Path, PathInterval, is_drop_list, is_drop_leaf, with_match, block_paths, paths_of, path_intervals}
 use Rattle.nk_extract.specs.Chosen.{agrees_with}
 use Rattle.nk_extract.proofs.Lists.{filter_same, filter_none, filter_map_is, filter_append_is}
 use Rattle.nk_extract.proofs.Bits.{one_if}
@@ -122,7 +122,7 @@ module _ (maxima pk : List ℕ) (e : Bool) (f : ℕ) (drops : Bool) where
 -- what a block of a node gives the packet, which has a value in it and the child there
 abbrev pub block_met : (maxima pk : List ℕ) → Bool → ℕ → Tree → ℕ × ℕ → Tree → List Path
 block_met maxima pk e f other b c =
-    cond (same_tree other same_buckets c) [] (map (with_match f (is_drop other) b) (met maxima pk (not (is_drop other) || e) (paths_of maxima c)))
+    cond (same_tree other same_buckets c) [] (map (with_match f (is_drop_leaf other) b) (met maxima pk (not (is_drop_leaf other) || e) (paths_of maxima c)))
 
 -- a value outside an interval isn't counted
 outside : (lo hi v : ℕ) → (v < lo) ⊎ (hi < v) → one_if (nat_le lo v && nat_le v hi) ≡ 0
@@ -144,10 +144,10 @@ module _ (maxima pk : List ℕ) (e : Bool) (f : ℕ) (other : PathInterval) (wit
     where
       by :
           (t : Bool)
-          → met maxima pk e (cond t [] (flat_map (λ b. map (with_match f (is_drop other.child) b) i.made) (blocks_of i.first i.last max))) ≡ []
+          → met maxima pk e (cond t [] (flat_map (λ b. map (with_match f (is_drop_leaf other.child) b) i.made) (blocks_of i.first i.last max))) ≡ []
       by true = refl
       by false =
-          in_none maxima pk e f (is_drop other.child) i.made (blocks_of i.first i.last max)
+          in_none maxima pk e f (is_drop_leaf other.child) i.made (blocks_of i.first i.last max)
           (counted_once i.first i.last max (slice_index pk f) o within ∙ outside i.first i.last (slice_index pk f) h)
 
   -- in the interval with it the ways of its child are met, behind the block with it
@@ -159,14 +159,14 @@ module _ (maxima pk : List ℕ) (e : Bool) (f : ℕ) (other : PathInterval) (wit
     where
       by :
           (t : Bool)
-          → met maxima pk e (cond t [] (flat_map (λ c. map (with_match f (is_drop other.child) c) i.made) (blocks_of i.first i.last max))) ≡ cond t [] (map (with_match f (is_drop other.child) b) (met maxima pk (not (is_drop other.child) || e) (paths_of maxima i.child)))
+          → met maxima pk e (cond t [] (flat_map (λ c. map (with_match f (is_drop_leaf other.child) c) i.made) (blocks_of i.first i.last max))) ≡ cond t [] (map (with_match f (is_drop_leaf other.child) b) (met maxima pk (not (is_drop_leaf other.child) || e) (paths_of maxima i.child)))
       by true = refl
       by false =
           let lies = in_interval i.first i.last max (slice_index pk f) b o within (contains_from_in (blocks_of i.first i.last max) b among) h in
-          in_one maxima pk e f (is_drop other.child) i.made (blocks_of i.first i.last max) b
+          in_one maxima pk e f (is_drop_leaf other.child) i.made (blocks_of i.first i.last max) b
           (counted_once i.first i.last max (slice_index pk f) o within ∙ inside i.first i.last (slice_index pk f) lies.0 lies.1)
           among h
-          ∙ ap (λ ps. map (with_match f (is_drop other.child) b) (met maxima pk (not (is_drop other.child) || e) ps)) m
+          ∙ ap (λ ps. map (with_match f (is_drop_leaf other.child) b) (met maxima pk (not (is_drop_leaf other.child) || e) ps)) m
 
   -- ways of intervals, one interval on
   met_next :

@@ -13,7 +13,7 @@ use Rattle.nk_field.proofs.Lists.{In, in_either, from_joined, from_mapped, conta
 use Rattle.nk_table.specs.declared.Bucket.{Bucket}
 use Rattle.nk_table.specs.Buckets.{same_buckets}
 use Rattle.nk_table.proofs.SameBuckets.{eq_self}
-use Rattle.nk_extract.specs.RuleTree.{Path, PathInterval, is_drop_list, is_drop, with_match, block_paths, paths_of, path_intervals, bit_of}
+use Rattle.nk_extract.specs.RuleTree.{Path, PathInterval, is_drop_list, is_drop_leaf, with_match, block_paths, paths_of, path_intervals, bit_of}
 use Rattle.nk_extract.specs.Chosen.{IsTop}
 use Rattle.nk_extract.proofs.Lists.{every_filter, every_in}
 use Rattle.nk_extract.proofs.Trees.{Tree, TestsOnly, TestOnly, IsMatchable, Rising, rising_all, child_among, EachChild, IsInterval, intervals_are, with_most_has, same_tree_self}
@@ -96,11 +96,11 @@ module _ (width tag : ℕ) (maxima : List ℕ) (most_fields : width ≤ 18) wher
     met_is :
         (pk : List ℕ) (e : Bool) → slice_index pk g ≤ slice_index maxima g → (x : Has (slice_index pk g)) → (c : Tree)
         → x.interval.child ≡ c → (same : Bool) → same_tree (other_of maxima bs end d).child same_buckets c ≡ same
-        → met maxima pk e (paths_of maxima node) ≡ cond same [] (map (with_match g (is_drop (other_of maxima bs end d).child) x.block) (met maxima pk (not (is_drop (other_of maxima bs end d).child) || e) (paths_of maxima c))) ++ met maxima pk e (other_of maxima bs end d).made
+        → met maxima pk e (paths_of maxima node) ≡ cond same [] (map (with_match g (is_drop_leaf (other_of maxima bs end d).child) x.block) (met maxima pk (not (is_drop_leaf (other_of maxima bs end d).child) || e) (paths_of maxima c))) ++ met maxima pk e (other_of maxima bs end d).made
     met_is pk e h x c is same k =
         node_met width tag maxima pk e g bs end d h rise x
         ∙ ap (λ z. block_met maxima pk e g (other_of maxima bs end d).child x.block z ++ met maxima pk e (other_of maxima bs end d).made) is
-        ∙ ap (λ z. cond z [] (map (with_match g (is_drop (other_of maxima bs end d).child) x.block) (met maxima pk (not (is_drop (other_of maxima bs end d).child) || e) (paths_of maxima c))) ++ met maxima pk e (other_of maxima bs end d).made) k
+        ∙ ap (λ z. cond z [] (map (with_match g (is_drop_leaf (other_of maxima bs end d).child) x.block) (met maxima pk (not (is_drop_leaf (other_of maxima bs end d).child) || e) (paths_of maxima c))) ++ met maxima pk e (other_of maxima bs end d).made) k
 
     -- what is known of an interval of the node
     part_of : (i : PathInterval) → In (path_intervals maxima (branch end d bs) 0) i → IsPart i
@@ -133,13 +133,13 @@ module _ (width tag : ℕ) (maxima : List ℕ) (most_fields : width ≤ 18) wher
         (e : Bool) (p : Path) (i : PathInterval) → In (path_intervals maxima (branch end d bs) 0) i → (b : ℕ × ℕ)
         → In (blocks_of i.first i.last (slice_index maxima g)) b
         → same_tree (other_of maxima bs end d).child same_buckets i.child ≡ false → (q : Path) → In i.made q
-        → p ≡ with_match g (is_drop (other_of maxima bs end d).child) b q → is_printed p || e ≡ true
+        → p ≡ with_match g (is_drop_leaf (other_of maxima bs end d).child) b q → is_printed p || e ≡ true
         → (base : List ℕ) → InRange maxima base → Reached node f p e base
     by_block e p i there b among differ q a is printed base ok =
         let part = part_of i there in
         let most = slice_index maxima g in
         let block = blocks_are i.first i.last most b part.high (contains_from_in (blocks_of i.first i.last most) b among) in
-        let drops = is_drop (other_of maxima bs end d).child in
+        let drops = is_drop_leaf (other_of maxima bs end d).child in
         let start = slice_set base g b.0 in
         let high : b.0 ≤ most = omega (arith, block.high, part.high) in
         let printed' : is_printed q || (not drops || e) ≡ true = sym (flags (not (is_drop_list q.buckets)) drops q.shown e) ∙ subst (λ z. is_printed z || e ≡ true) is printed in
@@ -169,7 +169,7 @@ module _ (width tag : ℕ) (maxima : List ℕ) (most_fields : width ≤ 18) wher
     node_reached : AreReached node f
     node_reached e p a printed base ok =
         let most = slice_index maxima g in
-        let drops = is_drop (other_of maxima bs end d).child in
+        let drops = is_drop_leaf (other_of maxima bs end d).child in
         ⊎_elim
         (λ exact.
         let i = from_joined (block_paths most g (other_of maxima bs end d)) (path_intervals maxima (branch end d bs) 0) p exact in

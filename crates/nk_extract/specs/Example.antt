@@ -1,4 +1,5 @@
--- Worked rules: fields sw, pt, dst and the tag vlan; a state that ends at port 2, at its own switch, and some by dst.
+-- Rows worked out by hand, over the fields sw, pt and dst and the tag vlan: of a state that sends each packet to port 2, and
+-- back what came in there; of states that go by dst; and of intervals of dst, as blocks.
 use Rattle.std.specs.Prelude.{◌≡◌, ℕ, List, [], ◌∷◌}
 use Rattle.nk_store.specs.Diagram.{Diagram, leaf, case, no_branch, branch}
 use Rattle.nk_table.specs.declared.Bucket.{Bucket}
@@ -24,8 +25,8 @@ abbrev pub two_alone : Diagram (List Bucket)
 two_alone = case 2 (branch 1 (leaf []) (branch 2 (leaf (untagging Back ∷ [])) (branch 3 (leaf []) no_branch)))
 
 -- dst is at most 3 and vlan at most 7: two digits and three
-abbrev pub small : List ℕ
-small = 65535 ∷ 65535 ∷ 3 ∷ 7 ∷ []
+abbrev pub small_maxima : List ℕ
+small_maxima = 65535 ∷ 65535 ∷ 3 ∷ 7 ∷ []
 
 -- where dst is from 1 to 5, of 0 to 7, the packet goes back, and so it does at most values
 abbrev pub one_to_five : Diagram (List Bucket)
@@ -50,9 +51,9 @@ plain priority matches buckets = record { priority = priority; matches = matches
 -- single values
 abbrev pub WorkedRules : Type 0
 WorkedRules =
-    (rows_for small 3 1 to_two ≡ plain 2 ((1, 2, 16) ∷ (3, 1, 3) ∷ []) (untagging Back ∷ []) ∷ plain 0 ((3, 1, 3) ∷ []) (untagging (Port 2) ∷ []) ∷ [])
-    × (rows_for small 3 0 not_two ≡ plain 1 ((2, 2, 2) ∷ (3, 0, 3) ∷ []) [] ∷ plain 0 ((3, 0, 3) ∷ []) (untagging Back ∷ []) ∷ [])
-    × (rows_for small 3 0 two_alone ≡ plain 1 ((2, 2, 2) ∷ (3, 0, 3) ∷ []) (untagging Back ∷ []) ∷ [])
+    (rows_for small_maxima 3 1 to_two ≡ plain 2 ((1, 2, 16) ∷ (3, 1, 3) ∷ []) (untagging Back ∷ []) ∷ plain 0 ((3, 1, 3) ∷ []) (untagging (Port 2) ∷ []) ∷ [])
+    × (rows_for small_maxima 3 0 not_two ≡ plain 1 ((2, 2, 2) ∷ (3, 0, 3) ∷ []) [] ∷ plain 0 ((3, 0, 3) ∷ []) (untagging Back ∷ []) ∷ [])
+    × (rows_for small_maxima 3 0 two_alone ≡ plain 1 ((2, 2, 2) ∷ (3, 0, 3) ∷ []) (untagging Back ∷ []) ∷ [])
 
 -- Intervals: dropped are 0 and 6 to 7, the latter as one block; 2 to 5 are two blocks of two values each; and 8 to 9
 -- count as 8 to 15.

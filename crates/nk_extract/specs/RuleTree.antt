@@ -25,9 +25,9 @@ abbrev pub is_drop_list : List Bucket → Bool
 is_drop_list [] = true
 is_drop_list (b ∷ bs) = false
 
-abbrev pub is_drop : Diagram (List Bucket) → Bool
-is_drop (leaf bs) = is_drop_list bs
-is_drop (case f bs) = false
+abbrev pub is_drop_leaf : Diagram (List Bucket) → Bool
+is_drop_leaf (leaf bs) = is_drop_list bs
+is_drop_leaf (case f bs) = false
 
 -- with one more block matched, at a node whose else-child drops or not
 abbrev pub with_match : ℕ → Bool → ℕ × ℕ → Path → Path
@@ -41,7 +41,7 @@ with_match f else_drops b p = record {
 abbrev pub block_paths : (max f : ℕ) → PathInterval → PathInterval → List Path
 block_paths max f other i =
     if same_tree other.child same_buckets i.child then []
-    else flat_map (λ b. map (with_match f (is_drop other.child) b) i.made) (blocks_of i.first i.last max)
+    else flat_map (λ b. map (with_match f (is_drop_leaf other.child) b) i.made) (blocks_of i.first i.last max)
 
 abbrev pub paths_at : (max f : ℕ) → List PathInterval → List Path
 paths_at max f [] = []

@@ -1,6 +1,6 @@
-//! The rows of a switch's table for one tag, from the diagram of the tag's state: those of the reduced tree of its
-//! bucket lists. Laws: of the rows that match a packet one alone is highest and has the leaf's buckets, or none
-//! matches and the leaf is empty.
+//! The rows of a switch's table for one tag: what the tag's state does with a packet of the switch, they do, with a bucket
+//! for each result. Laws: of the rows that match a packet one alone is highest and has the buckets of the packet's results,
+//! or none matches and there is no result.
 #![tactic(auto)]
 
 mod bucket;

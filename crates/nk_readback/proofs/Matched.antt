@@ -14,7 +14,7 @@ use Rattle.nk_table.specs.declared.Bucket.{Bucket}
 use Rattle.nk_table.specs.Buckets.{same_buckets}
 use Rattle.nk_tabtext.specs.InOrder.{MatchesAscend}
 use Rattle.nk_tabtext.specs.ReadBack.{IsMatchOf}
-use Rattle.nk_extract.specs.RuleTree.{Path, PathInterval, is_drop, with_match, block_paths, paths_of, path_intervals, put_match, exactly}
+use Rattle.nk_extract.specs.RuleTree.{Path, PathInterval, is_drop_leaf, with_match, block_paths, paths_of, path_intervals, put_match, exactly}
 use Rattle.nk_extract.proofs.Lists.{every_weaker, every_append, every_map, every_flat_map}
 use Rattle.nk_extract.proofs.Trees.{Tree, Rising, rising_all, rising_end, TestsOnly, TestOnly, IsMatchable, with_most_has}
 use Rattle.nk_extract.proofs.Highest.{other_of}
@@ -153,12 +153,12 @@ module _ (fields : FieldTable) (tag : ℕ) where
       let all = path_intervals maxima (branch end d bs) 0 in
       let Later : Path → Type 0 = λ p. MatchesClimb fields tag (g + 1) p.matches in
       let Here : Path → Type 0 = λ p. MatchesClimb fields tag low p.matches in
-      let raise : (b : ℕ × ℕ) (ps : List Path) → IsMatchOf fields (g, b.0, b.1) → AllByRecursion Later ps → AllByRecursion Here (map (with_match g (is_drop other.child) b) ps) =
-      λ b ps k later. every_map Here (with_match g (is_drop other.child) b) ps (every_weaker Later (λ p. Here (with_match g (is_drop other.child) b p)) ps (λ p c. (le, m.1, k, c)) later) in
-      let by : (i : PathInterval) (t : Bool) → AllByRecursion Later i.made → IsPart max i → AllByRecursion Here (cond t [] (flat_map (λ b. map (with_match g (is_drop other.child) b) i.made) (blocks_of i.first i.last max))) =
-      λ i t later part. elim t as (λ z. AllByRecursion Here (cond z [] (flat_map (λ b. map (with_match g (is_drop other.child) b) i.made) (blocks_of i.first i.last max)))) [
+      let raise : (b : ℕ × ℕ) (ps : List Path) → IsMatchOf fields (g, b.0, b.1) → AllByRecursion Later ps → AllByRecursion Here (map (with_match g (is_drop_leaf other.child) b) ps) =
+      λ b ps k later. every_map Here (with_match g (is_drop_leaf other.child) b) ps (every_weaker Later (λ p. Here (with_match g (is_drop_leaf other.child) b p)) ps (λ p c. (le, m.1, k, c)) later) in
+      let by : (i : PathInterval) (t : Bool) → AllByRecursion Later i.made → IsPart max i → AllByRecursion Here (cond t [] (flat_map (λ b. map (with_match g (is_drop_leaf other.child) b) i.made) (blocks_of i.first i.last max))) =
+      λ i t later part. elim t as (λ z. AllByRecursion Here (cond z [] (flat_map (λ b. map (with_match g (is_drop_leaf other.child) b) i.made) (blocks_of i.first i.last max)))) [
         | true ↦ tt
-        | false ↦ every_flat_map (λ b. IsMatchOf fields (g, b.0, b.1)) Here (λ b. map (with_match g (is_drop other.child) b) i.made) (blocks_of i.first i.last max) (λ b k. raise b i.made k later) (every_from (λ b. IsMatchOf fields (g, b.0, b.1)) (blocks_of i.first i.last max) (λ b there. block_match fields g i b m.0 part there))
+        | false ↦ every_flat_map (λ b. IsMatchOf fields (g, b.0, b.1)) Here (λ b. map (with_match g (is_drop_leaf other.child) b) i.made) (blocks_of i.first i.last max) (λ b k. raise b i.made k later) (every_from (λ b. IsMatchOf fields (g, b.0, b.1)) (blocks_of i.first i.last max) (λ b there. block_match fields g i b m.0 part there))
       ] in
       every_append Here (flat_map (block_paths max g other) all) other.made
       (every_flat_map (λ i. AllByRecursion Later i.made × IsPart max i) Here (block_paths max g other) all (λ i k. by i (same_tree other.child same_buckets i.child) k.0 k.1)
