@@ -2,10 +2,11 @@
 -- fields with their largest values; the tag; the switches with their ports; the links; and for each switch its table, that
 -- is its groups and its rows. What stands in order in the tables, as they are read, stands so in the text: switches, ports,
 -- links, groups, matches by field.
-use Rattle.std.specs.Prelude.{ℕ, ◌==◌, not, Bool, true, false, if◌then◌else◌, codes, Option, Some, None, List, [], ◌∷◌, ◌++◌, drop, slice_index, slice_index_or}
+use Rattle.std.specs.Prelude.{ℕ, ◌==◌, not, Bool, true, false, if◌then◌else◌, codes, Option, Some, None, List, [], ◌∷◌, ◌++◌, drop, slice_index}
 use Rattle.std.specs.Fmt.{decimal}
 use Rattle.std.specs.List.{flat_map, list_any}
 use Rattle.nk_field.specs.Packet.{FieldTable}
+pub use Rattle.nk_field.specs.Texts.{name_of, is_this, is_tag}
 use Rattle.nk_prefix.specs.Prefix.{digits_of}
 use Rattle.nk_topo.specs.Topology.{Topology, SwitchPorts, Link}
 use Rattle.nk_table.specs.declared.Tables.{Tables}
@@ -18,19 +19,6 @@ use Rattle.nk_table.specs.declared.Target.TheVariants as target
 use Rattle.nk_table.specs.declared.Exit.{Exit}
 use Rattle.nk_table.specs.declared.Exit.TheVariants.{Back, Port}
 use Rattle.nk_table.specs.Rules.{rows_of, groups_of}
-
--- whether a field is this one
-abbrev pub is_this : Option ℕ → ℕ → Bool
-is_this None f = false
-is_this (Some g) f = f == g
-
--- whether a field is the tag
-abbrev pub is_tag : FieldTable → ℕ → Bool
-is_tag fs f = is_this fs.tag f
-
--- a field's name
-abbrev pub name_of : FieldTable → ℕ → List ℕ
-name_of fs f = slice_index_or fs.names f []
 
 -- the line of a declared field
 abbrev pub field_text : List ℕ → ℕ → List ℕ
