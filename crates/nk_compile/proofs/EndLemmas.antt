@@ -4,11 +4,11 @@ use Rattle.std.proofs.lemmas.List.{drop_more}
 use Rattle.nk_policy.specs.Policy.{Policy, Policies, part}
 use Rattle.nk_policy.specs.Tree.{tree_of, trees_of}
 use Rattle.nk_policy.specs.declared.policy.Pol.{Pol}
-use Rattle.nk_compile.specs.WholeTable.{or_else, link_end, link_end_among}
+use Rattle.nk_compile.specs.WholeTable.{first_number, link_end, link_end_among}
 use Rattle.nk_compile.specs.Comings.{HasEnds, HaveEnds}
 
 -- three in turn
-or_turn : (a b c : Option ℕ) → or_else (or_else a b) c ≡ or_else a (or_else b c)
+or_turn : (a b c : Option ℕ) → first_number (first_number a b) c ≡ first_number a (first_number b c)
 or_turn None b c = refl
 or_turn (Some n) b c = refl
 
@@ -18,7 +18,7 @@ ends_before old mid new p ps a b = record {
   count = b.count ∙ a.count;
   each = λ l lt.
       let inside : l < length mid = let c = b.count in omega (arith, lt, c) in
-      b.each l lt ∙ ap (λ o. or_else o (link_end_among ps l)) (a.each l inside) ∙ or_turn (get_or old l None) (link_end p l) (link_end_among ps l);
+      b.each l lt ∙ ap (λ o. first_number o (link_end_among ps l)) (a.each l inside) ∙ or_turn (get_or old l None) (link_end p l) (link_end_among ps l);
 }
 
 -- what is left of the parts, after one of them

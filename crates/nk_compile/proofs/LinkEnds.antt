@@ -7,7 +7,7 @@ use Rattle.nk_policy.specs.Distinct.{HasDistinct, AllDistinct}
 use Rattle.nk_policy.specs.Literals.{Literal, HoldsLiteral, SomeHoldsLiteral}
 use Rattle.nk_policy.proofs.LinkStructure.{some_hold_first}
 use Rattle.nk_policy.proofs.Tests.{both_false}
-use Rattle.nk_compile.specs.WholeTable.{or_else, link_end, link_end_among}
+use Rattle.nk_compile.specs.WholeTable.{first_number, link_end, link_end_among}
 
 -- a test of two numbers, turned round
 other_way : (l k : ℕ) → l == k ≡ false → k == l ≡ false
@@ -18,12 +18,12 @@ same_number : (l : ℕ) → l == l ≡ true
 same_number l = grind arith
 
 -- after none the other
-none_then : (o : Option ℕ) → o ≡ None → (q : Option ℕ) → or_else o q ≡ q
-none_then o e q = ap (λ r. or_else r q) e
+none_then : (o : Option ℕ) → o ≡ None → (q : Option ℕ) → first_number o q ≡ q
+none_then o e q = ap (λ r. first_number r q) e
 
 -- after some that one
-some_then : (o : Option ℕ) (n : ℕ) → o ≡ Some n → (q : Option ℕ) → or_else o q ≡ Some n
-some_then o n e q = ap (λ r. or_else r q) e
+some_then : (o : Option ℕ) (n : ℕ) → o ≡ Some n → (q : Option ℕ) → first_number o q ≡ Some n
+some_then o n e q = ap (λ r. first_number r q) e
 
 mutual
   -- a number that is no dup's is no mark's

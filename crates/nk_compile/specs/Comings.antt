@@ -4,17 +4,17 @@ use Rattle.std.specs.List.Sorted.{IsStrictlyIncreasing}
 use Rattle.nk_policy.specs.Policy.{Policy, Policies}
 use Rattle.nk_switches.specs.declared.stop.Stop.{Stop}
 use Rattle.nk_switches.specs.Tagged.{set_of}
-use Rattle.nk_compile.specs.WholeTable.{or_else, link_end, link_end_among}
+use Rattle.nk_compile.specs.WholeTable.{first_number, link_end, link_end_among}
 
 -- where nothing stood at a mark, there is now the end of the policy's literal with that mark
 pub record HasEnds (old new : List (Option ℕ)) (p : Policy) : Type 0 where
   pub count : length new ≡ length old
-  pub each : (l : ℕ) → l < length new → slice_index_or new l None ≡ or_else (slice_index_or old l None) (link_end p l)
+  pub each : (l : ℕ) → l < length new → slice_index_or new l None ≡ first_number (slice_index_or old l None) (link_end p l)
 
 -- the same of parts in turn
 pub record HaveEnds (old new : List (Option ℕ)) (ps : Policies) : Type 0 where
   pub count : length new ≡ length old
-  pub each : (l : ℕ) → l < length new → slice_index_or new l None ≡ or_else (slice_index_or old l None) (link_end_among ps l)
+  pub each : (l : ℕ) → l < length new → slice_index_or new l None ≡ first_number (slice_index_or old l None) (link_end_among ps l)
 
 -- where the link of the first of these marks ends
 abbrev pub first_end : List (Option ℕ) → List ℕ → Option ℕ

@@ -50,9 +50,9 @@ IsOffFault topo tag old states (compile.Refused (refusal.OffEdge start history))
 IsOffFault topo tag old states (compile.Refused r) = ⊥
 
 -- the fault of numbers as one of compilation
-abbrev pub fault_of : NumberError → CompileError
-fault_of number.NoMemory = compile.NoMemory
-fault_of (number.TooManyTags found) = compile.Refused (refusal.TooManyTags found)
+abbrev pub compile_fault : NumberError → CompileError
+compile_fault number.NoMemory = compile.NoMemory
+compile_fault (number.TooManyTags found) = compile.Refused (refusal.TooManyTags found)
 
 -- why there are no tags: memory ran out, or there are at least as many sets as are told, one more than may be
 abbrev pub IsTagFault : List (List (ℕ × ℕ)) → ℕ → CompileError → Type 0

@@ -11,9 +11,9 @@ use Rattle.nk_policy.specs.Tags.{AreTags}
 use Rattle.nk_compile.specs.PrintedTable.{IsTreeOf}
 pub use Rattle.nk_switches.specs.Made.{TagTree, rows_of_trees}
 
-abbrev pub or_else : Option ℕ → Option ℕ → Option ℕ
-or_else None o = o
-or_else (Some n) o = Some n
+abbrev pub first_number : Option ℕ → Option ℕ → Option ℕ
+first_number None o = o
+first_number (Some n) o = Some n
 
 -- where the link literal with this mark ends
 abbrev mutual
@@ -30,7 +30,7 @@ abbrev mutual
 
   pub link_end_among : Policies → ℕ → Option ℕ
   link_end_among no_part l = None
-  link_end_among (part p ps) l = or_else (link_end p l) (link_end_among ps l)
+  link_end_among (part p ps) l = first_number (link_end p l) (link_end_among ps l)
 
 -- tag 0 has rows at each switch, another tag where its links end
 abbrev pub HasRowsAt : Policy → List (List ℕ) → ℕ → ℕ → Type 0

@@ -11,7 +11,7 @@ ghost use Rattle.nk_tag.specs.Numbers.{AreEntries, AreNumbers};
 ghost use Rattle.nk_field.specs.Packet.{FieldTable};
 ghost use Rattle.nk_compile.specs.Ready.{IsBegun};
 ghost use Rattle.nk_compile.specs.Refusals.{seen_with};
-ghost use Rattle.nk_compile.specs.Levelled.{IsLevelled, IsOffFault, IsTagFault, fault_of};
+ghost use Rattle.nk_compile.specs.Levelled.{IsLevelled, IsOffFault, IsTagFault, compile_fault};
 ghost use Rattle.nk_compile.specs.declared.refusal.CompileError.TheVariants as compile;
 ghost use Rattle.nk_compile.specs.declared.refusal.Refusal.TheVariants as refusal;
 ghost use Rattle.nk_compile.specs.Answers.{AreMade, IsMade, IsError};
@@ -102,7 +102,7 @@ fn numbers(ss: &Sets, lv: &Levels, max: u64) -> Result<List<SetId>, CompileError
 
 /// The fault of numbers as one of compilation.
 fn fault(e: NumberError) -> CompileError
-    ensures { result ≡ fault_of e }
+    ensures { result ≡ compile_fault e }
 {
     match e {
         NumberError::NoMemory => CompileError::NoMemory,
