@@ -16,7 +16,7 @@ use Rattle.nk_flight.specs.declared.copies.Left.{Left}
 use Rattle.nk_flight.specs.declared.hops.Hop.{Hop}
 use Rattle.nk_flight.specs.Flights.{FlightState, Event, inject, step, nothing_in_flight, flying_next, left_next, handled, injected, stepped, after_event, after_events, IsReached}
 use Rattle.nk_flight.specs.Owed.{left_or_owed}
-use Rattle.nk_flight.specs.Trails.{hop_at, hop_of, first_hop, copy_at, copies_at, Follows, AreHops, state_at, IsSound}
+use Rattle.nk_flight.specs.Trails.{hop_at, hop_of, first_hop, copy_at, copies_at, FollowsHop, AreHops, state_at, IsSound}
 use Rattle.nk_flight.proofs.Schedules.{every_order, handled_tables}
 use Rattle.nk_flight.proofs.Steps.{next_is}
 use Rattle.nk_flight.proofs.Trails.{across_is, below_end, copies_more, fresh_copies, hops_more, mapped_at, next_follow, removed_all, removed_copies}
@@ -62,7 +62,7 @@ pub injected_sound : (t : Tables) (pks qks : List (List ℕ)) (hs gs : List Hop)
 injected_sound t pks qks hs gs places qlaces ls pk p h f s =
     let hop : Hop = first_hop (length pks + 1) pk in
     let more : List Hop = hop ∷ [] in
-    let all : All (Follows hs (length hs)) more = All-cons (Follows hs (length hs)) hop [] (inl refl) (All-nil (Follows hs (length hs))) in
+    let all : All (FollowsHop hs (length hs)) more = All-cons (FollowsHop hs (length hs)) hop [] (inl refl) (All-nil (FollowsHop hs (length hs))) in
     let fresh = fresh_copies t.fields hs more s.hops all in
     let copies : copies_at t.fields (hs ++ more) (places ++ length hs ∷ []) ≡ copies_at t.fields hs places ++ copy_at t.fields hs hop ∷ [] =
     map_joined (λ i. copy_at t.fields (hs ++ more) (hop_at (hs ++ more) i)) places (length hs ∷ [])
@@ -96,8 +96,8 @@ pub stepped_sound : (t : Tables) (pks : List (List ℕ)) (hs gs next : List Hop)
 stepped_sound t pks hs gs next places qlaces ls ms i p s here lt made h f m =
     let F = t.fields in
     let at : ℕ → Flying = λ j. copy_at F hs (hop_at hs j) in
-    let all : All (Follows hs (length hs)) next =
-    subst (All (Follows hs (length hs))) (sym made) (next_follow t hs p (sent_for t (hop_at hs p).packet) lt) in
+    let all : All (FollowsHop hs (length hs)) next =
+    subst (All (FollowsHop hs (length hs))) (sym made) (next_follow t hs p (sent_for t (hop_at hs p).packet) lt) in
     let kept = removed_all (λ j. j < length hs) places i s.there in
     let old : copies_at F (hs ++ next) (remove places i) ≡ remove (copies_at F hs places) i =
     copies_more F hs next s.hops (remove places i) kept ∙ removed_copies at places i in

@@ -11,10 +11,10 @@ use Rattle.nk_table.specs.declared.Tables.{Tables}
 use Rattle.nk_table.specs.Hops.{moved_to, crossing}
 use Rattle.nk_flight.specs.declared.hops.Hop.{Hop}
 use Rattle.nk_flight.specs.Flights.{flying_as, flying_across}
-use Rattle.nk_flight.specs.Trails.{hop_at, records_at, copy_at, copies_at, hop_over, hop_of, Follows, AreHops}
+use Rattle.nk_flight.specs.Trails.{hop_at, records_at, copy_at, copies_at, hop_over, hop_of, FollowsHop, AreHops}
 
 -- what goes on from one of the first n hops goes on from one of the first m, also where more hops stand behind
-pub follows_on : (hs more : List Hop) (n m : ℕ) (h : Hop) → n ≤ length hs → n ≤ m → Follows hs n h → Follows (hs ++ more) m h
+pub follows_on : (hs more : List Hop) (n m : ℕ) (h : Hop) → n ≤ length hs → n ≤ m → FollowsHop hs n h → FollowsHop (hs ++ more) m h
 follows_on hs more n m h there less f =
     ⊎_elim
     (λ e. inl e)
@@ -25,7 +25,7 @@ follows_on hs more n m h there less f =
     f
 
 -- the same where no more stand behind
-pub follows_wider : (hs : List Hop) (n m : ℕ) (h : Hop) → n ≤ m → Follows hs n h → Follows hs m h
+pub follows_wider : (hs : List Hop) (n m : ℕ) (h : Hop) → n ≤ m → FollowsHop hs n h → FollowsHop hs m h
 follows_wider hs n m h less f =
     ⊎_elim
     (λ e. inl e)
@@ -33,7 +33,7 @@ follows_wider hs n m h less f =
     f
 
 -- what was recorded stays where more hops are held behind
-pub trail_more : (fields : FieldTable) (hs more : List Hop) → AreHops hs → (k : ℕ) (h : Hop) → k ≡ h.crossings → Follows hs (length hs) h
+pub trail_more : (fields : FieldTable) (hs more : List Hop) → AreHops hs → (k : ℕ) (h : Hop) → k ≡ h.crossings → FollowsHop hs (length hs) h
     → records_at fields (hs ++ more) k h ≡ records_at fields hs k h
 trail_more fields hs more are zero h e f = refl
 trail_more fields hs more are (suc k) h e f =
@@ -56,13 +56,13 @@ trail_more fields hs more are (suc k) h e f =
     inside m n q = omega (arith, q)
 
 -- and so does a copy
-pub copy_more : (fields : FieldTable) (hs more : List Hop) → AreHops hs → (h : Hop) → Follows hs (length hs) h
+pub copy_more : (fields : FieldTable) (hs more : List Hop) → AreHops hs → (h : Hop) → FollowsHop hs (length hs) h
     → copy_at fields (hs ++ more) h ≡ copy_at fields hs h
 copy_more fields hs more are h f =
     λ i. record { number = h.number; records = trail_more fields hs more are h.crossings h refl f i; packet = h.packet }
 
 -- a hop that is held goes on from one of those that are held
-pub held_follows : (hs : List Hop) → AreHops hs → (i : ℕ) → i < length hs → Follows hs (length hs) (hop_at hs i)
+pub held_follows : (hs : List Hop) → AreHops hs → (i : ℕ) → i < length hs → FollowsHop hs (length hs) (hop_at hs i)
 held_follows hs are i lt =
     let less : i ≤ length hs = omega (arith, lt) in
     follows_wider hs i (length hs) (hop_at hs i) less (are i lt)
@@ -79,17 +79,17 @@ copies_more fields hs more are (i ∷ places) there =
     λ j. same j ∷ rest j
 
 -- hops that go on from held ones may stand behind them
-pub hops_more : (hs more : List Hop) → AreHops hs → All (Follows hs (length hs)) more → AreHops (hs ++ more)
+pub hops_more : (hs more : List Hop) → AreHops hs → All (FollowsHop hs (length hs)) more → AreHops (hs ++ more)
 hops_more hs more are all =
     λ i lt.
     ⊎_elim
     (λ here.
     let less : i ≤ length hs = omega (arith, here) in
-    subst (Follows (hs ++ more) i) (sym (get_or_append_left hs more _ i here))
+    subst (FollowsHop (hs ++ more) i) (sym (get_or_append_left hs more _ i here))
     (follows_on hs more i i (hop_at hs i) less (omega arith) (are i here)))
     (λ behind.
     let within : i - length hs < length more = omega (arith, lt, behind, length-append hs more) in
-    subst (Follows (hs ++ more) i) (sym (get_or-append_right hs more (length hs) i _ refl behind))
+    subst (FollowsHop (hs ++ more) i) (sym (get_or-append_right hs more (length hs) i _ refl behind))
     (follows_on hs more (length hs) i (hop_at more (i - length hs)) (omega arith) behind (all (i - length hs) _ within)))
     (sides i (length hs))
   where
@@ -111,18 +111,18 @@ few_crossings hs are (suc n) i lt there =
 
 -- the hop over a link goes on from the copy's
 over_follows : (hs : List Hop) (p : ℕ) (y : List ℕ) (o : Option (ℕ × ℕ)) → p < length hs
-    → All (Follows hs (length hs)) (hop_over p (hop_at hs p) y o)
-over_follows hs p y None lt = All-nil (Follows hs (length hs))
+    → All (FollowsHop hs (length hs)) (hop_over p (hop_at hs p) y o)
+over_follows hs p y None lt = All-nil (FollowsHop hs (length hs))
 over_follows hs p y (Some to) lt =
-    All-cons (Follows hs (length hs)) record { number = (hop_at hs p).number; crossings = suc (hop_at hs p).crossings; earlier = p; before = y; packet = moved_to to y } []
-    (inr (lt, refl)) (All-nil (Follows hs (length hs)))
+    All-cons (FollowsHop hs (length hs)) record { number = (hop_at hs p).number; crossings = suc (hop_at hs p).crossings; earlier = p; before = y; packet = moved_to to y } []
+    (inr (lt, refl)) (All-nil (FollowsHop hs (length hs)))
 
 -- and so do those over all links
 pub next_follow : (t : Tables) (hs : List Hop) (p : ℕ) (sent : List (List ℕ)) → p < length hs
-    → All (Follows hs (length hs)) (flat_map (hop_of t p (hop_at hs p)) sent)
-next_follow t hs p [] lt = All-nil (Follows hs (length hs))
+    → All (FollowsHop hs (length hs)) (flat_map (hop_of t p (hop_at hs p)) sent)
+next_follow t hs p [] lt = All-nil (FollowsHop hs (length hs))
 next_follow t hs p (y ∷ ys) lt =
-    All-append (Follows hs (length hs)) (hop_of t p (hop_at hs p) y) (flat_map (hop_of t p (hop_at hs p)) ys)
+    All-append (FollowsHop hs (length hs)) (hop_of t p (hop_at hs p) y) (flat_map (hop_of t p (hop_at hs p)) ys)
     (over_follows hs p y (link_from t.topo (slice_index y 0) (slice_index y 1)) lt)
     (next_follow t hs p ys lt)
 
@@ -140,20 +140,20 @@ across_is t hs p (y ∷ ys) =
 
 -- the copies at the places of hops that stand behind those that were held
 fresh : (fields : FieldTable) (hs more : List Hop) → AreHops hs → (a : ℕ) (xs : List Hop) → ((i : ℕ) → i < length xs → hop_at (hs ++ more) (a + i) ≡ hop_at xs i)
-    → All (Follows hs (length hs)) xs → copies_at fields (hs ++ more) (range_with_len a (length xs)) ≡ map (copy_at fields hs) xs
+    → All (FollowsHop hs (length hs)) xs → copies_at fields (hs ++ more) (range_with_len a (length xs)) ≡ map (copy_at fields hs) xs
 fresh fields hs more are a [] at all = refl
 fresh fields hs more are a (x ∷ xs) at all =
     let first : 0 < suc (length xs) = omega arith in
     let here : hop_at (hs ++ more) a ≡ x = ap (hop_at (hs ++ more)) (omega arith) ∙ at 0 first in
     let one : copy_at fields (hs ++ more) (hop_at (hs ++ more) a) ≡ copy_at fields hs x =
-    ap (copy_at fields (hs ++ more)) here ∙ copy_more fields hs more are x (All-head (Follows hs (length hs)) x xs all) in
+    ap (copy_at fields (hs ++ more)) here ∙ copy_more fields hs more are x (All-head (FollowsHop hs (length hs)) x xs all) in
     let rest = fresh fields hs more are (a + 1) xs
     (λ i lt. let less : suc i < suc (length xs) = omega (arith, lt) in let moved : (a + 1) + i ≡ a + suc i = omega arith in ap (hop_at (hs ++ more)) moved ∙ at (suc i) less)
-    (All-tail (Follows hs (length hs)) x xs all) in
+    (All-tail (FollowsHop hs (length hs)) x xs all) in
     λ j. one j ∷ rest j
 
 -- their places
-pub fresh_copies : (fields : FieldTable) (hs next : List Hop) → AreHops hs → All (Follows hs (length hs)) next
+pub fresh_copies : (fields : FieldTable) (hs next : List Hop) → AreHops hs → All (FollowsHop hs (length hs)) next
     → copies_at fields (hs ++ next) (range_with_len (length hs) (length next)) ≡ map (copy_at fields hs) next
 fresh_copies fields hs next are all =
     fresh fields hs next are (length hs) next (λ i lt. get_or-append-add hs next i _) all

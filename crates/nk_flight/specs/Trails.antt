@@ -40,12 +40,12 @@ abbrev pub hop_of : Tables → ℕ → Hop → List ℕ → List Hop
 hop_of t i h y = hop_over i h y (link_from t.topo (slice_index y 0) (slice_index y 1))
 
 -- the hop is that of an injection, or goes on from one of the first n hops
-abbrev pub Follows : List Hop → ℕ → Hop → Type 0
-Follows hs n h = (h.crossings ≡ 0) ⊎ ((h.earlier < n) × (h.crossings ≡ suc (hop_at hs h.earlier).crossings))
+abbrev pub FollowsHop : List Hop → ℕ → Hop → Type 0
+FollowsHop hs n h = (h.crossings ≡ 0) ⊎ ((h.earlier < n) × (h.crossings ≡ suc (hop_at hs h.earlier).crossings))
 
 -- each hop goes on from one before it
 abbrev pub AreHops : List Hop → Type 0
-AreHops hs = (i : ℕ) → i < length hs → Follows hs i (hop_at hs i)
+AreHops hs = (i : ℕ) → i < length hs → FollowsHop hs i (hop_at hs i)
 
 -- the state of these tables, packets, hops, places of copies and histories
 abbrev pub state_at : Tables → List (List ℕ) → List Hop → List ℕ → List Left → FlightState
