@@ -11,7 +11,7 @@ use Rattle.nk_grammar.specs.File.{Declaration}
 use Rattle.nk_names.specs.declared.fault.NamesError.{NamesError}
 use Rattle.nk_names.specs.Alike.{in_program, SaysDeclared}
 use Rattle.nk_names.specs.Meant.{Lets}
-use Rattle.nk_names.specs.ProgramOf.{Said, nothing_said, declared_part, fault_of, said_beside, said_with, said_after, IsFault}
+use Rattle.nk_names.specs.ProgramOf.{Said, nothing_said, declared_part, text_fault_of, said_beside, said_with, said_after, IsFault}
 
 -- what is declared with these policies
 abbrev pub beside : Lets → DeclaredValue → Said
@@ -23,7 +23,7 @@ is_said lets r d h = ap (said_beside lets) h
 
 -- a declaration's fault is the program's
 pub is_refused : (lets : Lets) (r : Result DeclaredValue DeclareError) (e : DeclareError) (f : NamesError)
-    → declare.IsFault e r → f ≡ fault_of e → IsFault f (said_beside lets r)
+    → declare.IsFault e r → f ≡ text_fault_of e → IsFault f (said_beside lets r)
 is_refused lets r refused.NoMemory f h is = subst (λ x. IsFault x (said_beside lets r)) (sym is) tt
 is_refused lets r (refused.Fault k line) f h is = subst (λ x. IsFault x (said_beside lets r)) (sym is) (ap (said_beside lets) h)
 
@@ -37,7 +37,7 @@ ok_is s t h = cc
 pub beside_is : (lets : Lets) (r : Result DeclaredValue DeclareError) (s : Said) → said_beside lets r ≡ Ok s
     → (d : DeclaredValue) × (r ≡ Ok d) × (beside lets d ≡ s)
 beside_is lets (Ok d) s h = (d, refl, ok_is (beside lets d) s h)
-beside_is lets (Err e) s h = absurd (not_ok (fault_of e) s h)
+beside_is lets (Err e) s h = absurd (not_ok (text_fault_of e) s h)
 
 -- going on, both steps are without fault
 both_said : (r : Result Said NamesError) (rest : Said → Result Said NamesError) (t : Said) → and_then r rest ≡ Ok t

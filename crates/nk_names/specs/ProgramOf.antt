@@ -74,9 +74,9 @@ kind_of wrong.TargetTwice = kind.TargetTwice
 kind_of wrong.ValueOutOfRange = kind.ValueOutOfRange
 
 -- a declaration's fault as a program's
-abbrev pub fault_of : DeclareError → NamesError
-fault_of refused.NoMemory = NoMemory
-fault_of (refused.Fault k line) = Fault (kind_of k) line
+abbrev pub text_fault_of : DeclareError → NamesError
+text_fault_of refused.NoMemory = NoMemory
+text_fault_of (refused.Fault k line) = Fault (kind_of k) line
 
 -- the fields and the topology
 abbrev pub declared_part : Said → DeclaredValue
@@ -85,7 +85,7 @@ declared_part s = record { fields = s.fields; topo = s.topo }
 -- what is declared beside these policies, or the declaration's fault
 abbrev pub said_beside : Lets → Result DeclaredValue DeclareError → Result Said NamesError
 said_beside lets (Ok d) = Ok (record { fields = d.fields; topo = d.topo; lets = lets })
-said_beside lets (Err e) = Err (fault_of e)
+said_beside lets (Err e) = Err (text_fault_of e)
 
 -- what is said after one more declaration: fields, the tag, switches and links are declared as in any text
 abbrev pub said_with : Said → Declaration → Result Said NamesError

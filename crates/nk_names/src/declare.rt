@@ -3,7 +3,7 @@ ghost use Rattle.std.specs.Prelude.{◌≡◌, None, Some, MatchResult, IfOk};
 ghost use Rattle.nk_grammar.specs.File.{declaration_of, field, tag, switch, declared_link, definition};
 ghost use Rattle.nk_grammar.specs.Tree.{tree_of};
 ghost use Rattle.nk_names.specs.Meant.{lets_of};
-ghost use Rattle.nk_names.specs.ProgramOf.{Returns, kind_of, fault_of, said_in, said_with, nothing_said, let_fault};
+ghost use Rattle.nk_names.specs.ProgramOf.{Returns, kind_of, text_fault_of, said_in, said_with, nothing_said, let_fault};
 
 use crate::build::policy_of;
 use crate::check::{depth, fault_if, first_misplaced, first_unknown, size};
@@ -69,7 +69,7 @@ fn kind_of(fault: DeclareFault) -> FaultKind
 
 /// A declaration's fault as a program's.
 fn fault_of(error: DeclareError) -> NamesError
-    ensures { result ≡ fault_of error }
+    ensures { result ≡ text_fault_of error }
 {
     match error {
         DeclareError::NoMemory => NamesError::NoMemory,
