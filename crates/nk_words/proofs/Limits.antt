@@ -16,7 +16,7 @@ use Rattle.nk_words.specs.declared.words.WordsError.{WordsError}
 use Rattle.nk_words.specs.App.{nk_app}
 use Rattle.nk_words.specs.Number.{is_number_upto, number_between}
 use Rattle.nk_words.specs.Words.{IsWithinLimits, Reads, command_found, command_of, command_with, fly_of, four_texts}
-use Rattle.nk_words.specs.Words.{network_numbers, number_of, three_texts, trace_of}
+use Rattle.nk_words.specs.Words.{network_numbers, argument_number, three_texts, trace_of}
 use Rattle.nk_words.proofs.Numbers.{both}
 
 -- equal options have equal values
@@ -57,7 +57,7 @@ joined f c None all h = cc
 joined f c (Some x) all h = all x refl h
 
 -- a number that an argument is, is within the limits
-number_within : (id : Text) (least largest : ℕ) (rows : List Row) (n : ℕ) → number_of id least largest rows ≡ Some n
+number_within : (id : Text) (least largest : ℕ) (rows : List Row) (n : ℕ) → argument_number id least largest rows ≡ Some n
     → (least ≤ n) × (n ≤ largest)
 number_within id least largest rows n = by_word (first_of id rows)
   where
@@ -68,9 +68,9 @@ number_within id least largest rows n = by_word (first_of id rows)
 -- so are the numbers of a network
 network_within : (rows : List Row) (p : ℕ × ℕ) → network_numbers rows ≡ Some p
     → (2 ≤ p.0) × (p.0 ≤ 1000) × (1 ≤ p.1) × (p.1 ≤ 2147483646)
-network_within rows p = by_size (number_of (codes "SIZE") 2 1000 rows) refl
+network_within rows p = by_size (argument_number (codes "SIZE") 2 1000 rows) refl
   where
-    by_seed : (size : ℕ) → (2 ≤ size) × (size ≤ 1000) → (o : Option ℕ) → number_of (codes "SEED") 1 2147483646 rows ≡ o
+    by_seed : (size : ℕ) → (2 ≤ size) × (size ≤ 1000) → (o : Option ℕ) → argument_number (codes "SEED") 1 2147483646 rows ≡ o
         → option_map (λ seed. (size, seed)) o ≡ Some p → (2 ≤ p.0) × (p.0 ≤ 1000) × (1 ≤ p.1) × (p.1 ≤ 2147483646)
     by_seed size s None e h = cc
     by_seed size s (Some seed) e h =
@@ -78,16 +78,16 @@ network_within rows p = by_size (number_of (codes "SIZE") 2 1000 rows) refl
         subst (λ (q : ℕ × ℕ). (2 ≤ q.0) × (q.0 ≤ 1000) × (1 ≤ q.1) × (q.1 ≤ 2147483646)) (same_some (size, seed) p h)
         (s.0, s.1, t.0, t.1)
 
-    by_size : (o : Option ℕ) → number_of (codes "SIZE") 2 1000 rows ≡ o
-        → option_and_then (λ size. option_map (λ seed. (size, seed)) (number_of (codes "SEED") 1 2147483646 rows)) o ≡ Some p
+    by_size : (o : Option ℕ) → argument_number (codes "SIZE") 2 1000 rows ≡ o
+        → option_and_then (λ size. option_map (λ seed. (size, seed)) (argument_number (codes "SEED") 1 2147483646 rows)) o ≡ Some p
         → (2 ≤ p.0) × (p.0 ≤ 1000) × (1 ≤ p.1) × (p.1 ≤ 2147483646)
     by_size None e h = cc
     by_size (Some size) e h =
-        by_seed size (number_within (codes "SIZE") 2 1000 rows size e) (number_of (codes "SEED") 1 2147483646 rows) refl h
+        by_seed size (number_within (codes "SIZE") 2 1000 rows size e) (argument_number (codes "SEED") 1 2147483646 rows) refl h
 
 trace_within : (rows : List Row) (c : Command) → trace_of rows ≡ Some c → IsWithinLimits c
 trace_within rows c h =
-    joined (λ hops. option_map (λ packet. Trace hops packet) (first_of (codes "PACKET") rows)) c (number_of (codes "HOPS") 0 65535 rows)
+    joined (λ hops. option_map (λ packet. Trace hops packet) (first_of (codes "PACKET") rows)) c (argument_number (codes "HOPS") 0 65535 rows)
     (λ hops e. mapped (λ packet. Trace hops packet) c (first_of (codes "PACKET") rows)
     (λ packet f. (number_within (codes "HOPS") 0 65535 rows hops e).1)) h
 
@@ -95,10 +95,10 @@ fly_within : (rows : List Row) (c : Command) → fly_of rows ≡ Some c → IsWi
 fly_within rows c h =
     joined
     (λ seed. option_and_then (λ steps. option_map (λ packet. Fly seed steps packet) (first_of (codes "PACKET") rows))
-    (number_of (codes "STEPS") 0 1000000 rows))
-    c (number_of (codes "SEED") 1 2147483646 rows)
+    (argument_number (codes "STEPS") 0 1000000 rows))
+    c (argument_number (codes "SEED") 1 2147483646 rows)
     (λ seed e. joined (λ steps. option_map (λ packet. Fly seed steps packet) (first_of (codes "PACKET") rows)) c
-    (number_of (codes "STEPS") 0 1000000 rows)
+    (argument_number (codes "STEPS") 0 1000000 rows)
     (λ steps f. mapped (λ packet. Fly seed steps packet) c (first_of (codes "PACKET") rows)
     (λ packet g.
     let s = number_within (codes "SEED") 1 2147483646 rows seed e in

@@ -4,7 +4,7 @@ use Rattle.std.specs.Char.{is_ascii_digit, digit_value}
 use Rattle.std.specs.List.{list_all}
 use Rattle.std.specs.Str.Parse.{AllDigits, IsNumeral, digits_value, without_leading_plus}
 use Rattle.std.proofs.lemmas.Bool.Decides.{nat_tests}
-use Rattle.nk_words.specs.Number.{is_number_upto, number_upto}
+use Rattle.nk_words.specs.Number.{is_number_upto, number_of_word}
 
 -- both of two tests that hold together
 pub both : (a b : Bool) → (a && b) ≡ true → (a ≡ true) × (b ≡ true)
@@ -33,7 +33,7 @@ no_plus (c ∷ cs) h =
 -- a word that `parse` doesn't read has no number up to the largest one
 pub no_number : (largest : ℕ) (word : List ℕ) → largest < 2 ^ 64 → list_all is_ascii_digit word ≡ true
     → (IsNumeral 10 (without_leading_plus word) × (digits_value 10 (without_leading_plus word) < 2 ^ 64) → ⊥)
-    → None ≡ number_upto largest word
+    → None ≡ number_of_word largest word
 no_number largest word m digits none = by_test (is_number_upto largest word) refl
   where
     out : is_number_upto largest word ≡ true → ⊥

@@ -10,10 +10,10 @@ is_number_upto largest word =
     list_all is_ascii_digit word && (nat_lt 0 (length word) && nat_le (digits_value 10 word) largest)
 
 -- the number that the word is
-abbrev pub number_upto : ℕ → List ℕ → Option ℕ
-number_upto largest word = if is_number_upto largest word then Some (digits_value 10 word) else None
+abbrev pub number_of_word : ℕ → List ℕ → Option ℕ
+number_of_word largest word = if is_number_upto largest word then Some (digits_value 10 word) else None
 
 -- the number that the word is, where it is at least this one
 abbrev pub number_between : ℕ → ℕ → List ℕ → Option ℕ
 number_between least largest word =
-    option_and_then (λ n. if nat_le least n then Some n else None) (number_upto largest word)
+    option_and_then (λ n. if nat_le least n then Some n else None) (number_of_word largest word)

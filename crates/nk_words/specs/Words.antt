@@ -20,8 +20,8 @@ abbrev pub texts : List (String Global) → List Text
 texts words = map (λ w. string_bytes w) words
 
 -- the number of an argument, from the least one to the largest one
-abbrev pub number_of : Text → ℕ → ℕ → List Row → Option ℕ
-number_of id least largest rows = option_and_then (number_between least largest) (first_of id rows)
+abbrev pub argument_number : Text → ℕ → ℕ → List Row → Option ℕ
+argument_number id least largest rows = option_and_then (number_between least largest) (first_of id rows)
 
 -- the command `compile NAME`, from what was found of its argument
 abbrev pub compile_of : List Row → Option Command
@@ -30,7 +30,7 @@ compile_of rows = option_map (λ name. Compile name) (first_of (codes "NAME") ro
 -- the command `trace HOPS PACKET`, from what was found of its arguments
 abbrev pub trace_of : List Row → Option Command
 trace_of rows = option_and_then (λ hops. option_map (λ packet. Trace hops packet) (first_of (codes "PACKET") rows))
-    (number_of (codes "HOPS") 0 65535 rows)
+    (argument_number (codes "HOPS") 0 65535 rows)
 
 -- the command `equal LEFT RIGHT`, from what was found of its arguments
 abbrev pub equal_of : List Row → Option Command
@@ -46,8 +46,8 @@ check_of rows = option_and_then (λ left. option_map (λ right. Check left right
 abbrev pub fly_of : List Row → Option Command
 fly_of rows =
     option_and_then (λ seed. option_and_then (λ steps. option_map (λ packet. Fly seed steps packet)
-    (first_of (codes "PACKET") rows)) (number_of (codes "STEPS") 0 1000000 rows))
-    (number_of (codes "SEED") 1 2147483646 rows)
+    (first_of (codes "PACKET") rows)) (argument_number (codes "STEPS") 0 1000000 rows))
+    (argument_number (codes "SEED") 1 2147483646 rows)
 
 -- the texts of the arguments `NAME A B`, from what was found of them
 abbrev pub three_texts : List Row → Option (List ℕ × List ℕ × List ℕ)
@@ -75,8 +75,8 @@ check_waypoint_of rows = option_map (λ t. CheckWaypoint t.0 t.1 t.2 t.3) (four_
 
 -- the numbers of the arguments `SIZE SEED`, from what was found of them
 abbrev pub network_numbers : List Row → Option (ℕ × ℕ)
-network_numbers rows = option_and_then (λ size. option_map (λ seed. (size, seed)) (number_of (codes "SEED") 1 2147483646 rows))
-    (number_of (codes "SIZE") 2 1000 rows)
+network_numbers rows = option_and_then (λ size. option_map (λ seed. (size, seed)) (argument_number (codes "SEED") 1 2147483646 rows))
+    (argument_number (codes "SIZE") 2 1000 rows)
 
 -- the commands `gen SIZE SEED` and `job SIZE SEED`
 abbrev pub gen_of : List Row → Option Command

@@ -2,11 +2,11 @@
 ghost use Rattle.std.specs.Prelude.{◌≡◌};
 ghost use Rattle.std.specs.Char.{is_ascii_digit};
 ghost use Rattle.std.specs.List.{list_all};
-ghost use Rattle.nk_words.specs.Number.{number_between, number_upto};
+ghost use Rattle.nk_words.specs.Number.{number_between, number_of_word};
 
 /// The number, where the word is digits alone and the value is at most the largest one.
 fn number(word: &str, largest: u64) -> Option<u64>
-    ensures { result ≡ number_upto largest word.now }
+    ensures { result ≡ number_of_word largest word.now }
 {
     if !is_digits(word.as_bytes()) {
         return None;

@@ -8,7 +8,7 @@ ghost use Rattle.nk_words.specs.App.{leaf_app, leaf_shape, nk_app, nk_top, nk_wi
 ghost use Rattle.nk_words.specs.Words.{IsWithinLimits, Reads, command_found, command_of, command_with, compile_of};
 ghost use Rattle.nk_words.specs.Words.{apart_of, check_apart_of, check_of, check_waypoint_of, equal_of, fly_of};
 ghost use Rattle.nk_words.specs.Words.{gen_of, job_of, network_numbers};
-ghost use Rattle.nk_words.specs.Words.{four_texts, number_of, texts, three_texts, trace_of, waypoint_of};
+ghost use Rattle.nk_words.specs.Words.{four_texts, argument_number, texts, three_texts, trace_of, waypoint_of};
 
 use crate::Bytes;
 use crate::number::number_from;
@@ -346,7 +346,7 @@ fn text(alloc: Global, found: &ArgMatches, id: &str) -> Result<Bytes, WordsError
 
 /// The number of an argument, from the least one to the largest one.
 fn number_at(found: &ArgMatches, id: &str, least: u64, largest: u64) -> Result<u64, WordsError>
-    ensures { Reads (number_of id.now least largest (rows_of (found_of found.now))) result }
+    ensures { Reads (argument_number id.now least largest (rows_of (found_of found.now))) result }
 {
     match word(found, id) {
         Some(value) => match number_from(value, least, largest) {
