@@ -1,4 +1,4 @@
-use Rattle.std.proofs.Common.{◌≡◌, ◌∙◌, ap, sym, subst, length}
+use Rattle.std.proofs.Common.{◌∙◌, ap, sym, subst}
 use Rattle.nk_store.proofs.Stores.{grows_same, grows_on}
 use Rattle.nk_reach.specs.Pairs.{HavePlaces}
 use Rattle.nk_reach.specs.Sides.{alone, ends_of, ends_same}
