@@ -19,7 +19,7 @@ use Rattle.nk_tabgrammar.specs.declared.written.Declaration.TheVariants as decla
 use Rattle.nk_declare.specs.declared.fault.DeclareFault.{DeclareFault}
 use Rattle.nk_declare.specs.declared.fault.DeclareFault.TheVariants as fault
 use Rattle.nk_declare.specs.Declarations.{DeclaredValue, MaybeFault, fault_if, is_from, link_fault, declared_with, declared_after}
-use Rattle.nk_tabtext.specs.Values.{plain}
+use Rattle.nk_tabtext.specs.Values.{plain_declaration}
 use Rattle.nk_tabtext.proofs.Lines.{word_on, number_on}
 use Rattle.nk_tabtext.proofs.TableLines.{HasOne}
 use Rattle.nk_declare.proofs.Places.{from_front, name_placed}
@@ -104,7 +104,7 @@ fields_shown (n ∷ ns) (m ∷ ms) a b = (a.0, b.0, fields_shown ns ms a.1 b.1)
 
 -- the tag is declared above its line
 pub tag_back : (fs : FieldTable) (line f : ℕ) → IsFieldTable fs → fs.tag ≡ Some f
-    → declared_with (said_of fs.names fs.maxima) (plain (declared.Tag (word_on line (name_of fs f)))) ≡ Ok (with_switches fs [])
+    → declared_with (said_of fs.names fs.maxima) (plain_declaration (declared.Tag (word_on line (name_of fs f)))) ≡ Ok (with_switches fs [])
 tag_back fs line f is e =
     let at = is.tag_past_port f e in
     let there : field_named fs (name_of fs f) ≡ Some f = name_there fs is f at.1 in
@@ -212,11 +212,11 @@ abbrev pub linked : FieldTable → List SwitchPorts → List Link → DeclaredVa
 linked fs ss ls = record { fields = fs; topo = record { switches = ss; links = ls } }
 
 pub links_back : (fs : FieldTable) (ss : List SwitchPorts) (line : ℕ) (before ls : List Link) → SwitchesFit 0 ss → AreLinkable ss (before ++ ls)
-    → declared_after (map plain (written_links line ls)) (linked fs ss before) ≡ Ok (linked fs ss (before ++ ls))
+    → declared_after (map plain_declaration (written_links line ls)) (linked fs ss before) ≡ Ok (linked fs ss (before ++ ls))
 links_back fs ss line before [] fit good = ap (λ x. Ok (linked fs ss x)) (sym (append-nil before))
 links_back fs ss line before (l ∷ ls) fit good =
-    ap (λ r. and_then r (declared_after (map plain (written_links (line + 1) ls)))) one
-    ∙ ap (λ x. declared_after (map plain (written_links (line + 1) ls)) (linked fs ss x)) (link_last l before below)
+    ap (λ r. and_then r (declared_after (map plain_declaration (written_links (line + 1) ls)))) one
+    ∙ ap (λ x. declared_after (map plain_declaration (written_links (line + 1) ls)) (linked fs ss x)) (link_last l before below)
     ∙ links_back fs ss (line + 1) (before ++ l ∷ []) ls fit (subst (AreLinkable ss) (sym (append_assoc before (l ∷ []) ls)) good)
     ∙ ap (λ x. Ok (linked fs ss x)) (append_assoc before (l ∷ []) ls)
   where
@@ -259,7 +259,7 @@ links_back fs ss line before (l ∷ ls) fit good =
         (passes_for_none (λ m. (m.to_switch == l.to_switch) && (m.to_port == l.to_port)) before
         (λ k i. other_target k i ((k.to_switch == l.to_switch) && (k.to_port == l.to_port)) refl)))))
 
-    one : declared_with (linked fs ss before) (plain (written_link line l)) ≡ Ok (linked fs ss (placed (starts_below l.from_switch l.from_port) l before))
+    one : declared_with (linked fs ss before) (plain_declaration (written_link line l)) ≡ Ok (linked fs ss (placed (starts_below l.from_switch l.from_port) l before))
     one = ap (λ o. unless o (linked fs ss (placed (starts_below l.from_switch l.from_port) l before))) fine
 
 -- they can be written

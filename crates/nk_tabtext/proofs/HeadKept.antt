@@ -30,7 +30,7 @@ use Rattle.nk_tabgrammar.specs.Terminal.{Terminal, name, number, mark, terminal_
 use Rattle.nk_tabgrammar.specs.Spelling.{spell_declaration, spell_group, spell_row, spell_table, spell_text}
 use Rattle.nk_tabgrammar.specs.Answer.{terminals, IsAnswer}
 use Rattle.nk_tabgrammar.specs.Machine.{written_of}
-use Rattle.nk_tabtext.specs.Values.{FaultLine, line_if, line_above, unless_at, checked, plain, fault_of, read_of, said_after}
+use Rattle.nk_tabtext.specs.Values.{FaultLine, line_if, line_above, unless_at, checked, plain_declaration, fault_of, read_of, said_after}
 use Rattle.nk_tabgrammar.proofs.Answering.{answers}
 
 -- ---- answers without fault
@@ -104,7 +104,7 @@ front (x ∷ xs) ys h = (h.0, front xs ys h.1)
 
 -- a declaration as a text has it
 abbrev pub IsDeclarationOfText : Declaration → Type 0
-IsDeclarationOfText d = HasFieldOfText (plain d)
+IsDeclarationOfText d = HasFieldOfText (plain_declaration d)
 
 declarations_fit : (ds : List Declaration) → AllByRecursion IsTerminalOfText (flat_map spell_declaration ds) → AllByRecursion IsDeclarationOfText ds
 declarations_fit [] h = tt
@@ -160,23 +160,23 @@ read_ok (Ok d) s e = ap Ok (ok_is d s e)
 read_ok (Err x) s e = absurd (not_ok (fault_of x) s e)
 
 -- the declarations of a text
-fields_of_text : (ds : List Declaration) → AllByRecursion IsDeclarationOfText ds → AllByRecursion HasFieldOfText (map plain ds)
+fields_of_text : (ds : List Declaration) → AllByRecursion IsDeclarationOfText ds → AllByRecursion HasFieldOfText (map plain_declaration ds)
 fields_of_text [] h = tt
 fields_of_text (d ∷ ds) h = (h.0, fields_of_text ds h.1)
 
-has_port : (d : Declaration) → HasPort (plain d)
+has_port : (d : Declaration) → HasPort (plain_declaration d)
 has_port (declared.Field w n) = tt
 has_port (declared.Tag w) = tt
 has_port (declared.Switch n p ps) = omega arith
 has_port (declared.Link a m b n) = tt
 
-have_ports : (ds : List Declaration) → AllByRecursion HasPort (map plain ds)
+have_ports : (ds : List Declaration) → AllByRecursion HasPort (map plain_declaration ds)
 have_ports [] = tt
 have_ports (d ∷ ds) = (has_port d, have_ports ds)
 
 pub declared_fits : (ds : List Declaration) (s : DeclaredValue) → AllByRecursion IsDeclarationOfText ds → said_after ds nothing_declared ≡ Ok s → IsSaid s
 declared_fits ds s are e =
-    let all = map plain ds in
+    let all = map plain_declaration ds in
     let is = read_ok (declared_after all nothing_declared) s e in
     record {
       fields = all_kept (λ v. IsWritable v.fields) HasFieldOfText fields_kept all nothing_declared s built_in_writable (fields_of_text ds are) is;

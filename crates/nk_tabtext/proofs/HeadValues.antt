@@ -11,7 +11,7 @@ use Rattle.nk_topo.specs.Topology.{SwitchPorts, placed, ascending}
 use Rattle.nk_topo.proofs.Members.{placed_behind, placed_front}
 use Rattle.nk_declare.specs.declared.fault.DeclareFault.TheVariants as fault
 use Rattle.nk_declare.specs.Declarations.{DeclaredValue, MaybeFault, fault_if, field_fault, ports_fault, values_of, declared_with, declared_after}
-use Rattle.nk_tabtext.specs.Values.{plain}
+use Rattle.nk_tabtext.specs.Values.{plain_declaration}
 use Rattle.nk_tabtext.proofs.Lines.{word_on, number_on}
 use Rattle.nk_tabtext.proofs.TableLines.{HasOne}
 use Rattle.nk_tabtext.proofs.HeadLines.{written_fields, switch_with, written_switches}
@@ -44,12 +44,12 @@ FieldsFit ns ms (n ∷ names) (m ∷ maxima) =
     (position (bytes_eq n) ns ≡ None) × (length ms < 18) × FieldsFit (ns ++ n ∷ []) (ms ++ m ∷ []) names maxima
 
 pub fields_back : (line : ℕ) (ns : List (List ℕ)) (ms : List ℕ) (names : List (List ℕ)) (maxima : List ℕ) → FieldsFit ns ms names maxima
-    → declared_after (map plain (written_fields line names maxima)) (said_of ns ms) ≡ Ok (said_of (ns ++ names) (ms ++ maxima))
+    → declared_after (map plain_declaration (written_fields line names maxima)) (said_of ns ms) ≡ Ok (said_of (ns ++ names) (ms ++ maxima))
 fields_back line ns ms [] [] h = ap (λ l. Ok (said_of l ms)) (sym (append-nil ns)) ∙ ap (λ l. Ok (said_of (ns ++ []) l)) (sym (append-nil ms))
 fields_back line ns ms [] (m ∷ maxima) h = absurd h
 fields_back line ns ms (n ∷ names) [] h = absurd h
 fields_back line ns ms (n ∷ names) (m ∷ maxima) h =
-    ap (λ r. and_then r (declared_after (map plain (written_fields (line + 1) names maxima)))) one
+    ap (λ r. and_then r (declared_after (map plain_declaration (written_fields (line + 1) names maxima)))) one
     ∙ fields_back (line + 1) (ns ++ n ∷ []) (ms ++ m ∷ []) names maxima h.2
     ∙ ap (λ l. Ok (said_of l ((ms ++ m ∷ []) ++ maxima))) (append_assoc ns (n ∷ []) names)
     ∙ ap (λ l. Ok (said_of (ns ++ n ∷ names) l)) (append_assoc ms (m ∷ []) maxima)
@@ -158,11 +158,11 @@ abbrev pub with_switches : FieldTable → List SwitchPorts → DeclaredValue
 with_switches fs ss = record { fields = fs; topo = record { switches = ss; links = [] } }
 
 pub switches_back : (fs : FieldTable) (line low : ℕ) (before ss : List SwitchPorts) → SwitchesBelow low before → SwitchesFit low ss
-    → declared_after (map plain (written_switches line ss)) (with_switches fs before) ≡ Ok (with_switches fs (before ++ ss))
+    → declared_after (map plain_declaration (written_switches line ss)) (with_switches fs before) ≡ Ok (with_switches fs (before ++ ss))
 switches_back fs line low before [] b h = ap (λ l. Ok (with_switches fs l)) (sym (append-nil before))
 switches_back fs line low before (s ∷ ss) b h =
-    ap (λ r. and_then r (declared_after (map plain (written_switches (line + 1) ss)))) (one s.ports h.0.2 h.0.3)
-    ∙ ap (λ l. declared_after (map plain (written_switches (line + 1) ss)) (with_switches fs l)) (placed_last s before below)
+    ap (λ r. and_then r (declared_after (map plain_declaration (written_switches (line + 1) ss)))) (one s.ports h.0.2 h.0.3)
+    ∙ ap (λ l. declared_after (map plain_declaration (written_switches (line + 1) ss)) (with_switches fs l)) (placed_last s before below)
     ∙ switches_back fs (line + 1) (s.switch + 1) (before ++ s ∷ []) ss (switches_push (s.switch + 1) before s (switches_more s.switch (s.switch + 1) before (omega arith) below) (omega arith)) h.1
     ∙ ap (λ l. Ok (with_switches fs l)) (append_assoc before (s ∷ []) ss)
   where
@@ -172,7 +172,7 @@ switches_back fs line low before (s ∷ ss) b h =
     put : List ℕ → DeclaredValue
     put ps = with_switches fs (placed (λ r. nat_lt r.switch s.switch) (record { switch = s.switch; ports = ps }) before)
 
-    one : (ps : List ℕ) → PortsFrom 0 ps → HasOne ps → declared_with (with_switches fs before) (plain (switch_with line s.switch ps)) ≡ Ok (put ps)
+    one : (ps : List ℕ) → PortsFrom 0 ps → HasOne ps → declared_with (with_switches fs before) (plain_declaration (switch_with line s.switch ps)) ≡ Ok (put ps)
     one [] f one' = absurd one'
     one (p ∷ ps) f one' =
         let ns = map (number_on line) (p ∷ ps) in

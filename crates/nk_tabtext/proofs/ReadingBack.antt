@@ -24,7 +24,7 @@ use Rattle.nk_declare.specs.Declarations.{DeclaredValue, nothing_declared, decla
 use Rattle.nk_declare.specs.Kept.{IsWritable}
 use Rattle.nk_tabgrammar.specs.Machine.{written_of}
 use Rattle.nk_tabtext.specs.Text.{name_of, have_prefix, field_lines, tag_line, switch_text, link_text, section_text, version_of, version_text, table_bytes}
-use Rattle.nk_tabtext.specs.Values.{line_if, unless_at, checked, plain, read_of, said_after, tables_read, table_for, whole, tables_from, lexed}
+use Rattle.nk_tabtext.specs.Values.{line_if, unless_at, checked, plain_declaration, read_of, said_after, tables_read, table_for, whole, tables_from, lexed}
 use Rattle.nk_lex.specs.Spans.{last_line}
 use Rattle.nk_lex.specs.Faults.{and_then}
 use Rattle.nk_tabtext.specs.ReadBack.{IsPrintable, IsReadBack, IsTableOf}
@@ -40,11 +40,11 @@ use Rattle.nk_tabtext.proofs.TablesBack.{NumbersFit, numbers_fit, tables_good, t
 
 -- one list of declarations and then another
 abbrev said : List Declaration → DeclaredValue → Result DeclaredValue DeclareError
-said ds s = declared_after (map plain ds) s
+said ds s = declared_after (map plain_declaration ds) s
 
 said_joined : (xs ys : List Declaration) (s : DeclaredValue) → said (xs ++ ys) s ≡ and_then (said xs s) (said ys)
 said_joined [] ys s = refl
-said_joined (d ∷ xs) ys s = by (declared_with s (plain d)) (said_joined xs ys)
+said_joined (d ∷ xs) ys s = by (declared_with s (plain_declaration d)) (said_joined xs ys)
   where
     by : (r : Result DeclaredValue DeclareError) → ((s : DeclaredValue) → said (xs ++ ys) s ≡ and_then (said xs s) (said ys))
         → and_then r (said (xs ++ ys)) ≡ and_then (and_then r (said xs)) (said ys)

@@ -39,7 +39,7 @@ use Rattle.nk_tabgrammar.specs.declared.written.ReadError.{ReadError}
 use Rattle.nk_tabgrammar.specs.declared.written.ReadError.TheVariants as error
 use Rattle.nk_declare.proofs.Checks.{none_both}
 use Rattle.nk_declare.specs.Declarations.{DeclaredValue, is_from}
-use Rattle.nk_tabtext.specs.Values.{line_if, line_above, unless_at, pair_read, pairs_read, length_in, length_fault, ones_fault, match_read, put_match, matches_read, way_read, bucket_of, bucket_read, buckets_read, has_key, group_fault, group_of, group_read, groups_read, target_read, row_with, row_read, rows_read, table_of, table_read, tables_read, empty_table, table_for}
+use Rattle.nk_tabtext.specs.Values.{line_if, line_above, unless_at, pair_read, pairs_read, length_in, length_fault, ones_fault, match_read, put_match, matches_read, way_read, bucket_with, bucket_read, buckets_read, has_key, group_fault, group_of, group_read, groups_read, target_read, row_with, row_read, rows_read, table_with, table_read, tables_read, empty_table, table_for}
 use Rattle.nk_tabtext.specs.InOrder.{MatchesAscend}
 use Rattle.nk_tabtext.specs.ReadBack.{IsExit, IsBucketOf, IsGroupOf, IsTargetOf, IsMatchOf, IsRowOf, IsTableOf}
 use Rattle.nk_tabtext.proofs.Valued.{above_key, same_test}
@@ -234,10 +234,10 @@ exit_kept (way.Port n) e h = let r = unless_ok (line_above 65535 n) (exit.Port n
 module _ (fs : FieldTable) (is : IsFieldTable fs) where
   bucket_kept : (b : WrittenBucket) (x : Bucket) → bucket_read fs b ≡ Ok x → IsBucketOf fs x
   bucket_kept b x e =
-      let sets = both_ok (pairs_read fs 2 [] b.sets) (λ ss. and_then (way_read b.way) (λ w. Ok (bucket_of ss w))) x e in
-      let out = both_ok (way_read b.way) (λ w. Ok (bucket_of sets.0 w)) x sets.2 in
+      let sets = both_ok (pairs_read fs 2 [] b.sets) (λ ss. and_then (way_read b.way) (λ w. Ok (bucket_with ss w))) x e in
+      let out = both_ok (way_read b.way) (λ w. Ok (bucket_with sets.0 w)) x sets.2 in
       let pairs : ArePairs fs 2 sets.0 = pairs_kept fs is 2 [] b.sets sets.0 (tt, tt) sets.1 in
-      subst (IsBucketOf fs) (ok_is (bucket_of sets.0 out.0) x out.2) (record {
+      subst (IsBucketOf fs) (ok_is (bucket_with sets.0 out.0) x out.2) (record {
         ascend = pairs.0;
         values = All-from_recursion (λ m. IsValue fs m.0 m.1) sets.0 pairs.1;
         exit = exit_kept b.way out.0 out.1;
@@ -417,11 +417,11 @@ table_kept : (version : ℕ) (s : DeclaredValue) → IsFieldTable s.fields → (
     → table_read version s before t ≡ Ok x → IsTableOf s.fields x
 table_kept version s is before t x small e =
     let r = checked_ok _ _ x e in
-    let gs = both_ok (groups_read s.fields [] t.groups) (λ es. and_then (rows_read version s.fields es [] t.rows) (λ ws. Ok (table_of t.switch es ws))) x r.1 in
-    let ws = both_ok (rows_read version s.fields gs.0 [] t.rows) (λ rs. Ok (table_of t.switch gs.0 rs)) x gs.2 in
+    let gs = both_ok (groups_read s.fields [] t.groups) (λ es. and_then (rows_read version s.fields es [] t.rows) (λ ws. Ok (table_with t.switch es ws))) x r.1 in
+    let ws = both_ok (rows_read version s.fields gs.0 [] t.rows) (λ rs. Ok (table_with t.switch gs.0 rs)) x gs.2 in
     let groups = groups_kept s.fields is [] t.groups gs.0 small tt tt gs.1 in
     let rows = rows_kept s.fields is version gs.0 [] t.rows ws.0 groups.1 tt ws.1 in
-    subst (IsTableOf s.fields) (ok_is (table_of t.switch gs.0 ws.0) x ws.2) (record {
+    subst (IsTableOf s.fields) (ok_is (table_with t.switch gs.0 ws.0) x ws.2) (record {
       groups = All-from_recursion (IsGroupOf s.fields) (groups_in gs.0) (groups_hold s.fields gs.0 groups.1);
       ascend = pairs_from_order (λ g k. g.number < k.number) (groups_in gs.0) (groups_rise s.fields 0 gs.0 groups.0 groups.1);
       rows = All-from_recursion (IsRowOf s.fields (groups_in gs.0)) ws.0 rows;

@@ -21,7 +21,7 @@ use Rattle.nk_table.specs.declared.Exit.{Exit}
 use Rattle.nk_table.specs.declared.Exit.TheVariants as exit
 use Rattle.nk_tabgrammar.specs.declared.written.WrittenTable.{WrittenTable}
 use Rattle.nk_declare.specs.Declarations.{DeclaredValue}
-use Rattle.nk_tabtext.specs.Values.{line_if, unless_at, checked, way_read, bucket_of, bucket_read, buckets_read, has_key, group_of, group_fault, group_read, groups_read, target_read, row_with, row_read, rows_read, table_fault, table_of, table_read, tables_read, empty_table, table_for, matches_read}
+use Rattle.nk_tabtext.specs.Values.{line_if, unless_at, checked, way_read, bucket_with, bucket_read, buckets_read, has_key, group_of, group_fault, group_read, groups_read, target_read, row_with, row_read, rows_read, table_fault, table_with, table_read, tables_read, empty_table, table_for, matches_read}
 use Rattle.nk_tabtext.specs.ReadBack.{IsExit}
 use Rattle.nk_tabtext.proofs.Lines.{number_on, written_way, written_bucket}
 use Rattle.nk_tabtext.proofs.TableLines.{HasOne, group_with, written_group, written_groups, written_target, written_row, written_rows, behind, written_tables}
@@ -48,8 +48,8 @@ way_back line (exit.Port n) h = ap (λ b. unless_at (line_if b line) (exit.Port 
 
 bucket_back : (fs : FieldTable) (line : ℕ) (b : Bucket) → IsBucketGood fs b → bucket_read fs (written_bucket fs line b) ≡ Ok b
 bucket_back fs line b h =
-    ap (λ r. and_then r (λ sets. and_then (way_read (written_way line b.exit)) (λ e. Ok (bucket_of sets e)))) (bucket_pairs fs 2 line 2 b.sets h.0 h.1)
-    ∙ ap (λ r. and_then r (λ e. Ok (bucket_of b.sets e))) (way_back line b.exit h.2)
+    ap (λ r. and_then r (λ sets. and_then (way_read (written_way line b.exit)) (λ e. Ok (bucket_with sets e)))) (bucket_pairs fs 2 line 2 b.sets h.0 h.1)
+    ∙ ap (λ r. and_then r (λ e. Ok (bucket_with b.sets e))) (way_back line b.exit h.2)
 
 buckets_back : (fs : FieldTable) (line : ℕ) (before bs : List Bucket) → AreBucketsGood fs bs
     → buckets_read fs before (map (written_bucket fs line) bs) ≡ Ok (before ++ bs)
@@ -264,9 +264,9 @@ tables_back version s line low before (t ∷ ts) keys h =
 
     one : table_read version s before (record { switch = number_on line t.switch; groups = written_groups s.fields (line + 1) t.groups; rows = written_rows s.fields rl t.rows }) ≡ Ok t
     one =
-        ap (λ f. checked f (and_then (groups_read s.fields [] (written_groups s.fields (line + 1) t.groups)) (λ gs. and_then (rows_read version s.fields gs [] (written_rows s.fields rl t.rows)) (λ rs. Ok (table_of (number_on line t.switch) gs rs))))) fine
-        ∙ ap (λ r. and_then r (λ gs. and_then (rows_read version s.fields gs [] (written_rows s.fields rl t.rows)) (λ rs. Ok (table_of (number_on line t.switch) gs rs)))) (groups_back s.fields (line + 1) 1 [] t.groups (omega arith) tt h.0.3)
-        ∙ ap (λ r. and_then r (λ rs. Ok (table_of (number_on line t.switch) (map group_entry t.groups) rs))) (rows_back version s.fields rl t.groups [] t.rows h.0.4)
+        ap (λ f. checked f (and_then (groups_read s.fields [] (written_groups s.fields (line + 1) t.groups)) (λ gs. and_then (rows_read version s.fields gs [] (written_rows s.fields rl t.rows)) (λ rs. Ok (table_with (number_on line t.switch) gs rs))))) fine
+        ∙ ap (λ r. and_then r (λ gs. and_then (rows_read version s.fields gs [] (written_rows s.fields rl t.rows)) (λ rs. Ok (table_with (number_on line t.switch) gs rs)))) (groups_back s.fields (line + 1) 1 [] t.groups (omega arith) tt h.0.3)
+        ∙ ap (λ r. and_then r (λ rs. Ok (table_with (number_on line t.switch) (map group_entry t.groups) rs))) (rows_back version s.fields rl t.groups [] t.rows h.0.4)
         ∙ ap (λ l. Ok (record { switch = t.switch; groups = l; rows = t.rows })) (entries_groups t.groups)
 
 -- ascending tables

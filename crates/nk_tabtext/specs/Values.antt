@@ -73,11 +73,11 @@ checked (Some line) rest = Err (error.TableFault line)
 -- ---- declarations
 
 -- a declaration as any text has it
-abbrev pub plain : Declaration → declare.Declaration
-plain (declared.Field w n) = declare.field w n
-plain (declared.Tag w) = declare.tag w
-plain (declared.Switch n p ps) = declare.switch n (p ∷ ps)
-plain (declared.Link a m b n) = declare.link a m b n
+abbrev pub plain_declaration : Declaration → declare.Declaration
+plain_declaration (declared.Field w n) = declare.field w n
+plain_declaration (declared.Tag w) = declare.tag w
+plain_declaration (declared.Switch n p ps) = declare.switch n (p ∷ ps)
+plain_declaration (declared.Link a m b n) = declare.link a m b n
 
 -- the fault of a declaration, at its line
 abbrev pub fault_of : DeclareError → ReadError
@@ -91,7 +91,7 @@ read_of (Err e) = Err (fault_of e)
 
 -- what is declared after these declarations
 abbrev pub said_after : List Declaration → DeclaredValue → Result DeclaredValue ReadError
-said_after ds s = read_of (declared_after (map plain ds) s)
+said_after ds s = read_of (declared_after (map plain_declaration ds) s)
 
 -- ---- the tables of switches
 
@@ -168,13 +168,13 @@ way_read way.Back = Ok exit.Back
 way_read (way.Port n) = unless_at (line_above 65535 n) (exit.Port n.value)
 
 -- a bucket by its parts
-abbrev pub bucket_of : List (ℕ × ℕ) → Exit → Bucket
-bucket_of sets e = record { sets = sets; exit = e }
+abbrev pub bucket_with : List (ℕ × ℕ) → Exit → Bucket
+bucket_with sets e = record { sets = sets; exit = e }
 
 -- a bucket: it assigns declared fields
 abbrev pub bucket_read : FieldTable → WrittenBucket → Result Bucket ReadError
 bucket_read fields b =
-    and_then (pairs_read fields 2 [] b.sets) (λ sets. and_then (way_read b.way) (λ e. Ok (bucket_of sets e)))
+    and_then (pairs_read fields 2 [] b.sets) (λ sets. and_then (way_read b.way) (λ e. Ok (bucket_with sets e)))
 
 -- buckets behind others
 abbrev pub buckets_read : FieldTable → List Bucket → List WrittenBucket → Result (List Bucket) ReadError
@@ -234,14 +234,14 @@ table_fault topo before n =
     first_of (line_above 65535 n) (line_if (not (is_switch topo n.value) || has_key before n.value) n.line)
 
 -- a table by its parts
-abbrev pub table_of : Number → List (ℕ × Group) → List Row → Table
-table_of n groups rows = record { switch = n.value; groups = map (λ e. e.1) groups; rows = rows }
+abbrev pub table_with : Number → List (ℕ × Group) → List Row → Table
+table_with n groups rows = record { switch = n.value; groups = map (λ e. e.1) groups; rows = rows }
 
 -- a table behind others
 abbrev pub table_read : (version : ℕ) → DeclaredValue → List (ℕ × Table) → WrittenTable → Result Table ReadError
 table_read version s before t =
     checked (table_fault s.topo before t.switch)
-    (and_then (groups_read s.fields [] t.groups) (λ gs. and_then (rows_read version s.fields gs [] t.rows) (λ rs. Ok (table_of t.switch gs rs))))
+    (and_then (groups_read s.fields [] t.groups) (λ gs. and_then (rows_read version s.fields gs [] t.rows) (λ rs. Ok (table_with t.switch gs rs))))
 
 -- tables behind others, by switch
 abbrev pub tables_read : (version : ℕ) → DeclaredValue → List (ℕ × Table) → List WrittenTable → Result (List (ℕ × Table)) ReadError

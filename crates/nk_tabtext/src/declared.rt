@@ -6,7 +6,7 @@ ghost use Rattle.nk_declare.specs.InMemory.{declared_in};
 ghost use Rattle.nk_tabgrammar.specs.declared.written.Declaration.TheVariants as declared;
 ghost use Rattle.nk_tabgrammar.specs.Machine.{Returns};
 ghost use Rattle.nk_tabtext.specs.Values as meaning;
-ghost use Rattle.nk_tabtext.specs.Values.{plain, said_after};
+ghost use Rattle.nk_tabtext.specs.Values.{plain_declaration, said_after};
 
 use nk_declare::{DeclareError, Declared};
 use nk_field::List;
@@ -43,7 +43,7 @@ fn with_switch(
     more: &List<Number>,
 ) -> Result<Declared, DeclareError>
     ensures { declare.Returns declared_in result
-        (declared_with (declared_in said) (plain (declared.Switch n first more.now))) }
+        (declared_with (declared_in said) (plain_declaration (declared.Switch n first more.now))) }
 {
     let ports = joined(alloc, first, more.as_slice())?;
     said.with_switch(alloc, n, ports.as_slice())
@@ -55,7 +55,7 @@ fn with_declaration(
     said: Declared,
     d: &Declaration,
 ) -> Result<Declared, DeclareError>
-    ensures { declare.Returns declared_in result (declared_with (declared_in said) (plain d.now)) }
+    ensures { declare.Returns declared_in result (declared_with (declared_in said) (plain_declaration d.now)) }
 {
     match d {
         Declaration::Field(w, n) => said.with_field(w, *n),
@@ -67,7 +67,7 @@ fn with_declaration(
 
 /// What all declarations declare, or their first fault.
 fn declare_all(alloc: Global, all: &[Declaration]) -> Result<Declared, DeclareError>
-    ensures { declare.Returns declared_in result (declared_by (map plain all.now)) }
+    ensures { declare.Returns declared_in result (declared_by (map plain_declaration all.now)) }
 {
     let mut said = Declared::new(alloc)?;
     for d in all {
