@@ -22,7 +22,7 @@ use Rattle.nk_grammar.specs.Grammar.{Pol, pol_tree}
 use Rattle.nk_grammar.specs.Text.{lexemes_of_pol, IsNumberOn}
 use Rattle.nk_grammar.specs.File.{Declaration}
 use Rattle.nk_grammar.specs.FileMachine.{file_of}
-use Rattle.nk_grammar.specs.Certified.{row, WrittenRow, written_row, value_of, row_of, rows_of}
+use Rattle.nk_grammar.specs.Certified.{row, WrittenRow, written_row, number_value, row_of, rows_of}
 use Rattle.nk_grammar.specs.CertifiedText.{lexemes_of_numbers, lexemes_of_predicate, lexemes_of_rows, lexemes_of_certificate, AreRowsOn, ReadsCertificateTexts}
 use Rattle.nk_grammar.specs.Moved.{tree_moved, row_moved, nesting_of_row, ReadsTogether}
 use Rattle.nk_names.specs.ProgramOf.{Said, program_of}
@@ -88,7 +88,7 @@ abbrev number_on : ℕ → ℕ → Number
 number_on line n = record { value = n; line = line }
 
 -- numbers on a line have their values
-values_back : (line : ℕ) (ns : List ℕ) → map value_of (map (number_on line) ns) ≡ ns
+values_back : (line : ℕ) (ns : List ℕ) → map number_value (map (number_on line) ns) ≡ ns
 values_back line [] = refl
 values_back line (n ∷ ns) = ap (λ l. n ∷ l) (values_back line ns)
 
@@ -100,7 +100,7 @@ numbers_on line (n ∷ ns) h =
     (numbers_on line ns (All-tail (λ n. n ≤ largest) n ns h))
 
 -- the text of numbers, each behind a space
-numbers_text : (ns : List Number) → text_of (lexemes_of_numbers ns) ≡ flat_map position_bytes (map value_of ns)
+numbers_text : (ns : List Number) → text_of (lexemes_of_numbers ns) ≡ flat_map position_bytes (map number_value ns)
 numbers_text [] = refl
 numbers_text (n ∷ ns) = ap (λ l. codes " " ++ (decimal n.value ++ l)) (numbers_text ns)
 
@@ -120,7 +120,7 @@ record IsRowWritten (fields : FieldTable) (line : ℕ) (r : RowValue) : Type 0 w
   pub more : List Number
   pub first_on : IsNumberOn line first
   pub more_on : All (IsNumberOn line) more
-  pub positions : first.value ∷ map value_of more ≡ r.positions
+  pub positions : first.value ∷ map number_value more ≡ r.positions
   pub predicate : IsPredicateReadBack fields line r.predicate
 
 row_written : ReadsPrintedPredicates → (fields : FieldTable) → IsWritable fields → (line : ℕ) (r : RowValue)

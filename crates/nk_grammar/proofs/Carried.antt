@@ -14,7 +14,7 @@ use Rattle.nk_grammar.specs.Tree.{Tree}
 use Rattle.nk_grammar.specs.Machine.{State, start, in_option, number_in, with_number, step, ended}
 use Rattle.nk_grammar.specs.File.{Declaration}
 use Rattle.nk_grammar.specs.Certified.{Row, row, Certified, certified}
-use Rattle.nk_grammar.specs.CertifiedMachine.{CertifiedPhase, declaring, row_wanted, start_wanted, start_read, number_wanted, numbers_read, in_row, Certifying, certifying, is_start, row_in, in_line, row_on, next_certifying, certify_one, certificate_ends, certified_ended, certified_at_end, open_certified, judged_certified, certified_end_at, rest_of_certified}
+use Rattle.nk_grammar.specs.CertifiedMachine.{CertifiedPhase, declaring, row_wanted, start_wanted, start_read, number_wanted, numbers_read, in_row, Certifying, certifying, is_start_word, row_in, in_line, row_on, next_certifying, certify_one, certificate_ends, certified_ended, certified_at_end, open_certified, judged_certified, certified_end_at, rest_of_certified}
 use Rattle.nk_grammar.specs.Moved.{number_moved, tree_moved, row_moved}
 use Rattle.nk_grammar.proofs.Moves.{terminal_moved, token_terminal, state_moved, open_moves, step_moves, end_moves, number_in_moves, colon_moves}
 
@@ -55,7 +55,7 @@ stays_in_rows : (p : CertifiedPhase) (ds : List Declaration) (rs : List Row) (t 
     → IfInRows (next_certifying p ds rs t)
 stays_in_rows (declaring r) ds rs t h = absurd h
 stays_in_rows row_wanted ds rs t h = line_in_rows (row_in t) (λ line. certifying (start_wanted line) ds rs) (λ l. tt)
-stays_in_rows (start_wanted line) ds rs t h = test_in_rows (is_start t) (Some (certifying (start_read line) ds rs)) None tt tt
+stays_in_rows (start_wanted line) ds rs t h = test_in_rows (is_start_word t) (Some (certifying (start_read line) ds rs)) None tt tt
 stays_in_rows (start_read line) ds rs t h = test_in_rows (is_colon t) (Some (certifying (in_row line [] start) ds rs)) None tt tt
 stays_in_rows (number_wanted line) ds rs t h =
     number_in_rows (number_in t) (λ n. certifying (numbers_read line (n.value ∷ [])) ds rs) (λ n. tt)
@@ -153,7 +153,7 @@ module _ (ds : List Declaration) where
   next_behind row_wanted es rs t h =
       same_line (row_in t) (λ l. certifying (start_wanted l) es rs) (λ l. certifying (start_wanted l) ds rs) (λ n. refl)
   next_behind (start_wanted line) es rs t h =
-      test_carried behind (is_start t) (Some (certifying (start_read line) es rs)) None (Some (certifying (start_read line) ds rs)) None refl refl
+      test_carried behind (is_start_word t) (Some (certifying (start_read line) es rs)) None (Some (certifying (start_read line) ds rs)) None refl refl
   next_behind (start_read line) es rs t h =
       test_carried behind (is_colon t) (Some (certifying (in_row line [] start) es rs)) None (Some (certifying (in_row line [] start) ds rs)) None refl refl
   next_behind (number_wanted line) es rs t h =
@@ -245,7 +245,7 @@ module _ (lines places : ℕ) where
   row_in_moves (outside start_word) = refl
   row_in_moves (outside no_terminal) = refl
 
-  start_moves : (t : Terminal) → is_start (terminal_moved lines t) ≡ is_start t
+  start_moves : (t : Terminal) → is_start_word (terminal_moved lines t) ≡ is_start_word t
   start_moves (name w) = refl
   start_moves (number n) = refl
   start_moves (tilde l) = refl
@@ -311,7 +311,7 @@ module _ (lines places : ℕ) where
   next_further row_wanted ds rs t h =
       line_further t (λ l. certifying (start_wanted l) ds rs) (λ l. certifying (start_wanted l) ds (map (row_moved lines) rs)) (λ n. refl)
   next_further (start_wanted line) ds rs t h =
-      test_further (is_start (terminal_moved lines t)) (is_start t) (Some (certifying (start_read line) ds rs)) None
+      test_further (is_start_word (terminal_moved lines t)) (is_start_word t) (Some (certifying (start_read line) ds rs)) None
       (Some (certifying (start_read (line + lines)) ds (map (row_moved lines) rs))) None (start_moves t) refl refl
   next_further (start_read line) ds rs t h =
       test_further (is_colon (terminal_moved lines t)) (is_colon t) (Some (certifying (in_row line [] start) ds rs)) None

@@ -10,8 +10,8 @@ use Rattle.nk_grammar.specs.Grammar.{Pol, spell_pol, pol_tree, HasTree, one_term
 use Rattle.nk_grammar.specs.Machine.{State, start, with_number, step, run, ended}
 use Rattle.nk_grammar.specs.File.{Declaration, declared, spell_file, HasDeclarations}
 use Rattle.nk_grammar.specs.FileMachine.{Phase, between, field_read, field_named, tag_read, switch_read, switch_numbered, port_wanted, port_read, link_read, let_read, let_named, in_policy, Reading, policy_on, policy_done, next_reading, read_one, read_all, first_reading, declarations_at_end}
-use Rattle.nk_grammar.specs.Certified.{Row, row, WrittenRow, written_row, spell_numbers, spell_row, spell_rows, value_of, row_of, spell_certificate, rows_of, Certified, certified, HasCertificate, CertifiedGoesOn}
-use Rattle.nk_grammar.specs.CertifiedMachine.{CertifiedPhase, declaring, row_wanted, start_wanted, start_read, number_wanted, numbers_read, in_row, Certifying, certifying, is_certificate, is_start, with_row, certificate_begins, still_declaring, row_done, row_on, next_certifying, certify_one, certify_all, first_certifying, certificate_ends, certified_ended, certified_at_end}
+use Rattle.nk_grammar.specs.Certified.{Row, row, WrittenRow, written_row, spell_numbers, spell_row, spell_rows, number_value, row_of, spell_certificate, rows_of, Certified, certified, HasCertificate, CertifiedGoesOn}
+use Rattle.nk_grammar.specs.CertifiedMachine.{CertifiedPhase, declaring, row_wanted, start_wanted, start_read, number_wanted, numbers_read, in_row, Certifying, certifying, is_certificate, is_start_word, with_row, certificate_begins, still_declaring, row_done, row_on, next_certifying, certify_one, certify_all, first_certifying, certificate_ends, certified_ended, certified_at_end}
 use Rattle.nk_grammar.proofs.Fronts.{reads_only, goes_on, run_append, none_some}
 use Rattle.nk_grammar.proofs.Texts.{outside_refused, left_by, reads_file, ends_file, file_goes_on, read_append, a_number}
 
@@ -113,11 +113,11 @@ inside_row line ns ds rs (x ∷ xs) r s s' e = by_step (step s x) (ended s) e (i
 
 -- further numbers of a row
 numbers_pass : (line : ℕ) (ns : List ℕ) (ms : List Number) (ds : List Declaration) (rs : List Row) (r : List Terminal)
-    → certify_all (spell_numbers ms ++ r) (certifying (numbers_read line ns) ds rs) ≡ certify_all r (certifying (numbers_read line (ns ++ map value_of ms)) ds rs)
+    → certify_all (spell_numbers ms ++ r) (certifying (numbers_read line ns) ds rs) ≡ certify_all r (certifying (numbers_read line (ns ++ map number_value ms)) ds rs)
 numbers_pass line ns [] ds rs r = ap (λ x. certify_all r (certifying (numbers_read line x) ds rs)) (sym (append-nil ns))
 numbers_pass line ns (m ∷ ms) ds rs r =
     numbers_pass line (ns ++ m.value ∷ []) ms ds rs r
-    ∙ ap (λ x. certify_all r (certifying (numbers_read line x) ds rs)) (append_assoc ns (m.value ∷ []) (map value_of ms))
+    ∙ ap (λ x. certify_all r (certifying (numbers_read line x) ds rs)) (append_assoc ns (m.value ∷ []) (map number_value ms))
 
 -- behind a row's policy the other rows are read, and the end
 rows_pass : (ws : List WrittenRow) (line : ℕ) (ns : List ℕ) (s : State) (p : Tree) (ds : List Declaration) (rs : List Row) → ended s ≡ Some p
@@ -131,9 +131,9 @@ rows_pass (written_row l n ms q ∷ ws) line ns s p ds rs e =
     ∙ ap (λ o. finish (option_and_then (certify_all more) (row_done ds rs ns line o (outside (row_word l))))) e
     ∙ ap (λ x. finish (certify_all x (certifying (numbers_read l (n.value ∷ [])) ds rs'))) (append_assoc (spell_numbers ms) (colon ∷ spell_pol q) (spell_rows ws))
     ∙ ap finish (numbers_pass l (n.value ∷ []) ms ds rs' (colon ∷ (spell_pol q ++ spell_rows ws)))
-    ∙ ap finish (inside_row l (n.value ∷ map value_of ms) ds rs' (spell_pol q) (spell_rows ws) start left.0 left.1)
-    ∙ rows_pass ws l (n.value ∷ map value_of ms) left.0 (pol_tree q) ds rs' left.2
-    ∙ ap (λ x. Some (certified ds x)) (append_assoc rs' (row (n.value ∷ map value_of ms) (pol_tree q) l ∷ []) (map row_of ws))
+    ∙ ap finish (inside_row l (n.value ∷ map number_value ms) ds rs' (spell_pol q) (spell_rows ws) start left.0 left.1)
+    ∙ rows_pass ws l (n.value ∷ map number_value ms) left.0 (pol_tree q) ds rs' left.2
+    ∙ ap (λ x. Some (certified ds x)) (append_assoc rs' (row (n.value ∷ map number_value ms) (pol_tree q) l ∷ []) (map row_of ws))
 
 -- the tokens of a text with a certificate give its declarations and rows
 pub reads_certified : (ts : List Terminal) (c : Certified) → HasCertificate ts c → option_and_then certified_at_end (certify_all ts first_certifying) ≡ Some c
@@ -163,7 +163,7 @@ IsStartHead line ns rows xs = (ns ≡ []) × (rows ≡ []) × (xs ≡ outside (r
 -- the same for a row behind the start row
 abbrev IsRowHead : ℕ → List ℕ → List Row → List Terminal → Type 0
 IsRowHead line ns rows xs =
-    (vs : List Terminal) × AreRows vs rows × (n : Number) × (ms : List Number) × (ns ≡ n.value ∷ map value_of ms)
+    (vs : List Terminal) × AreRows vs rows × (n : Number) × (ms : List Number) × (ns ≡ n.value ∷ map number_value ms)
     × (xs ≡ vs ++ outside (row_word line) ∷ number n ∷ (spell_numbers ms ++ colon ∷ []))
 
 -- the same for any row
@@ -178,7 +178,7 @@ IsCertifiedSpelled (start_wanted line) rows us = (rows ≡ []) × (us ≡ outsid
 IsCertifiedSpelled (start_read line) rows us = (rows ≡ []) × (us ≡ outside (row_word line) ∷ outside start_word ∷ [])
 IsCertifiedSpelled (number_wanted line) rows us = (vs : List Terminal) × AreRows vs rows × (us ≡ vs ++ outside (row_word line) ∷ [])
 IsCertifiedSpelled (numbers_read line ns) rows us =
-    (vs : List Terminal) × AreRows vs rows × (n : Number) × (ms : List Number) × (ns ≡ n.value ∷ map value_of ms) × (us ≡ vs ++ outside (row_word line) ∷ number n ∷ spell_numbers ms)
+    (vs : List Terminal) × AreRows vs rows × (n : Number) × (ms : List Number) × (ns ≡ n.value ∷ map number_value ms) × (us ≡ vs ++ outside (row_word line) ∷ number n ∷ spell_numbers ms)
 IsCertifiedSpelled (in_row line ns s) rows us = (xs : List Terminal) × (ps : List Terminal) × (us ≡ xs ++ ps) × (run ps start ≡ Some s) × IsHead line ns rows xs
 
 -- the tokens so far are declarations, the word, and the tokens behind it
@@ -231,7 +231,7 @@ row_complete line ns rows xs ps p (inr h) t =
     (sym (ap (λ x. x ++ ps) h.5 ∙ head_and_policy h.0 (spell_numbers h.3) ps ps (outside (row_word line)) (number h.2)
     ∙ ap (λ x. h.0 ++ outside (row_word line) ∷ number h.2 ∷ (spell_numbers h.3 ++ colon ∷ x)) t.1))
     (subst (λ x. AreRows (h.0 ++ spell_row w) (rows ++ x ∷ []))
-    (sym (ap (λ x. row x p line) h.4 ∙ ap (λ x. row (h.2.value ∷ map value_of h.3) x line) t.2)) done)
+    (sym (ap (λ x. row x p line) h.4 ∙ ap (λ x. row (h.2.value ∷ map number_value h.3) x line) t.2)) done)
 
 -- what a step leads to
 abbrev CertifiedLeads : Option Certifying → List Terminal → Type 0
@@ -303,7 +303,7 @@ row_leads (outside start_word) ts f e = tt
 row_leads (outside no_terminal) ts f e = tt
 
 -- where the word `start` is wanted
-start_leads : (t : Terminal) (ts : List Terminal) (c : Certifying) → (t ≡ outside start_word → CertifiedLeads (Some c) ts) → CertifiedLeads (if is_start t then Some c else None) ts
+start_leads : (t : Terminal) (ts : List Terminal) (c : Certifying) → (t ≡ outside start_word → CertifiedLeads (Some c) ts) → CertifiedLeads (if is_start_word t then Some c else None) ts
 start_leads (name x) ts c e = tt
 start_leads (number x) ts c e = tt
 start_leads (tilde l) ts c e = tt
@@ -412,7 +412,7 @@ numbers_more [] n = refl
 numbers_more (m ∷ ms) n = ap (λ x. number m ∷ x) (numbers_more ms n)
 
 -- the value of one more number
-number_values_more : (ms : List Number) (n : Number) → map value_of (ms ++ n ∷ []) ≡ map value_of ms ++ n.value ∷ []
+number_values_more : (ms : List Number) (n : Number) → map number_value (ms ++ n ∷ []) ≡ map number_value ms ++ n.value ∷ []
 number_values_more [] n = refl
 number_values_more (m ∷ ms) n = ap (λ x. m.value ∷ x) (number_values_more ms n)
 

@@ -9,7 +9,7 @@ use Rattle.nk_grammar.specs.declared.place.Quad.{Quad}
 use Rattle.nk_grammar.specs.declared.place.Quad.TheVariants as quad
 use Rattle.nk_grammar.specs.declared.place.QuadNext.{QuadNext}
 use Rattle.nk_grammar.specs.declared.place.QuadNext.TheVariants as next
-use Rattle.nk_grammar.specs.Terminal.{Terminal, name, number, tilde, opening, closing, plus_sign, semicolon, star_sign, equal, becomes, colon, fat_arrow, id_word, drop_word, dup_word, in_word, dots, outside, is_equal, is_in, is_dots, is_becomes}
+use Rattle.nk_grammar.specs.Terminal.{Terminal, name, number, tilde, opening, closing, plus_sign, semicolon, star_sign, equal, becomes, colon, fat_arrow, id_word, drop_word, dup_word, in_word, dots, outside, is_equal, is_in_word, is_dots, is_becomes}
 use Rattle.nk_grammar.specs.Tree.{Tree, Trees, name_of, test, range, assign, no_part, with_part, sum_from, seq_from}
 use Rattle.nk_grammar.specs.Grammar.{Pol, Term, Factor, Atom, one_term, plus, one_factor, semi, plain, starred, written_not, written_id, written_drop, written_dup, written_name, written_test, written_range, written_set, written_link, paren, spell_pol, spell_term, spell_factor, spell_atom, terms_of, factors_of, factor_tree, atom_tree, HasTree, PolicyGoesOn}
 use Rattle.nk_grammar.specs.Machine.{Open, group, negation, State, state, start, atom_ended, joined, close, with_number, quad_step, begin, linked, step, run, settled, ended, done}
@@ -226,7 +226,7 @@ abbrev next_front : Front → Terminal → Option Front
 next_front (wants c) t = next_wanted c t
 next_front (named c w) t =
     if is_equal t then Some (tested c w)
-    else if is_in t then Some (ranged c w)
+    else if is_in_word t then Some (ranged c w)
     else if is_becomes t then Some (assigned c w)
     else next_done (fill c (written_name w)) t
 next_front (tested c w) t = with_number t None (λ n. Some (fill c (written_test w n)))
@@ -340,7 +340,7 @@ next_state : (p : Front) (t : Terminal) → step (state_of p) t ≡ option_map s
 next_state (wants c) t = wanted_state c t
 next_state (named c w) t =
     choice (is_equal t) _ _ (Some (tested c w)) _ refl
-    (choice (is_in t) _ _ (Some (ranged c w)) _ refl
+    (choice (is_in_word t) _ _ (Some (ranged c w)) _ refl
     (choice (is_becomes t) _ _ (Some (assigned c w)) (next_done (fill c (written_name w)) t) refl
     (step_atom t (name_of w) (frames_of c) (before_terms c) (before_factors c) ∙ ap (λ s. step s t) (sym (fill_state c (written_name w))) ∙ done_state c (written_name w) t)))
 next_state (tested c w) t = number_state t (λ n. atom_ended (test w n) (frames_of c) (before_terms c) (before_factors c)) (λ n. fill c (written_test w n)) (λ n. sym (fill_state c (written_test w n)))
@@ -494,7 +494,7 @@ equal_spell (outside z) ts p o e f = f
 -- where `in` may come
 in_spell : (t : Terminal) (ts : List Terminal) (p : Front) (o : Option Front)
     → spell_front p ≡ ts ++ in_word ∷ [] → IsSpelledWith ts t o
-    → IsSpelledWith ts t (if is_in t then Some p else o)
+    → IsSpelledWith ts t (if is_in_word t then Some p else o)
 in_spell (name x) ts p o e f = f
 in_spell (number x) ts p o e f = f
 in_spell (tilde l) ts p o e f = f

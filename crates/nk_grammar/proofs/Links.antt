@@ -6,7 +6,7 @@ use Rattle.nk_grammar.specs.declared.place.Quad.{Quad}
 use Rattle.nk_grammar.specs.declared.place.Quad.TheVariants as quad
 use Rattle.nk_grammar.specs.declared.place.QuadNext.{QuadNext}
 use Rattle.nk_grammar.specs.declared.place.QuadNext.TheVariants as next
-use Rattle.nk_grammar.specs.Terminal.{Terminal, name, number, tilde, opening, closing, plus_sign, semicolon, star_sign, equal, becomes, colon, fat_arrow, id_word, drop_word, dup_word, in_word, dots, outside, is_colon, is_between, field_word, tag_word, switch_word, ports_word, link_word, let_word, arrow, comma, certificate_word, row_word, start_word, no_terminal}
+use Rattle.nk_grammar.specs.Terminal.{Terminal, name, number, tilde, opening, closing, plus_sign, semicolon, star_sign, equal, becomes, colon, fat_arrow, id_word, drop_word, dup_word, in_word, dots, outside, is_colon, is_link_sign, field_word, tag_word, switch_word, ports_word, link_word, let_word, arrow, comma, certificate_word, row_word, start_word, no_terminal}
 use Rattle.nk_grammar.specs.Machine.{with_number, quad_step}
 
 -- the sign between the two ends of a link
@@ -83,7 +83,7 @@ colon_quad literal (outside z) ts q e = tt
 -- where a link wants its middle sign, it has it
 between_quad : (literal : Bool) (t : Terminal) (ts : List Terminal) (q : Quad)
     → spell_quad literal q ≡ ts ++ between literal ∷ []
-    → IsQuadSpelledWith literal ts t (if is_between literal t then next.Going q else next.Refused)
+    → IsQuadSpelledWith literal ts t (if is_link_sign literal t then next.Going q else next.Refused)
 between_quad true (name x) ts q e = tt
 between_quad false (name x) ts q e = tt
 between_quad true (number x) ts q e = tt

@@ -13,7 +13,7 @@ use Rattle.nk_grammar.specs.declared.place.Quad.{Quad}
 use Rattle.nk_grammar.specs.declared.place.Quad.TheVariants as quad
 use Rattle.nk_grammar.specs.declared.place.QuadNext.{QuadNext}
 use Rattle.nk_grammar.specs.declared.place.QuadNext.TheVariants as next
-use Rattle.nk_grammar.specs.Terminal.{Terminal, Outside, name, number, tilde, opening, closing, plus_sign, semicolon, star_sign, equal, becomes, colon, fat_arrow, id_word, drop_word, dup_word, in_word, dots, outside, let_word, row_word, terminal_from, terminal_of, is_equal, is_in, is_dots, is_becomes, is_colon, is_between}
+use Rattle.nk_grammar.specs.Terminal.{Terminal, Outside, name, number, tilde, opening, closing, plus_sign, semicolon, star_sign, equal, becomes, colon, fat_arrow, id_word, drop_word, dup_word, in_word, dots, outside, let_word, row_word, terminal_from, terminal_of, is_equal, is_in_word, is_dots, is_becomes, is_colon, is_link_sign}
 use Rattle.nk_grammar.specs.Tree.{Tree, Trees, name_of, test, range, assign, sum_of, seq_of, not_of, dup, link, no_part, part, with_part, with_star, sum_from, seq_from}
 use Rattle.nk_grammar.specs.Machine.{Open, group, negation, State, state, atom_ended, joined, close, number_in, in_option, with_number, quad_step, begin, go_on, linked, step_done, go_on_from, step_at, step, settled_at, settled, done_at, done, ended}
 use Rattle.nk_grammar.specs.Moved.{word_moved, number_moved, tree_moved, trees_moved}
@@ -156,7 +156,7 @@ module _ (lines : ℕ) where
   equal_moves dots = refl
   equal_moves (outside z) = refl
 
-  in_moves : (t : Terminal) → is_in (terminal_moved t) ≡ is_in t
+  in_moves : (t : Terminal) → is_in_word (terminal_moved t) ≡ is_in_word t
   in_moves (name w) = refl
   in_moves (number n) = refl
   in_moves (tilde l) = refl
@@ -237,7 +237,7 @@ module _ (lines : ℕ) where
   colon_moves (outside z) = refl
 
   -- a literal's sign alone is asked for in a policy
-  between_moves : (t : Terminal) → is_between true (terminal_moved t) ≡ is_between true t
+  between_moves : (t : Terminal) → is_link_sign true (terminal_moved t) ≡ is_link_sign true t
   between_moves (name w) = refl
   between_moves (number n) = refl
   between_moves (tilde l) = refl
@@ -332,7 +332,7 @@ module _ (lines : ℕ) where
   quad_moves quad.Start t = with_number_moves t next_moved next.Refused _ _ refl (λ n. refl)
   quad_moves (quad.Switch a) t = if_moves (is_colon t) _ next_moved _ next.Refused _ _ (colon_moves t) refl refl
   quad_moves (quad.SwitchColon a) t = with_number_moves t next_moved next.Refused _ _ refl (λ n. refl)
-  quad_moves (quad.Port a m) t = if_moves (is_between true t) _ next_moved _ next.Refused _ _ (between_moves t) refl refl
+  quad_moves (quad.Port a m) t = if_moves (is_link_sign true t) _ next_moved _ next.Refused _ _ (between_moves t) refl refl
   quad_moves (quad.Arrow a m) t = with_number_moves t next_moved next.Refused _ _ refl (λ n. refl)
   quad_moves (quad.ToSwitch a m b) t = if_moves (is_colon t) _ next_moved _ next.Refused _ _ (colon_moves t) refl refl
   quad_moves (quad.ToColon a m b) t = with_number_moves t next_moved next.Refused _ _ refl (λ n. refl)
@@ -407,7 +407,7 @@ module _ (lines : ℕ) where
   at_moves place.Want fs ts us t = begin_moves fs ts us t
   at_moves (place.Named w) fs ts us t =
       if_moves (is_equal t) _ (option_map state_moved) _ _ _ _ (equal_moves t) refl
-      (if_moves (is_in t) _ (option_map state_moved) _ _ _ _ (in_moves t) refl
+      (if_moves (is_in_word t) _ (option_map state_moved) _ _ _ _ (in_moves t) refl
       (if_moves (is_becomes t) _ (option_map state_moved) _ _ _ _ (becomes_moves t) refl
       (ap (λ s. step_done s (terminal_moved t)) (ended_moves (name_of w) fs ts us) ∙ done_moves (atom_ended (name_of w) fs ts us) t)))
   at_moves (place.Tested w) fs ts us t =

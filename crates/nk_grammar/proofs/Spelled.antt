@@ -3,7 +3,7 @@ use Rattle.std.proofs.Common.{◌≡◌, List, [], ◌∷◌, ◌++◌, Bool, tr
 use Rattle.std.specs.Prelude.{Some, None, option_and_then, option_map, if◌then◌else◌}
 use Rattle.nk_lex.specs.declared.word.Word.{Word}
 use Rattle.nk_grammar.specs.declared.place.Place.TheVariants as place
-use Rattle.nk_grammar.specs.Terminal.{Terminal, plus_sign, semicolon, star_sign, closing, is_equal, is_in, is_becomes}
+use Rattle.nk_grammar.specs.Terminal.{Terminal, plus_sign, semicolon, star_sign, closing, is_equal, is_in_word, is_becomes}
 use Rattle.nk_grammar.specs.Tree.{Tree, Trees, name_of, not_of, star_of, no_part, part, with_part, with_star, sum_from, seq_from}
 use Rattle.nk_grammar.specs.Grammar.{Pol, Term, Factor, Atom, one_term, plus, one_factor, semi, plain, starred, written_not, written_id, written_drop, written_dup, written_name, written_test, written_range, written_set, written_link, paren, spell_pol, spell_term, spell_factor, spell_atom, terms_of, factors_of, factor_tree, atom_tree, HasTree}
 use Rattle.nk_grammar.specs.Machine.{Open, group, negation, State, state, start, atom_ended, run, step, step_done, settled, ended, done, HasNoNegation}
@@ -15,7 +15,7 @@ outcome ts s = option_map settled (run ts s)
 -- the next token isn't one that a name would take
 abbrev pub IsFree : List Terminal → Type 0
 IsFree [] = Unit {0}
-IsFree (t ∷ ts) = (is_equal t ≡ false) × (is_in t ≡ false) × (is_becomes t ≡ false)
+IsFree (t ∷ ts) = (is_equal t ≡ false) × (is_in_word t ≡ false) × (is_becomes t ≡ false)
 
 -- whether the last factor has a star
 abbrev pub has_star : Factor → Bool

@@ -8,7 +8,7 @@ use Rattle.nk_lex.specs.declared.word.Number.{Number}
 use Rattle.nk_grammar.specs.Terminal.{Terminal, number, opening, colon, outside, certificate_word, row_word, start_word}
 use Rattle.nk_grammar.specs.Grammar.{spell_pol, pol_tree}
 use Rattle.nk_grammar.specs.File.{Declaration, IsWritten, spell_file}
-use Rattle.nk_grammar.specs.Certified.{Row, row, IsWrittenRow, WrittenRow, written_row, spell_numbers, spell_row, spell_rows, value_of, row_of, spell_certificate, certified}
+use Rattle.nk_grammar.specs.Certified.{Row, row, IsWrittenRow, WrittenRow, written_row, spell_numbers, spell_row, spell_rows, number_value, row_of, spell_certificate, certified}
 use Rattle.nk_grammar.specs.CertifiedMachine.{certified_of}
 use Rattle.nk_grammar.specs.CertifiedAnswer.{IsCertifiedAnswer}
 use Rattle.nk_grammar.proofs.CertifiedAnswering.{answers}
@@ -25,10 +25,10 @@ all_after P [] ys h = h
 all_after P (x ∷ xs) ys h = all_after P xs ys (All-tail P x (xs ++ ys) h)
 
 -- numbers that are spelled
-numbers_small : (ns : List Number) → All IsSmall (spell_numbers ns) → All (λ n. n ≤ largest) (map value_of ns)
+numbers_small : (ns : List Number) → All IsSmall (spell_numbers ns) → All (λ n. n ≤ largest) (map number_value ns)
 numbers_small [] h = All-nil (λ n. n ≤ largest)
 numbers_small (n ∷ ns) h =
-    All-cons (λ n. n ≤ largest) n.value (map value_of ns) (h 0 opening (omega arith))
+    All-cons (λ n. n ≤ largest) n.value (map number_value ns) (h 0 opening (omega arith))
     (numbers_small ns (All-tail IsSmall (number n) (spell_numbers ns) h))
 
 -- a row that is spelled
@@ -36,7 +36,7 @@ row_small : (w : WrittenRow) → All IsSmall (spell_row w) → IsWrittenRow (row
 row_small (written_row line n ns p) h =
     let numbers : List Terminal = spell_numbers ns ++ colon ∷ spell_pol p in
     let rest : All IsSmall numbers = All-tail IsSmall (number n) numbers (All-tail IsSmall (outside (row_word line)) (number n ∷ numbers) h) in
-    All-cons (λ n. n ≤ largest) n.value (map value_of ns) (h 1 opening (omega arith))
+    All-cons (λ n. n ≤ largest) n.value (map number_value ns) (h 1 opening (omega arith))
     (numbers_small ns (all_before IsSmall (spell_numbers ns) (colon ∷ spell_pol p) rest))
 
 -- rows that are spelled

@@ -35,12 +35,12 @@ spell_rows [] = []
 spell_rows (r ∷ rs) = spell_row r ++ spell_rows rs
 
 -- the numbers alone
-abbrev pub value_of : Number → ℕ
-value_of n = n.value
+abbrev pub number_value : Number → ℕ
+number_value n = n.value
 
 -- what a row says
 abbrev pub row_of : WrittenRow → Row
-row_of (written_row line n ns p) = row (n.value ∷ map value_of ns) (pol_tree p) line
+row_of (written_row line n ns p) = row (n.value ∷ map number_value ns) (pol_tree p) line
 
 -- start : row start : pol, and then the other rows
 abbrev pub spell_certificate : ℕ → Pol → List WrittenRow → List Terminal

@@ -40,9 +40,9 @@ is_certificate (outside certificate_word) = true
 is_certificate t = false
 
 -- the word `start`
-abbrev pub is_start : Terminal → Bool
-is_start (outside start_word) = true
-is_start t = false
+abbrev pub is_start_word : Terminal → Bool
+is_start_word (outside start_word) = true
+is_start_word t = false
 
 -- the line of a word `row`, if the token is one
 abbrev pub row_in : Terminal → Option ℕ
@@ -84,7 +84,7 @@ abbrev pub next_certifying : CertifiedPhase → List Declaration → List Row �
 next_certifying (declaring r) ds rs t =
     if is_certificate t then certificate_begins rs (declarations_at_end r) else still_declaring rs (read_one r t)
 next_certifying row_wanted ds rs t = with_row t None (λ line. Some (certifying (start_wanted line) ds rs))
-next_certifying (start_wanted line) ds rs t = if is_start t then Some (certifying (start_read line) ds rs) else None
+next_certifying (start_wanted line) ds rs t = if is_start_word t then Some (certifying (start_read line) ds rs) else None
 next_certifying (start_read line) ds rs t = if is_colon t then Some (certifying (in_row line [] start) ds rs) else None
 next_certifying (number_wanted line) ds rs t =
     with_number t None (λ n. Some (certifying (numbers_read line (n.value ∷ [])) ds rs))

@@ -7,7 +7,7 @@ use Rattle.nk_grammar.specs.declared.place.QuadNext.{QuadNext}
 use Rattle.nk_grammar.specs.declared.place.QuadNext.TheVariants as next
 use Rattle.nk_grammar.specs.declared.place.Place.{Place}
 use Rattle.nk_grammar.specs.declared.place.Place.TheVariants as place
-use Rattle.nk_grammar.specs.Terminal.{Terminal, name, number, tilde, opening, closing, plus_sign, semicolon, star_sign, id_word, drop_word, dup_word, is_equal, is_in, is_dots, is_becomes, is_colon, is_between}
+use Rattle.nk_grammar.specs.Terminal.{Terminal, name, number, tilde, opening, closing, plus_sign, semicolon, star_sign, id_word, drop_word, dup_word, is_equal, is_in_word, is_dots, is_becomes, is_colon, is_link_sign}
 use Rattle.nk_grammar.specs.Grammar.{HasTree, PolicyGoesOn}
 use Rattle.nk_grammar.specs.Tree.{Tree, Trees, name_of, test, range, assign, sum_of, seq_of, not_of, dup, link, no_part, with_part, sum_from, seq_from, with_star}
 
@@ -71,7 +71,7 @@ abbrev pub quad_step : Bool → Quad → Terminal → QuadNext
 quad_step literal quad.Start t = with_number t next.Refused (λ a. next.Going (quad.Switch a))
 quad_step literal (quad.Switch a) t = if is_colon t then next.Going (quad.SwitchColon a) else next.Refused
 quad_step literal (quad.SwitchColon a) t = with_number t next.Refused (λ m. next.Going (quad.Port a m))
-quad_step literal (quad.Port a m) t = if is_between literal t then next.Going (quad.Arrow a m) else next.Refused
+quad_step literal (quad.Port a m) t = if is_link_sign literal t then next.Going (quad.Arrow a m) else next.Refused
 quad_step literal (quad.Arrow a m) t = with_number t next.Refused (λ b. next.Going (quad.ToSwitch a m b))
 quad_step literal (quad.ToSwitch a m b) t = if is_colon t then next.Going (quad.ToColon a m b) else next.Refused
 quad_step literal (quad.ToColon a m b) t = with_number t next.Refused (λ n. next.Full a m b n)
@@ -115,7 +115,7 @@ abbrev pub step_at : Place → List Open → Trees → Trees → Terminal → Op
 step_at place.Want fs ts us t = begin fs ts us t
 step_at (place.Named w) fs ts us t =
     if is_equal t then Some (state (place.Tested w) fs ts us)
-    else if is_in t then Some (state (place.Ranged w) fs ts us)
+    else if is_in_word t then Some (state (place.Ranged w) fs ts us)
     else if is_becomes t then Some (state (place.Assigned w) fs ts us)
     else step_done (atom_ended (name_of w) fs ts us) t
 step_at (place.Tested w) fs ts us t = with_number t None (λ n. Some (atom_ended (test w n) fs ts us))

@@ -89,9 +89,9 @@ is_becomes becomes = true
 is_becomes t = false
 
 -- the word `in`
-abbrev pub is_in : Terminal → Bool
-is_in in_word = true
-is_in t = false
+abbrev pub is_in_word : Terminal → Bool
+is_in_word in_word = true
+is_in_word t = false
 
 -- the sign `..`
 abbrev pub is_dots : Terminal → Bool
@@ -104,7 +104,7 @@ is_colon colon = true
 is_colon t = false
 
 -- the sign between the two ends of a link: `=>` in a literal, `->` in a declaration
-abbrev pub is_between : Bool → Terminal → Bool
-is_between true fat_arrow = true
-is_between false (outside arrow) = true
-is_between literal t = false
+abbrev pub is_link_sign : Bool → Terminal → Bool
+is_link_sign true fat_arrow = true
+is_link_sign false (outside arrow) = true
+is_link_sign literal t = false

@@ -2,7 +2,7 @@
 ghost use Rattle.std.specs.Prelude.{◌≡◌, IfOk};
 ghost use Rattle.nk_grammar.specs.FileMachine.{name_in};
 ghost use Rattle.nk_grammar.specs.Machine.{number_in, quad_step};
-ghost use Rattle.nk_grammar.specs.Terminal.{is_between, is_colon, is_dots, terminal_of};
+ghost use Rattle.nk_grammar.specs.Terminal.{is_link_sign, is_colon, is_dots, terminal_of};
 
 use crate::place::{Quad, QuadNext};
 use nk_lex::{Kind, Number, Token, Word, word_of};
@@ -42,7 +42,7 @@ fn is_colon_token(token: &Token) -> bool
 
 /// The sign between the two ends of a link: `=>` in a literal, `->` in a declaration.
 fn is_between_token(literal: bool, token: &Token) -> bool
-    ensures { result ≡ is_between literal (terminal_of token.now) }
+    ensures { result ≡ is_link_sign literal (terminal_of token.now) }
 {
     match token.kind {
         Kind::FatArrow => literal,

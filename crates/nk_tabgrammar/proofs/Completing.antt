@@ -27,7 +27,7 @@ use Rattle.nk_tabgrammar.specs.declared.stage.Grouping.TheVariants as grouping
 use Rattle.nk_tabgrammar.specs.declared.stage.InRow.TheVariants as in_row
 use Rattle.nk_tabgrammar.specs.Terminal.{Terminal, name, number, mark}
 use Rattle.nk_tabgrammar.specs.Spelling.{GoesOn}
-use Rattle.nk_tabgrammar.specs.Machine.{Reading, reading, opened, opened_table, no_number, with_declaration, with_row, with_match, row_with, bucket_done, next_reading, text_ended}
+use Rattle.nk_tabgrammar.specs.Machine.{Reading, reading, opened, opened_table, no_number, with_declaration, with_row, with_match, row_written, bucket_done, next_reading, text_ended}
 use Rattle.nk_tabgrammar.proofs.Spelled.{Fits, IsAt, Leads, leads, ends, spelled}
 
 -- a state that can be completed
@@ -70,8 +70,8 @@ declared_more : (x : WrittenTables) (c : WrittenTable) (d : Declaration) → Com
 declared_more x c d = between (with_declaration x d) c
 
 -- one more row
-row_more : (x : WrittenTables) (c : WrittenTable) (p : Number) (ms : List WrittenMatch) (t : WrittenTarget) → Completes (reading stage.Rows x (with_row c (row_with p ms t)))
-row_more x c p ms t = rows x (with_row c (row_with p ms t))
+row_more : (x : WrittenTables) (c : WrittenTable) (p : Number) (ms : List WrittenMatch) (t : WrittenTarget) → Completes (reading stage.Rows x (with_row c (row_written p ms t)))
+row_more x c p ms t = rows x (with_row c (row_written p ms t))
 
 module _ (x : WrittenTables) (c : WrittenTable) where
   field_named : (w : Word) → Completes (reading (stage.Declared (declaring.FieldNamed w)) x c)

@@ -28,7 +28,7 @@ use Rattle.nk_tabgrammar.specs.declared.stage.Grouping.TheVariants as grouping
 use Rattle.nk_tabgrammar.specs.declared.stage.InRow.TheVariants as in_row
 use Rattle.nk_tabgrammar.specs.Terminal.{Terminal, mark, is_mark}
 use Rattle.nk_tabgrammar.specs.Spelling.{spell_port, spell_declaration, spell_match, spell_set, way_token, spell_bucket, spell_target, spell_row, spell_group, spell_table, spell_text}
-use Rattle.nk_tabgrammar.specs.Machine.{Reading, reading, opened, opened_table, no_table, with_declaration, with_table, with_group, with_row, with_match, match_of, row_with, bucket_done, begin, begin_row, begin_group, read_all, first_reading, written_at_end}
+use Rattle.nk_tabgrammar.specs.Machine.{Reading, reading, opened, opened_table, no_table, with_declaration, with_table, with_group, with_row, with_match, match_of, row_written, bucket_done, begin, begin_row, begin_group, read_all, first_reading, written_at_end}
 
 -- what the tokens come to at their end
 abbrev finish : Option Reading → Option WrittenTables
@@ -187,7 +187,7 @@ matches_pass x c p ns (m ∷ ms) r =
 
 -- a target
 target_passes : (x : WrittenTables) (c : WrittenTable) (p : Number) (ms : List WrittenMatch) (t : WrittenTarget) (r : List Terminal)
-    → read_all (spell_target t ++ r) (reading (stage.InRow (in_row.Target p ms)) x c) ≡ read_all r (reading stage.Rows x (with_row c (row_with p ms t)))
+    → read_all (spell_target t ++ r) (reading (stage.InRow (in_row.Target p ms)) x c) ≡ read_all r (reading stage.Rows x (with_row c (row_written p ms t)))
 target_passes x c p ms (target.Bucket b) r = bucket_passes x c (owner.Row p ms) b r
 target_passes x c p ms (target.Group n) r = refl
 target_passes x c p ms target.Discard r = refl

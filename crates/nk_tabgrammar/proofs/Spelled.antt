@@ -29,7 +29,7 @@ use Rattle.nk_tabgrammar.specs.declared.stage.Grouping.TheVariants as grouping
 use Rattle.nk_tabgrammar.specs.declared.stage.InRow.TheVariants as in_row
 use Rattle.nk_tabgrammar.specs.Terminal.{Terminal, name, number, mark, is_mark, with_name, with_number}
 use Rattle.nk_tabgrammar.specs.Spelling.{spell_port, spell_declaration, spell_match, spell_set, way_token, spell_bucket, spell_matches, spell_row, spell_group, spell_table, spell_text}
-use Rattle.nk_tabgrammar.specs.Machine.{Reading, with_declaration, with_table, with_group, with_row, with_match, match_of, row_with, quad_step, link_on, place_step, bucket_done, bucket_on, begin, begin_row, begin_group, begin_match, next_reading, read_one, read_all, first_reading, text_ended}
+use Rattle.nk_tabgrammar.specs.Machine.{Reading, with_declaration, with_table, with_group, with_row, with_match, match_of, row_written, quad_step, link_on, place_step, bucket_done, bucket_on, begin, begin_row, begin_group, begin_match, next_reading, read_one, read_all, first_reading, text_ended}
 use Rattle.nk_tabgrammar.proofs.Marks.{mark_is}
 
 -- the tokens of a part of a link
@@ -274,7 +274,7 @@ bucket_ends x c (owner.Next g) b h = (
 )
 bucket_ends x c (owner.Row p ms) b h = (
   regroup (within x c) (spell_matches p ms) (mark kind.Arrow ∷ []) (spell_bucket b)
-      ∙ row_pushed x c (row_with p ms (target.Bucket b)),
+      ∙ row_pushed x c (row_written p ms (target.Bucket b)),
   tt,
 )
 
@@ -411,7 +411,7 @@ leads (stage.InRow (in_row.Target p ms)) x c t h =
     (via_mark same t us kind.Drop _ _ (
       append_assoc (within x c ++ spell_matches p ms) (mark kind.Arrow ∷ []) (mark kind.Drop ∷ [])
           ∙ append_assoc (within x c) (spell_matches p ms) (mark kind.Arrow ∷ mark kind.Drop ∷ [])
-          ∙ row_pushed x c (row_with p ms target.Discard),
+          ∙ row_pushed x c (row_written p ms target.Discard),
       tt,
     ) tt))
 leads (stage.InRow (in_row.TargetGroup p ms)) x c t h =
@@ -419,7 +419,7 @@ leads (stage.InRow (in_row.TargetGroup p ms)) x c t h =
     (λ n. (
       append_assoc (within x c ++ spell_matches p ms) (mark kind.Arrow ∷ mark kind.Group ∷ []) (number n ∷ [])
           ∙ append_assoc (within x c) (spell_matches p ms) (mark kind.Arrow ∷ mark kind.Group ∷ number n ∷ [])
-          ∙ row_pushed x c (row_with p ms (target.Group n)),
+          ∙ row_pushed x c (row_written p ms (target.Group n)),
       tt,
     )) tt
 

@@ -86,8 +86,8 @@ abbrev pub with_match : List WrittenMatch → Word → Number → Option Number 
 with_match ms w n l = ms ++ match_of w n l ∷ []
 
 -- a row by its parts
-abbrev pub row_with : Number → List WrittenMatch → WrittenTarget → WrittenRow
-row_with p ms t = record { priority = p; matches = ms; target = t }
+abbrev pub row_written : Number → List WrittenMatch → WrittenTarget → WrittenRow
+row_written p ms t = record { priority = p; matches = ms; target = t }
 
 -- one more token of a link
 abbrev pub quad_step : Quad → Terminal → QuadNext
@@ -123,7 +123,7 @@ place_step (place.Left ps e) t =
 abbrev pub bucket_done : WrittenTables → WrittenTable → Owner → WrittenBucket → Reading
 bucket_done x c (owner.First n) b = reading (stage.Grouped (grouping.BucketRead (record { number = n; first = b; more = [] }))) x c
 bucket_done x c (owner.Next g) b = reading (stage.Grouped (grouping.BucketRead (record g { more = g.more ++ b ∷ [] }))) x c
-bucket_done x c (owner.Row p ms) b = reading stage.Rows x (with_row c (row_with p ms (target.Bucket b)))
+bucket_done x c (owner.Row p ms) b = reading stage.Rows x (with_row c (row_written p ms (target.Bucket b)))
 
 -- what a bucket's next token leads to
 abbrev pub bucket_on : WrittenTables → WrittenTable → Owner → PlaceNext → Option Reading
@@ -163,7 +163,7 @@ abbrev pub begin_target : WrittenTables → WrittenTable → Number → List Wri
 begin_target x c p ms t =
     if is_mark kind.OpenBracket t then Some (reading (stage.InBucket (owner.Row p ms) (place.Sets [])) x c)
     else if is_mark kind.Group t then Some (reading (stage.InRow (in_row.TargetGroup p ms)) x c)
-    else if is_mark kind.Drop t then Some (reading stage.Rows x (with_row c (row_with p ms target.Discard)))
+    else if is_mark kind.Drop t then Some (reading stage.Rows x (with_row c (row_written p ms target.Discard)))
     else None
 
 -- one more token, by what may come next
@@ -207,7 +207,7 @@ next_reading (stage.InRow (in_row.MatchSlashed p ms w n)) x c t =
     with_number t None (λ l. Some (reading (stage.InRow (in_row.Matches p (with_match ms w n (Some l)))) x c))
 next_reading (stage.InRow (in_row.Target p ms)) x c t = begin_target x c p ms t
 next_reading (stage.InRow (in_row.TargetGroup p ms)) x c t =
-    with_number t None (λ n. Some (reading stage.Rows x (with_row c (row_with p ms (target.Group n)))))
+    with_number t None (λ n. Some (reading stage.Rows x (with_row c (row_written p ms (target.Group n)))))
 
 -- one more token
 abbrev pub read_one : Reading → Terminal → Option Reading

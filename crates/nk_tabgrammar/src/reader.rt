@@ -20,7 +20,7 @@ ghost use Rattle.nk_tabgrammar.specs.Machine.{
   read_one,
   reading,
   rest_of_text,
-  row_with,
+  row_written,
   with_declaration,
   with_group,
   with_match,
@@ -212,7 +212,7 @@ impl Reader {
         target: WrittenTarget,
     ) -> Result<(), ReadError>
         ensures { Returns (λ _. reading_of self.new) result
-            (Ok (reading stage.Rows self.old.text (with_row self.old.table (row_with priority matches target)))) }
+            (Ok (reading stage.Rows self.old.text (with_row self.old.table (row_written priority matches target)))) }
     {
         self.table.rows.push(WrittenRow {
             priority,
