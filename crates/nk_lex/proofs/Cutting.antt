@@ -44,7 +44,7 @@ fourth s t u v a x y z w d e f g = rw (d, e, f, g) refl
 taken : (b : ℕ) (bs r : List ℕ) → take (suc (length bs)) (b ∷ bs ++ r) ≡ b ∷ bs
 taken b bs r = ap (λ l. b ∷ l) (take-append_seam bs r)
 
-name_front : (b : ℕ) (rest : List ℕ) → is_name_start b ≡ true
+pub name_front : (b : ℕ) (rest : List ℕ) → is_name_start b ≡ true
     → front_of b rest ≡ front.Name (length (take_while is_name_byte rest) + 1)
 name_front b rest h =
     third (is_white b) (b == 35) (is_name_start b) _ _ _ _ (no_white b h) (no_comment b h) h
@@ -55,7 +55,7 @@ name_front b rest h =
     no_comment : (b : ℕ) → is_name_start b ≡ true → (b == 35) ≡ false
     no_comment b h = grind (arith, nat_tests)
 
-digit_front : (b : ℕ) (rest : List ℕ) → is_digit b ≡ true
+pub digit_front : (b : ℕ) (rest : List ℕ) → is_digit b ≡ true
     → front_of b rest ≡ front.Number (length (take_while is_digit rest) + 1)
 digit_front b rest h =
     fourth (is_white b) (b == 35) (is_name_start b) (is_digit b) _ _ _ _ _ (no_white b h) (no_comment b h) (no_start b h) h

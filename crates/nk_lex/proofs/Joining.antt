@@ -113,7 +113,7 @@ front_same b xs c =
     ) refl
 
 -- and is cut as before
-cut_same : (x : Front) (line at : ℕ) (xs c : List ℕ) → size x ≤ length xs → cut x line at (xs ++ c) ≡ cut x line at xs
+pub cut_same : (x : Front) (line at : ℕ) (xs c : List ℕ) → size x ≤ length xs → cut x line at (xs ++ c) ≡ cut x line at xs
 cut_same (front.Blank n) line at xs c fits = refl
 cut_same (front.Name n) line at xs c fits =
     ap (λ w. Ok (n, Some (token (kind_of_name w) at n line 0 w))) (take-append-le n xs c fits)
@@ -122,11 +122,11 @@ cut_same (front.Symbol n k) line at xs c fits = refl
 cut_same front.Bad line at xs c fits = refl
 
 -- the lexeme was cut with this size
-abbrev IsSized : ℕ → Result (ℕ × Option Token) LexError → Type 0
+abbrev pub IsSized : ℕ → Result (ℕ × Option Token) LexError → Type 0
 IsSized n (Ok p) = p.0 ≡ n
 IsSized n (Err e) = ⊤
 
-sized : (x : Front) (line at : ℕ) (bytes : List ℕ) → IsSized (size x) (cut x line at bytes)
+pub sized : (x : Front) (line at : ℕ) (bytes : List ℕ) → IsSized (size x) (cut x line at bytes)
 sized (front.Blank n) line at bytes = refl
 sized (front.Name n) line at bytes = refl
 sized (front.Number n) line at bytes = by_test (nat_le (value_of (take n bytes)) largest)

@@ -1,3 +1,10 @@
+pub mod Given
+pub mod Stays
+pub mod Loops
+pub mod Ends
+pub mod Held
+pub mod Arms
+pub mod Cuts
 pub mod Steps
 pub mod Standing
 pub mod Names

@@ -36,7 +36,7 @@ front_step (b ∷ rest) (suc k) line at t ts some h e =
     let one : suc k - 1 ≡ k = omega arith in
     rw (e, one, after_with ts t (scan rest k (line_after line b) (at + 1)), pass) refl
 
-lines_most : (line b at n : ℕ) → line ≤ at + 1 → 0 < n → line_after line b ≤ at + n + 1
+pub lines_most : (line b at n : ℕ) → line ≤ at + 1 → 0 < n → line_after line b ≤ at + n + 1
 lines_most line b at n l some = grind (arith, nat_tests)
 
 -- what the loop keeps, over one lexeme of the slice from `at` on

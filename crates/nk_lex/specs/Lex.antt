@@ -149,3 +149,13 @@ after ts r = (ts ++ r.0, r.1)
 abbrev pub cut_front : List ℕ → ℕ → ℕ → Result (ℕ × Option Token) LexError
 cut_front [] line at = Ok (0, None)
 cut_front (b ∷ rest) line at = cut (front_of b rest) line at (b ∷ rest)
+
+-- a lexeme comes to a token
+abbrev pub HasToken : Result (ℕ × Option Token) LexError → Type 0
+HasToken (Ok (n, Some t)) = ⊤
+HasToken r = ⊥
+
+-- the text has a fault, and memory didn't run out
+abbrev pub IsFault : LexError → Type 0
+IsFault error.NoMemory = ⊥
+IsFault e = ⊤

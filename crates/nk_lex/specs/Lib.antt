@@ -4,4 +4,7 @@ pub mod Lex
 pub mod Spans
 pub mod Spelling
 pub mod Joined
+pub mod Pieces
+pub mod Kept
+pub mod NextPiece
 pub mod Faults

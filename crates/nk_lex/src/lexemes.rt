@@ -4,6 +4,7 @@ ghost use Rattle.std.specs.Prelude.{
   ◌<◌,
   ◌≤◌,
   ◌+◌,
+  ◌-◌,
   ◌^◌,
   ◌++◌,
   [],
@@ -15,14 +16,16 @@ ghost use Rattle.std.specs.Prelude.{
   IfOk,
   IfErr,
   OnOk,
+  OnErr,
+  min,
   option_to_list,
   if◌then◌else◌,
   nat_le,
-  take,
   IsUtf8,
 };
 ghost use Rattle.std.specs.List.{All};
 ghost use Rattle.nk_lex.specs.Kinds.{kind_of_name};
+ghost use Rattle.nk_lex.specs.Kept.{value_on};
 ghost use Rattle.nk_lex.specs.Lex.{
   cut_front,
   largest,
@@ -31,6 +34,7 @@ ghost use Rattle.nk_lex.specs.Lex.{
   token,
   tokens_of,
   value_of,
+  HasToken,
   Returns,
 };
 
@@ -39,22 +43,32 @@ use crate::kind::kind_of_name;
 use crate::{Bytes, Kind, LARGEST, LexError, Token};
 use std::alloc::{AllocError, AllocFailed, Global};
 
+/// The value of a number whose front has this value, with these digits behind it. It stops above
+/// `LARGEST`.
+pub fn value_past(front: u64, digits: &[u8]) -> u64
+    requires { front ≤ largest + 1 }
+    ensures { result ≡ min (value_on front digits.now) (largest + 1) }
+{
+    let mut value = front;
+    for digit in digits {
+        let next = value * 10 + u64::from(digit.saturating_sub(b'0'));
+        value = next.min(LARGEST + 1);
+    }
+    value
+}
+
 /// The number that digits write, if it isn't too large.
 fn value(digits: &[u8]) -> Option<u64>
     ensures { result ≡
         (if nat_le (value_of digits.now) largest then Some (value_of digits.now) else None) }
 {
-    let mut value = 0u64;
-    for digit in digits {
-        let next = value * 10 + u64::from(digit.saturating_sub(b'0'));
-        value = next.min(LARGEST + 1);
-    }
+    let value = value_past(0, digits);
     if value <= LARGEST { Some(value) } else { None }
 }
 
 /// A symbol's or a number's token, which has no text.
-fn plain(alloc: Global, kind: Kind, at: usize, len: usize, line: u64, value: u64) -> Token
-    requires room { at + len < 2 ^ 63 }
+pub fn plain(alloc: Global, kind: Kind, at: usize, len: usize, line: u64, value: u64) -> Token
+    requires room { at + len < 2 ^ 64 }
     ensures { result ≡ token kind at len line value [] }
 {
     Token {
@@ -80,7 +94,7 @@ fn text_of(name: &[u8]) -> &str
 
 /// The token of a name or a keyword.
 fn word(alloc: Global, name: &[u8], at: usize, line: u64) -> Result<Token, AllocError>
-    requires room { at + length name.now < 2 ^ 63 }
+    requires room { at + length name.now < 2 ^ 64 }
     requires text { IsUtf8 name.now }
     ensures { IfOk result
         (λ t. t ≡ token (kind_of_name name.now) at (length name.now) line 0 name.now) }
@@ -98,7 +112,7 @@ fn word(alloc: Global, name: &[u8], at: usize, line: u64) -> Result<Token, Alloc
 
 /// The token of a number, or the fault that it is too large.
 fn number(alloc: Global, digits: &[u8], at: usize, line: u64) -> Result<Token, LexError>
-    requires room { at + length digits.now < 2 ^ 63 }
+    requires room { at + length digits.now < 2 ^ 64 }
     ensures { result ≡ number_of digits.now at (length digits.now) line }
 {
     match value(digits) {
@@ -108,15 +122,16 @@ fn number(alloc: Global, digits: &[u8], at: usize, line: u64) -> Result<Token, L
 }
 
 /// The lexeme at the front: how many bytes it has, and its token, where it has one.
-fn lexeme(
+pub fn lexeme(
     alloc: Global,
     bytes: &[u8],
     at: usize,
     line: u64,
 ) -> Result<(usize, Option<Token>), LexError>
     requires some { 0 < length bytes.now }
-    requires room { at + length bytes.now < 2 ^ 63 }
+    requires room { at + length bytes.now < 2 ^ 64 }
     ensures cut { Returns (λ p. p) result (cut_front bytes.now line at) }
+    ensures token { IfErr result (λ e. e ≡ LexError.NoMemory → HasToken (cut_front bytes.now line at)) }
     ensures fits { IfOk result (λ p. (0 < p.0) × (p.0 ≤ length bytes.now)) }
 {
     let [first, rest @ ..] = bytes else {
@@ -138,22 +153,33 @@ fn lexeme(
 }
 
 /// Puts a token at the end, where there is one.
-fn add(tokens: &mut Vec<Token>, token: Option<Token>) -> Result<(), LexError>
+pub fn put(tokens: &mut Vec<Token>, token: Option<Token>) -> Result<(), AllocError>
     ensures ok { OnOk result (tokens.new.items ≡ tokens.old.items ++ option_to_list token) }
-    ensures err { IfErr result (λ e. e ≡ LexError.NoMemory) }
+    ensures some { OnErr result (0 < length (option_to_list token)) }
 {
     match token {
         Some(token) => match tokens.push(token) {
             Ok(()) => Ok(()),
-            Err(AllocFailed { .. }) => Err(LexError::NoMemory),
+            Err(AllocFailed { .. }) => Err(AllocError),
         },
         None => Ok(()),
     }
 }
 
+/// The same, for a text that is read.
+pub fn add(tokens: &mut Vec<Token>, token: Option<Token>) -> Result<(), LexError>
+    ensures ok { OnOk result (tokens.new.items ≡ tokens.old.items ++ option_to_list token) }
+    ensures err { IfErr result (λ e. e ≡ LexError.NoMemory) }
+{
+    match put(tokens, token) {
+        Ok(()) => Ok(()),
+        Err(AllocError) => Err(LexError::NoMemory),
+    }
+}
+
 /// The line behind a byte.
-fn line_past(line: u64, byte: u8) -> u64
-    requires { line < 2 ^ 63 + 1 }
+pub fn line_past(line: u64, byte: u8) -> u64
+    requires { line < 2 ^ 64 - 1 }
     ensures { result ≡ line_after line byte }
 {
     if byte == b'\n' { line + 1 } else { line }

@@ -4,18 +4,25 @@
 //! the line feed or to the end. A name is a letter or `_`, then letters, digits and `_`; a number is
 //! one or more digits. Of two symbols that stand at one place the longer is taken. Any other byte
 //! is a bad byte. The line of a byte is 1 plus the line feeds before it.
+//!
+//! `tokens` reads a whole text, and a `Feed` one that comes in pieces.
 #![tactic(auto)]
 
 mod bytes;
 mod classes;
+mod feeding;
 mod front;
 mod kind;
 mod laws;
 mod lexemes;
+mod piece_laws;
+mod settling;
 mod token;
+mod unfinished;
 mod word;
 
 pub use bytes::Bytes;
+pub use feeding::Feed;
 pub use kind::Kind;
 pub use laws::{
     a_line_is_one_more_than_the_line_feeds_before, a_name_is_one, a_name_is_what_stands_there,
@@ -23,5 +30,6 @@ pub use laws::{
     spans_ascend, texts_are_joined, values_are_small,
 };
 pub use lexemes::tokens;
+pub use piece_laws::{a_fault_stays, complete_tokens_stay};
 pub use token::{LARGEST, LexError, Token};
 pub use word::{Number, Word, word_of};
