@@ -5,6 +5,8 @@
 #[cfg(test)]
 mod compile;
 #[cfg(test)]
+mod feed;
+#[cfg(test)]
 mod field;
 #[cfg(test)]
 mod io;
