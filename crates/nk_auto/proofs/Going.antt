@@ -1,7 +1,7 @@
 -- Diagrams of policies that are continued by a diagram: growth, leaves, sequences and stars.
 use Rattle.std.proofs.Common.{true, ◌≡◌, ℕ, ◌+◌, inl, inr, ⊎_elim, List, [], ◌∷◌, refl, sym, ap, subst, ◌∙◌}
 use Rattle.nk_field.specs.Act.{applied}
-use Rattle.nk_policy.specs.Policy.{Policy, Policies, test, range, assign, seq_of, not_of, star_of, dup, link, no_part, part, is_predicate}
+use Rattle.nk_policy.specs.Policy.{Policy, Policies, test, range, assign, seq_of, not_of, star_of, dup, link, no_part, part, is_predicate, dups_of}
 use Rattle.nk_policy.specs.Progress.{RecordsAt}
 use Rattle.nk_store.specs.Held.{Held, IsId, IsWhole, IsPacket, look, Grows, HasLeaves, AreTidy}
 use Rattle.nk_store.specs.declared.node.Out.{Out}
@@ -13,7 +13,7 @@ use Rattle.nk_auto.specs.Plain.{Sends}
 use Rattle.nk_auto.specs.Continued.{IsFit, IsSilent, GoesOn, IsContinued}
 use Rattle.nk_auto.proofs.Sending.{out_of, sends_on, sends_back, seq_sends, sends_seq, union_sends, sends_left, sends_right}
 use Rattle.nk_auto.proofs.Silences.{fit_before, packet_before, out_sends, dup_gives_none}
-use Rattle.nk_auto.proofs.Ways.{predicate_records_none, gives_in_range, gives_cons, cons_gives, records_cons, cons_records, records_star, star_records}
+use Rattle.nk_auto.proofs.Ways.{predicate_records_none, gives_in_range, gives_cons, cons_gives, records_cons, cons_records, records_star, star_records, dupless_records_none}
 
 -- what goes on by a diagram goes on by it in a store that grew
 pub goes_on : (old new : Held) (p : Policy) (k : ℕ) (pk y : List ℕ) (t : ℕ) → Grows old new → IsId old k →
@@ -124,6 +124,13 @@ range_through st new d k r f lo hi g a pred ik h =
 pub set_through : (st new : Held) (d k r f n : ℕ) → AreTidy new → Grows st new → IsSilent st d (assign f n) → IsId st k →
     HasLeaves new r (λ pk. seq_leaf (look st d pk) (look st k) pk) → IsContinued new r (assign f n) k
 set_through st new d k r f n tidy g a ik h = through st new d k r (assign f n) tidy g a ik (λ pk y t e. e) h
+
+-- a star in which no round records, continued
+pub star_through : (st new : Held) (d k r : ℕ) (p : Policy) → dups_of p ≡ 0 → AreTidy new → Grows st new →
+    IsSilent st d (star_of p) → IsId st k → HasLeaves new r (λ pk. seq_leaf (look st d pk) (look st k) pk) →
+    IsContinued new r (star_of p) k
+star_through st new d k r p none tidy g a ik h =
+    through st new d k r (star_of p) tidy g a ik (dupless_records_none (star_of p) none) h
 
 -- the complement, continued
 pub not_through : (st new : Held) (d k r : ℕ) (p : Policy) → Grows st new → IsSilent st d (not_of p) → IsPredicate st d → IsId st k →

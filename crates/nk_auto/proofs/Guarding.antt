@@ -18,8 +18,7 @@ use Rattle.nk_auto.specs.Guarded.{NeverRecords, PassesOn, IsGuarded}
 use Rattle.nk_auto.proofs.Sending.{out_of, sends_on, sends_back}
 use Rattle.nk_auto.proofs.Silences.{fit_before, packet_before, out_sends}
 use Rattle.nk_auto.proofs.Going.{goes_on, goes_back, continued_grow, guard_has, has_guard, guard_is}
-use Rattle.nk_auto.proofs.Writing.{no_dup}
-use Rattle.nk_auto.proofs.Ways.{gives_cons, cons_gives, records_cons, cons_records, predicate_holds_none, predicate_records_none}
+use Rattle.nk_auto.proofs.Ways.{gives_cons, cons_gives, records_cons, cons_records, predicate_holds_none, predicate_records_none, no_dup}
 
 -- tests, ranges, complements and predicates never record
 pub test_guards : (f n : ℕ) → NeverRecords (test f n)

@@ -3,6 +3,7 @@ pub mod OneOut
 pub mod Predicates
 pub mod Sending
 pub mod Ways
+pub mod Passing
 pub mod Silences
 pub mod Going
 pub mod Sums

@@ -16,6 +16,7 @@ use Rattle.nk_algebra.specs.Leaves.{absent}
 use Rattle.nk_algebra.specs.Predicates.{Ends}
 use Rattle.nk_algebra.specs.Seqs.{seq_leaf, no_out, in_span}
 use Rattle.nk_algebra.proofs.Members.{Has, contains_has, has_contains, every_has}
+use Rattle.nk_algebra.proofs.Predicates.{ends_by, ends_seq}
 use Rattle.nk_star.specs.Leading.{Makes, Leads}
 use Rattle.nk_auto.specs.Values.{one_out}
 use Rattle.nk_auto.specs.Plain.{Sends}
@@ -168,11 +169,10 @@ link_silent st d a m b n l h = none_silent st d (link a m b n l) h (link_gives_n
 -- one more part in front of a sequence
 pub cons_silent : (st new : Held) (d rest r : ℕ) (p : Policy) (ps : Policies) → AreTidy new → Grows st new →
     IsSilent st d p → IsSilent st rest (seq_of ps) →
-    HasLeaves new r (λ pk. seq_leaf (look st d pk) (look st rest) pk) → Ends (look new r) →
-    IsSilent new r (seq_of (part p ps))
-cons_silent st new d rest r p ps tidy g a b h ends = record {
+    HasLeaves new r (λ pk. seq_leaf (look st d pk) (look st rest) pk) → IsSilent new r (seq_of (part p ps))
+cons_silent st new d rest r p ps tidy g a b h = record {
   id = h.id;
-  ends = ends;
+  ends = ends_by new r _ h (λ pk w. ends_seq (look st d pk) (look st rest) pk w b.ends);
   sends = λ fit pk y t pk_in.
       let before = packet_before st new pk g pk_in in
       let fit_first : IsFit st.maxes p = fit_before st new p g (fit.0.0, fit.1.0) in

@@ -1,14 +1,16 @@
 -- Runs without a record, and first records, of policies that are put together.
-use Rattle.std.proofs.Common.{◌≡◌, ℕ, suc, ◌≤◌, ◌⊎◌, inl, inr, ⊎_elim, true, List, [], refl, subst}
-use Rattle.std.specs.Prelude.{slice_index}
-use Rattle.nk_policy.specs.Policy.{Policy, Policies, test, range, assign, sum_of, seq_of, not_of, star_of, dup, link, no_part, part, is_predicate, are_predicates}
+use Rattle.std.proofs.Common.{◌≡◌, ℕ, suc, ◌+◌, ◌≤◌, ◌⊎◌, inl, inr, ⊎_elim, true, false, List, [], ◌∷◌, refl, sym, ap, subst, ◌∙◌, arith}
+use Rattle.std.specs.Prelude.{slice_index, ◌||◌}
+use Rattle.std.proofs.lemmas.List.Elements.{All-contains, Contains-push}
+use Rattle.nk_policy.specs.Policy.{Policy, Policies, test, range, assign, sum_of, seq_of, not_of, star_of, dup, link, no_part, part, is_predicate, are_predicates, dups_of, dups_of_all}
 use Rattle.nk_policy.specs.Meaning.{Gives, way_of, rounds}
 use Rattle.nk_policy.specs.Progress.{Marked, numbered, RecordsAt, SomeRecordsAt, AllRecordAt}
 use Rattle.nk_policy.specs.After.{has_dup, some_has_dup}
+use Rattle.nk_policy.proofs.DupsOfRuns.{front_dups}
 use Rattle.nk_policy.proofs.Kept
 use Rattle.nk_policy.proofs.ListParts.{map_empty, none_left, none_right}
 use Rattle.nk_policy.proofs.Marks.{ways_agree}
-use Rattle.nk_policy.proofs.Tests.{both_true, or_cases}
+use Rattle.nk_policy.proofs.Tests.{false_true, both_true, or_cases}
 use Rattle.nk_store.specs.Nodes.{InRange}
 use Rattle.nk_store.proofs.Same.{set_in_range}
 use Rattle.nk_auto.specs.Plain.{IsWithin}
@@ -151,3 +153,27 @@ mutual
   predicates_never_record (part p ps) h pk u x l r =
       let b = both_true (is_predicate p) (are_predicates ps) h in
       ⊎_elim (λ s. predicate_records_none p b.0 pk u x l s) (λ s. predicates_never_record ps b.1 s.2 s.1 x l s.5) r
+
+-- a policy of which no dup is counted holds none
+mutual
+  pub no_dup : (p : Policy) (l : ℕ) → dups_of p ≡ 0 → has_dup p l ≡ false
+  no_dup (test f n) l none = refl
+  no_dup (range f lo hi) l none = refl
+  no_dup (assign f n) l none = refl
+  no_dup (sum_of ps) l none = no_dup_among ps l none
+  no_dup (seq_of ps) l none = no_dup_among ps l none
+  no_dup (not_of p) l none = no_dup p l none
+  no_dup (star_of p) l none = no_dup p l none
+  no_dup (dup k) l none = absurd (omega (arith, none))
+  no_dup (link a m b n k) l none = absurd (omega (arith, none))
+
+  no_dup_among : (ps : Policies) (l : ℕ) → dups_of_all ps ≡ 0 → some_has_dup ps l ≡ false
+  no_dup_among no_part l none = refl
+  no_dup_among (part p ps) l none =
+      ap (λ c. c || some_has_dup ps l) (no_dup p l (omega (arith, none))) ∙ no_dup_among ps l (omega (arith, none))
+
+-- and records nothing
+pub dupless_records_none : (p : Policy) → dups_of p ≡ 0 → (pk y : List ℕ) (l : ℕ) → RecordsAt p pk [] y l → ⊥
+dupless_records_none p none pk y l r =
+    let held = All-contains (λ q. has_dup p q.1 ≡ true) ((y, l) ∷ []) (y, l) (front_dups p pk [] y l r) (Contains-push [] (y, l)) in
+    false_true (sym (no_dup p l none) ∙ held)

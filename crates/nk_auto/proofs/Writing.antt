@@ -2,14 +2,14 @@
 use Rattle.std.proofs.Common.{◌≡◌, ◌≢◌, ℕ, zero, suc, ◌+◌, ◌-◌, ◌<◌, ◌≤◌, inl, inr, ⊎_elim, Bool, true, false, List, [], ◌∷◌, length, refl, sym, ap, subst, ◌∙◌, arith, length-set, get_or-set_other, get_or-set_same}
 use Rattle.std.specs.Prelude.{slice_index, slice_set, ◌==◌, ◌||◌, if◌then◌else◌}
 use Rattle.std.proofs.lemmas.Bool.Decides.{leb_tells}
-use Rattle.nk_policy.specs.Policy.{Policy, Policies, test, range, assign, sum_of, seq_of, not_of, star_of, dup, link, no_part, part, is_predicate, dups_of, dups_of_all}
+use Rattle.nk_policy.specs.Policy.{Policy, Policies, test, range, assign, sum_of, seq_of, not_of, star_of, dup, link, no_part, part, is_predicate, dups_of}
 use Rattle.nk_policy.specs.After.{id_policy, drop_policy, has_dup, some_has_dup, after, after_some, after_all, after_dup, after_link}
 use Rattle.nk_policy.proofs.Tests.{false_true, or_cases, both_false, same_number, same_from, next_number}
 use Rattle.nk_store.specs.Held.{Held, IsId, Grows}
 use Rattle.nk_auto.specs.Complements.{NegatesPredicates, AllNegatePredicates}
 use Rattle.nk_auto.specs.Continued.{IsContinued, AreStates, AreWritten, IsPut}
 use Rattle.nk_auto.proofs.Going.{continued_grow, unit_continued, cons_continued}
-use Rattle.nk_auto.proofs.Ways.{predicate_holds_none}
+use Rattle.nk_auto.proofs.Ways.{predicate_holds_none, no_dup}
 
 -- states stay states in a store that grew
 pub states_grow : (old new : Held) (states : List ℕ) (base : ℕ) (p : Policy) (k : ℕ) → Grows old new →
@@ -48,24 +48,7 @@ pub predicate_written : (st : Held) (states : List ℕ) (base : ℕ) (p : Policy
     AreWritten st states states base p k
 predicate_written st states base p k h = none_written st states base p k (λ fit l has. predicate_holds_none p l h has)
 
--- a policy of which no dup is counted holds none
-mutual
-  pub no_dup : (p : Policy) (l : ℕ) → dups_of p ≡ 0 → has_dup p l ≡ false
-  no_dup (test f n) l none = refl
-  no_dup (range f lo hi) l none = refl
-  no_dup (assign f n) l none = refl
-  no_dup (sum_of ps) l none = no_dup_among ps l none
-  no_dup (seq_of ps) l none = no_dup_among ps l none
-  no_dup (not_of p) l none = no_dup p l none
-  no_dup (star_of p) l none = no_dup p l none
-  no_dup (dup k) l none = absurd (omega (arith, none))
-  no_dup (link a m b n k) l none = absurd (omega (arith, none))
-
-  no_dup_among : (ps : Policies) (l : ℕ) → dups_of_all ps ≡ 0 → some_has_dup ps l ≡ false
-  no_dup_among no_part l none = refl
-  no_dup_among (part p ps) l none =
-      ap (λ c. c || some_has_dup ps l) (no_dup p l (omega (arith, none))) ∙ no_dup_among ps l (omega (arith, none))
-
+-- a policy of which no dup is counted leaves the states
 pub dupless_written : (st : Held) (states : List ℕ) (base : ℕ) (p : Policy) (k : ℕ) → dups_of p ≡ 0 →
     AreWritten st states states base p k
 dupless_written st states base p k none =

@@ -1,6 +1,6 @@
 //! What a policy does up to its first record, continued by a diagram.
 ghost use Rattle.std.specs.Prelude.{◌≡◌, ℕ, ◌+◌, ◌∷◌, [], true, IfOk};
-ghost use Rattle.nk_policy.specs.Policy.{Policies, test, range, assign, sum_of, seq_of, not_of, star_of, link, dup, part, no_part, is_predicate as is_predicate_tree};
+ghost use Rattle.nk_policy.specs.Policy.{Policies, test, range, assign, sum_of, seq_of, not_of, star_of, link, dup, part, no_part, dups_of, is_predicate as is_predicate_tree};
 ghost use Rattle.nk_policy.specs.Tree.{tree_of, trees_of};
 ghost use Rattle.nk_store.specs.Held.{IsId, Grows, HasLeaves};
 ghost use Rattle.nk_auto.specs.Continued.{IsContinued};
@@ -8,11 +8,11 @@ ghost use Rattle.nk_auto.specs.Guarded.{IsGuarded};
 
 use crate::guards::{Behind, guard_of, guarded_by, put_together, unguarded};
 use crate::silence::{
-    silent_not, silent_predicate, silent_range, silent_set, silent_star, silent_test,
+    ended_then, silent_not, silent_predicate, silent_range, silent_set, silent_star, silent_test,
 };
 use nk_algebra::{aim, empty, identity, seq, union, union_all};
 use nk_field::{Fid, List};
-use nk_policy::{Pol, is_predicate};
+use nk_policy::{Pol, dups, is_predicate};
 use nk_sets::at_packets;
 use nk_store::{Id, Store};
 use std::alloc::AllocError;
@@ -186,11 +186,27 @@ pub fn continued_star(st: &mut Store, q: &Pol, next: Id) -> Result<Id, AllocErro
     ensures grows { Grows st.old st.new }
     ensures ok { IfOk result (λ d. IsContinued st.new d (star_of (tree_of q.now)) next) }
 {
+    if dups(q) == 0 {
+        return star_without_dup(st, q, next);
+    }
     let nothing = empty(st)?;
     let records = continued(st, q, nothing)?;
     let rounds = silent_star(st, q)?;
     let onward = union(st, next, records)?;
     let d = seq(st, rounds, onward)?;
+    st.laws();
+    Ok(d)
+}
+
+/// A star in which no round records: rounds, and then the diagram.
+fn star_without_dup(st: &mut Store, q: &Pol, next: Id) -> Result<Id, AllocError>
+    requires next { IsId st.old next }
+    requires dupless { dups_of (tree_of q.now) ≡ 0 }
+    ensures grows { Grows st.old st.new }
+    ensures ok { IfOk result (λ d. IsContinued st.new d (star_of (tree_of q.now)) next) }
+{
+    let rounds = silent_star(st, q)?;
+    let d = ended_then(st, rounds, next)?;
     st.laws();
     Ok(d)
 }

@@ -39,13 +39,13 @@ silent_any-returns-clause-ok t c =
 
 pub silent_all-loop-i-preserved : goal.silent_all-loop-i-preserved
 silent_all-loop-i-preserved t c = record {
-  grows = grows_on _ _ _ c.loop-i.invariant.grows (grows_on _ _ _ c.silent.ensures.grows c.seq.ensures.grows);
+  grows = grows_on _ _ _ c.loop-i.invariant.grows (grows_on _ _ _ c.silent.ensures.grows c.ended_then.ensures.grows);
   within = omega (arith, c.loop-i.invariant.within);
-  nothing = leaves_grow c.loop-i.st c.seq.new.st c.in_ok-nothing.nothing (λ pk. []) (grows_on _ _ _ c.silent.ensures.grows c.seq.ensures.grows) c.loop-i.invariant.nothing;
+  nothing = leaves_grow c.loop-i.st c.ended_then.new.st c.in_ok-nothing.nothing (λ pk. []) (grows_on _ _ _ c.silent.ensures.grows c.ended_then.ensures.grows) c.loop-i.invariant.nothing;
   rest =
       let behind = silent_grow c.loop-i.st c.silent.new.st c.loop-i.rest (seq_of (trees_of (drop c.loop-i.i c.args.ps.now))) c.silent.ensures.grows c.loop-i.invariant.rest in
-      subst (λ ps. IsSilent c.seq.new.st c.in_ok-rest-2.rest (seq_of ps)) (sym (trees_before c.args.ps.now c.loop-i.i c.index-ps-i.result c.loop-i-test.true c.loop-i.invariant.within c.index-ps-i.is))
-      (cons_silent c.silent.new.st c.seq.new.st c.in_ok-d.d c.loop-i.rest c.in_ok-rest-2.rest (tree_of c.index-ps-i.result) (trees_of (drop c.loop-i.i c.args.ps.now)) c.laws.ensures.tidy c.seq.ensures.grows c.in_ok-d.ensures.ok behind c.in_ok-rest-2.ensures.ok (c.in_ok-rest-2.ensures.ends behind.ends));
+      subst (λ ps. IsSilent c.ended_then.new.st c.in_ok-rest-2.rest (seq_of ps)) (sym (trees_before c.args.ps.now c.loop-i.i c.index-ps-i.result c.loop-i-test.true c.loop-i.invariant.within c.index-ps-i.is))
+      (cons_silent c.silent.new.st c.ended_then.new.st c.in_ok-d.d c.loop-i.rest c.in_ok-rest-2.rest (tree_of c.index-ps-i.result) (trees_of (drop c.loop-i.i c.args.ps.now)) c.laws.ensures.tidy c.ended_then.ensures.grows c.in_ok-d.ensures.ok behind c.in_ok-rest-2.ensures.ok);
 }
 
 pub silent_all-returns-then-eq-clause-ok : goal.silent_all-returns-then-eq-clause-ok
