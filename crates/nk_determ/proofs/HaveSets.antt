@@ -1,20 +1,18 @@
 -- Diagrams whose leaves have their sets.
-use Rattle.std.proofs.Common.{◌≡◌, ℕ, zero, suc, ◌+◌, ◌<◌, ◌≤◌, Bool, true, false, cond, eqb, leb, List, [], ◌∷◌, length, refl, sym, ◌∙◌, ap, subst, arith, get_or, inl, inr}
-use Rattle.std.specs.List.{list_any}
+use Rattle.std.proofs.Common.{◌≡◌, ℕ, zero, suc, ◌+◌, ◌<◌, ◌≤◌, Bool, true, false, cond, leb, List, [], ◌∷◌, length, refl, sym, ◌∙◌, ap, subst, arith, get_or, inl, inr}
 use Rattle.std.specs.List.Sorted.{IsStrictlyIncreasing}
 use Rattle.std.proofs.lemmas.List.{get_or_default}
-use Rattle.std.proofs.lemmas.Bool.Decides.{leb_tells, eqb_tells}
+use Rattle.std.proofs.lemmas.Bool.Decides.{leb_tells}
 use Rattle.nk_store.specs.declared.node.Out.{Out}
 use Rattle.nk_store.specs.Nodes.{child_at, Each}
 use Rattle.nk_store.specs.Leaves.{Strict}
 use Rattle.nk_store.specs.Held.{Held, IsId, look, IsCase, IsChild}
-use Rattle.nk_store.proofs.Looks.{joined_some}
 use Rattle.nk_algebra.proofs.Members.{Has, has_contains, contains_has}
 use Rattle.nk_determ.specs.declared.branches.Branch.{Branch}
 use Rattle.nk_determ.specs.Branches.{begun, branches, targets_of, labels, labels_of}
-use Rattle.nk_determ.specs.Sets.{SetsGrow, holds, with_set}
-use Rattle.nk_determ.specs.States.{IsThere, HasAll, HasSets, AllHaveSets}
-use Rattle.nk_determ.proofs.Interned.{holds_grow, set_there}
+use Rattle.nk_determ.specs.Sets.{SetsGrow, holds}
+use Rattle.nk_determ.specs.States.{IsThere, HasAll, HasSets}
+use Rattle.nk_determ.proofs.Interned.{holds_grow}
 use Rattle.nk_determ.proofs.Runs.{branch_for, branches_are, target_has, label_has, labels_ascend}
 
 -- labels that are there stay so
@@ -22,10 +20,10 @@ pub there_grow : (old new : List (List ℕ)) (ls : List ℕ) → SetsGrow old ne
 there_grow old new [] g h = tt
 there_grow old new (l ∷ ls) g h = holds_grow old new (l ∷ ls) g h
 
--- labels that were put in are there
-pub there_now : (sets new : List (List ℕ)) (ls : List ℕ) → new ≡ with_set sets ls → IsThere new ls
-there_now sets new [] e = tt
-there_now sets new (l ∷ ls) e = ap (λ s. holds s (l ∷ ls)) e ∙ set_there sets (l ∷ ls)
+-- labels that are one of the sets are there
+pub there_now : (sets : List (List ℕ)) (ls : List ℕ) → holds sets ls ≡ true → IsThere sets ls
+there_now sets [] h = tt
+there_now sets (l ∷ ls) h = h
 
 -- a leaf that has its sets has them among more sets
 pub all_grow : (old new : List (List ℕ)) (outs : List Out) → SetsGrow old new → HasAll old outs → HasAll new outs
@@ -34,15 +32,6 @@ all_grow old new outs g h a = there_grow old new (labels_of a outs) g (h a)
 -- a diagram that has its sets has them among more sets
 pub sets_grow : (old new : List (List ℕ)) (st : Held) (d : ℕ) → SetsGrow old new → HasSets old st d → HasSets new st d
 sets_grow old new st d g h pk = all_grow old new (look st d pk) g (h pk)
-
--- one more does
-pub one_more : (sets : List (List ℕ)) (st : Held) (old new : List ℕ) (d : ℕ) → AllHaveSets sets st old → HasSets sets st d →
-    ((q : ℕ) → list_any (eqb q) new ≡ cond (eqb d q) true (list_any (eqb q) old)) → AllHaveSets sets st new
-one_more sets st old new d all one put q e =
-    elim (eqb_tells d q) [
-      | inl same ↦ subst (HasSets sets st) same.1 one
-      | inr other ↦ all q (sym (put q ∙ ap (λ b. cond b true (list_any (eqb q) old)) other.0) ∙ e)
-    ]
 
 -- where the labels of each branch are there, the leaf has its sets
 pub leaf_has : (sets : List (List ℕ)) (outs : List Out) → Strict outs → ((c : Branch) → Has (branches outs) c → IsThere sets (labels c.targets)) → HasAll sets outs
@@ -75,21 +64,6 @@ each_place P [] k e h l = absurd (omega arith)
 each_place P (p ∷ ps) zero e h l = h.0
 each_place P (p ∷ ps) (suc k) e h l = each_place P ps k e h.1 (omega arith)
 
--- where each child has its sets, the diagram has them
-case_has : (sets : List (List ℕ)) (st : Held) (d f : ℕ) (ps : List (ℕ × ℕ)) → IsCase st d f ps → 0 < length ps → ((k : ℕ) → k < length ps → HasSets sets st (get_or ps k (0, 0)).1) → HasSets sets st d
-case_has sets st d f ps c some all = λ pk.
-    let at = child_place ps 0 (get_or pk f 0) some in
-    subst (HasAll sets) (sym (c.leaf pk ∙ ap (λ k. look st k pk) at.2)) (all at.0 at.1 pk)
-
--- one part more
-pub parts_more : (old new : List (List ℕ)) (st : Held) (ps : List (ℕ × ℕ)) (i d : ℕ) → SetsGrow old new → ((k : ℕ) → k < i → HasSets old st (get_or ps k (0, 0)).1) → d ≡ (get_or ps i (0, 0)).1 → HasSets new st d → (k : ℕ) → k < i + 1 → HasSets new st (get_or ps k (0, 0)).1
-parts_more old new st ps i d g done is h k m = elim (leb_tells i k) [
-  | inr before ↦ sets_grow old new st (get_or ps k (0, 0)).1 g (done k before.1)
-  | inl here ↦
-      let same : k ≡ i = omega (arith, here.1, m) in
-      subst (HasSets new st) (is ∙ ap (λ j. (get_or ps j (0, 0)).1) (sym same)) h
-]
-
 -- what is known of one of a node's parts
 pub part_known : (st : Held) (d f : ℕ) (ps items : List (ℕ × ℕ)) (i : ℕ) (p : ℕ × ℕ) → IsCase st d f ps → items ≡ ps → i < length items → p ≡ get_or items i p → (p.1 < d) × IsId st p.1 × (p.1 ≡ (get_or items i (0, 0)).1)
 part_known st d f ps items i p c e l at =
@@ -101,12 +75,6 @@ part_known st d f ps items i p c e l at =
       subst (IsId st) number child.id,
       ap (λ (x : ℕ × ℕ). x.1) (at ∙ get_or_default items i p (0, 0) l),
     )
-
--- where all parts are done, the node is
-pub case_done : (sets : List (List ℕ)) (st : Held) (d f : ℕ) (ps items : List (ℕ × ℕ)) (i : ℕ) → IsCase st d f ps → items ≡ ps → length items ≤ i → ((k : ℕ) → k < i → HasSets sets st (get_or items k (0, 0)).1) → HasSets sets st d
-case_done sets st d f ps items i c e l done =
-    let same : length items ≡ length ps = ap (λ xs. length xs) e in
-    case_has sets st d f ps c (joined_some ps c.joined) (λ k m. subst (λ (xs : List (ℕ × ℕ)). HasSets sets st (get_or xs k (0, 0)).1) e (done k (omega (arith, m, l, same))))
 
 -- the labels of a leaf's branch at a place ascend
 pub branch_rises : (outs : List Out) (items : List Branch) (i : ℕ) (b : Branch) → Strict outs → items ≡ branches outs → i < length items → b ≡ get_or items i b → IsStrictlyIncreasing (labels b.targets)

@@ -1,14 +1,14 @@
 -- Sets by their number, and sets that grow.
-use Rattle.std.proofs.Common.{◌≡◌, ◌≢◌, ℕ, ◌+◌, ◌<◌, ◌≤◌, Bool, true, false, cond, not, ◌||◌, nat_eq, nat_lt, List, [], ◌∷◌, ◌++◌, length, refl, sym, ◌∙◌, ap, arith, get_or, slice_get, Some, None, inl, inr}
+use Rattle.std.proofs.Common.{◌≡◌, ◌≢◌, ℕ, ◌+◌, ◌<◌, Bool, true, false, cond, ◌||◌, nat_eq, List, [], ◌∷◌, ◌++◌, length, refl, sym, ◌∙◌, ap, arith, get_or, slice_get, Some, inl, inr}
 use Rattle.std.specs.Prelude.{AllPairs}
 use Rattle.std.specs.Bool.{Decides}
-use Rattle.std.specs.List.{list_any, position, position_or_len, IsDistinct}
+use Rattle.std.specs.List.{list_any, position_or_len, IsDistinct}
 use Rattle.std.specs.Cmp.Lexicographic.{pointwise, pointwise_decides}
-use Rattle.std.proofs.lemmas.Bool.Decides.{Decides-eqb, nat_tests}
+use Rattle.std.proofs.lemmas.Bool.Decides.{Decides-eqb}
 use Rattle.std.proofs.lemmas.Option.{get_or_from_slice_get, slice_get_cases}
-use Rattle.std.proofs.lemmas.List.{append_assoc}
+use Rattle.std.proofs.lemmas.List.{append_assoc, append-nil}
 use Rattle.std.proofs.lemmas.List.Folds.{list_any-append}
-use Rattle.std.proofs.lemmas.List.Sums.{prefix_len-le-length, passes_at_first}
+use Rattle.std.proofs.lemmas.List.Sums.{passes_at_first}
 use Rattle.std.proofs.lemmas.Map.Made.{AllPairs-from_IsDistinct}
 use Rattle.nk_field.proofs.Thens.{order}
 use Rattle.nk_determ.specs.Sets.{SetsGrow, IsSetOf, Differ, holds, with_set, place_in}
@@ -16,6 +16,10 @@ use Rattle.nk_determ.specs.Sets.{SetsGrow, IsSetOf, Differ, holds, with_set, pla
 -- the test of equal lists of labels tells whether they are one
 pub labels_decide : (xs ys : List ℕ) → Decides (pointwise nat_eq xs ys) (xs ≡ ys)
 labels_decide xs ys = pointwise_decides Decides-eqb xs ys
+
+-- sets grow to themselves
+pub sets_same : (sets : List (List ℕ)) → SetsGrow sets sets
+sets_same sets = ([], sym (append-nil sets))
 
 -- sets that grew twice
 pub sets_on : (a b c : List (List ℕ)) → SetsGrow a b → SetsGrow b c → SetsGrow a c
@@ -59,19 +63,6 @@ distinct_differ sets d i j li lj e =
       | inr (inr more) ↦ absurd (apart j i [] more li (sym e))
     ]
 
--- where nothing is answered, the test failed
-first_or_none : (p : List ℕ → Bool) (xs : List (List ℕ)) (b : Bool) → cond b (Some (position_or_len p xs)) None ≡ None → b ≡ false
-first_or_none p xs true e = cc
-first_or_none p xs false e = refl
-
--- labels that aren't found have the number of sets for their place
-pub none_placed : (sets : List (List ℕ)) (labels : List ℕ) → position (pointwise nat_eq labels) sets ≡ None → length sets ≡ place_in sets labels
-none_placed sets labels e =
-    let p : List ℕ → Bool = pointwise nat_eq labels in
-    let most : position_or_len p sets ≤ length sets = prefix_len-le-length (λ x. not (p x)) sets in
-    let no : nat_lt (position_or_len p sets) (length sets) ≡ false = first_or_none p sets (nat_lt (position_or_len p sets) (length sets)) e in
-    grind (arith, nat_tests, most, no)
-
 -- where a test passes somewhere, the first place is within the list
 found_before : (p : List ℕ → Bool) (xs : List (List ℕ)) → list_any p xs ≡ true → position_or_len p xs < length xs
 found_before p [] h = cc
@@ -87,3 +78,31 @@ place_holds sets labels h =
     let p : List ℕ → Bool = pointwise nat_eq labels in
     let within : position_or_len p sets < length sets = found_before p sets h in
     (within, sym ((labels_decide labels (get_or sets (place_in sets labels) [])).0 (passes_at_first p sets [] within)))
+
+-- where a test passes somewhere, items behind leave the first place as it is
+found_still : (p : List ℕ → Bool) (xs ys : List (List ℕ)) → list_any p xs ≡ true → position_or_len p (xs ++ ys) ≡ position_or_len p xs
+found_still p [] ys h = cc
+found_still p (x ∷ xs) ys h = by (p x) refl h (λ k. found_still p xs ys k)
+  where
+    by : (b : Bool) → p x ≡ b → b || list_any p xs ≡ true → (list_any p xs ≡ true → position_or_len p (xs ++ ys) ≡ position_or_len p xs) →
+        position_or_len p (x ∷ (xs ++ ys)) ≡ position_or_len p (x ∷ xs)
+    by true is k go =
+        let e : position_or_len p (x ∷ (xs ++ ys)) ≡ 0 = rw is refl in
+        let f : position_or_len p (x ∷ xs) ≡ 0 = rw is refl in
+        e ∙ sym f
+    by false is k go =
+        let e : position_or_len p (x ∷ (xs ++ ys)) ≡ 1 + position_or_len p (xs ++ ys) = rw is refl in
+        let f : position_or_len p (x ∷ xs) ≡ 1 + position_or_len p xs = rw is refl in
+        e ∙ ap (λ n. 1 + n) (go k) ∙ sym f
+
+-- labels that are one of the sets have the same place among more sets
+pub place_grow : (old new : List (List ℕ)) (labels : List ℕ) → SetsGrow old new → holds old labels ≡ true → place_in new labels ≡ place_in old labels
+place_grow old new labels g h = ap (λ s. place_in s labels) g.1 ∙ found_still (pointwise nat_eq labels) old g.0 h
+
+-- the number of labels that were put in is their place, whatever sets come later
+pub number_placed : (old new : List (List ℕ)) (i : ℕ) (labels : List ℕ) → new ≡ with_set old labels → Differ new → IsSetOf new i labels →
+    (later : List (List ℕ)) → SetsGrow new later → i ≡ place_in later labels
+number_placed old new i labels e d s later g =
+    let h : holds new labels ≡ true = ap (λ zs. holds zs labels) e ∙ set_there old labels in
+    let at = place_holds new labels h in
+    d i (place_in new labels) s.within at.0 (s.members ∙ sym at.1) ∙ sym (place_grow new later labels g h)

@@ -8,6 +8,7 @@ pub mod HaveSets
 pub mod Together
 pub mod StatesAt
 pub mod Regrouped
+pub mod Regroupings
 pub mod Followed
 pub mod Below
 pub mod Withouts

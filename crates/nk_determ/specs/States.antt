@@ -1,13 +1,14 @@
 -- The diagram of a set state.
-use Rattle.std.specs.Prelude.{◌≡◌, ◌↔◌, ℕ, ◌+◌, ◌<◌, true, cond, eqb, List, [], ◌∷◌, ◌++◌, length, flat_map, slice_index, slice_index_or}
+use Rattle.std.specs.Prelude.{◌≡◌, ◌↔◌, ℕ, ◌+◌, ◌<◌, ◌≤◌, true, cond, eqb, Some, List, [], ◌∷◌, ◌++◌, length, flat_map, slice_index, slice_index_or}
 use Rattle.std.specs.List.{Contains, list_any}
+use Rattle.std.specs.Map.{lookup}
 use Rattle.nk_store.specs.declared.node.Out.{Out}
 use Rattle.nk_store.specs.Leaves.{Strict}
-use Rattle.nk_store.specs.Held.{Held, IsId, IsWhole, look, HasLeaves}
+use Rattle.nk_store.specs.Held.{Held, IsId, IsWhole, look, top, HasLeaves}
 use Rattle.nk_algebra.specs.Leaves.{gathered}
 use Rattle.nk_determ.specs.declared.branches.Branch.{Branch}
 use Rattle.nk_determ.specs.Exact.{split_leaf, Sends}
-use Rattle.nk_determ.specs.Sets.{holds, place_in}
+use Rattle.nk_determ.specs.Sets.{SetsGrow, holds, place_in}
 use Rattle.nk_determ.specs.Branches.{branches, labels, labels_of}
 
 -- one of these diagrams, split, sends the packet by that act to that target
@@ -71,10 +72,6 @@ HasAll sets outs = (g : List (ℕ × ℕ)) → IsThere sets (labels_of g outs)
 abbrev pub HasSets : List (List ℕ) → Held → ℕ → Type 0
 HasSets sets st d = (pk : List ℕ) → HasAll sets (look st d pk)
 
--- each of these diagrams has its sets
-abbrev pub AllHaveSets : List (List ℕ) → Held → List ℕ → Type 0
-AllHaveSets sets st ds = (d : ℕ) → list_any (eqb d) ds ≡ true → HasSets sets st d
-
 -- the final act, where a target is 0
 abbrev pub final_of : List (ℕ × ℕ) → List ℕ → List Out
 final_of g targets = cond (list_any (λ t. eqb t 0) targets) (record { act = g; target = 0 } ∷ []) []
@@ -99,3 +96,13 @@ pub record IsStateOf (old mid new : Held) (sets : List (List ℕ)) (ds : List �
   pub leaves : HasLeaves new r (λ pk. regrouped sets (look mid d pk))
   pub held : HasSets sets mid d
   pub maxes : new.maxes ≡ old.maxes
+
+-- whatever sets come later, the diagram r has what is made of each leaf of d; and the sets of the labels of its acts are there
+pub record IsRegrouped (old : Held) (d : ℕ) (new : Held) (sets : List (List ℕ)) (r : ℕ) : Type 0 where
+  pub leaves : (later : List (List ℕ)) → SetsGrow sets later → HasLeaves new r (λ pk. regrouped later (look old d pk))
+  pub held : HasSets sets old d
+
+-- of each entry the second diagram is what is made of the first, and tests no field before those that the first tests
+abbrev pub AreRegrouped : Held → List (List ℕ) → List (ℕ × ℕ) → Type 0
+AreRegrouped st sets entries = (d r : ℕ) → lookup (eqb d) entries ≡ Some r →
+    IsId st d × IsRegrouped st d st sets r × (top st d ≤ top st r)

@@ -6,6 +6,7 @@ ghost use Rattle.nk_determ.specs.Branches.{with_target, begun, branches, labels}
 use nk_field::{Act, List};
 use nk_store::Out;
 use std::alloc::{AllocError, Global};
+use std::mem;
 
 /// An act with targets.
 #[derive(Drop)]
@@ -26,38 +27,26 @@ pub(crate) fn branches_of(alloc: Global, outs: &[Out]) -> Result<List<Branch>, A
         targets: List::new(alloc),
     };
     for o in outs {
-        last = next_branch(&mut all, last, o)?;
+        next_branch(&mut all, &mut last, o)?;
     }
     all.push(last)?;
     Ok(all)
 }
 
 /// The branch with an out more; where the out has another act the branch is done, and the next one begins.
-fn next_branch(all: &mut List<Branch>, last: Branch, o: &Out) -> Result<Branch, AllocError>
-    ensures is { IfOk result (λ b. b ≡ cond (ghosts.eq o.now.act last.act) (with_target last o.now.target) (with_target (begun o.now.act) o.now.target)) }
-    ensures all { OnOk result (all.new ≡ cond (ghosts.eq o.now.act last.act) all.old (all.old ++ last ∷ [])) }
+fn next_branch(all: &mut List<Branch>, last: &mut Branch, o: &Out) -> Result<(), AllocError>
+    ensures is { OnOk result (last.new ≡ cond (ghosts.eq o.now.act last.old.act) (with_target last.old o.now.target) (with_target (begun o.now.act) o.now.target)) }
+    ensures all { OnOk result (all.new ≡ cond (ghosts.eq o.now.act last.old.act) all.old (all.old ++ last.old ∷ [])) }
 {
-    if o.act == last.act {
-        return with_target(last, o.target);
+    if o.act != last.act {
+        let next = Branch {
+            act: o.act.copy()?,
+            targets: List::new(all.alloc()),
+        };
+        all.push(mem::replace(last, next))?;
     }
-    let next = Branch {
-        act: o.act.copy()?,
-        targets: List::new(all.alloc()),
-    };
-    all.push(last)?;
-    with_target(next, o.target)
-}
-
-/// The branch with one target more.
-fn with_target(b: Branch, target: u64) -> Result<Branch, AllocError>
-    ensures { IfOk result (λ r. r ≡ with_target b target) }
-{
-    let mut targets = b.targets;
-    targets.push(target)?;
-    Ok(Branch {
-        act: b.act,
-        targets,
-    })
+    last.targets.push(o.target)?;
+    Ok(())
 }
 
 /// The targets that are labels: 0 is the end.

@@ -1,7 +1,7 @@
 //! Sets of labels, each once.
-ghost use Rattle.std.specs.Prelude.{◌≡◌, ℕ, ◌+◌, ◌<◌, ◌^◌, [], List as Items, IfOk, OnOk, OnErr, length, slice_index_or};
+ghost use Rattle.std.specs.Prelude.{◌≡◌, ℕ, ◌+◌, ◌<◌, ◌^◌, true, [], List as Items, IfOk, OnOk, OnErr, length, slice_index_or};
 ghost use Rattle.std.specs.List.Sorted.{IsStrictlyIncreasing};
-ghost use Rattle.nk_determ.specs.Sets.{SetsGrow, IsSetOf, Differ, Ascend, with_set, place_in};
+ghost use Rattle.nk_determ.specs.Sets.{SetsGrow, IsSetOf, Differ, Ascend, holds, with_set, place_in};
 
 use indexmap::IndexSet;
 use nk_field::List;
@@ -120,15 +120,18 @@ impl Sets {
         let _count = self.sets.len();
     }
 
-    /// Where these labels are, or how many sets there are.
-    pub(crate) fn place(&self, labels: &List<u64>) -> SetId
-        ensures is { result ≡ place_in self.now labels.now }
-        ensures small { result < 2 ^ 63 }
+    /// The number of the set with these labels, which is put in where it isn't there. It is their first place, whatever sets
+    /// come later.
+    pub(crate) fn put(&mut self, labels: List<u64>) -> Result<SetId, AllocError>
+        requires { IsStrictlyIncreasing labels }
+        ensures grows { SetsGrow self.old self.new }
+        ensures is { IfOk result (λ i. (later : Items (Items ℕ)) → SetsGrow self.new later → i ≡ place_in later labels) }
+        ensures small { IfOk result (λ i. i + 1 < 2 ^ 64) }
+        ensures there { OnOk result (holds self.new labels ≡ true) }
     {
-        let count = self.sets.len();
-        match self.sets.get_index_of(labels) {
-            Some(place) => SetId { place },
-            None => SetId { place: count },
-        }
+        let s = self.intern(labels)?;
+        self.differ();
+        let _count = self.len();
+        Ok(s)
     }
 }

@@ -1,23 +1,25 @@
 //! The diagram of a set state: of diagrams together, and of the states at a set of labels.
-ghost use Rattle.std.specs.Prelude.{◌≡◌, ◌↔◌, ℕ, ◌+◌, ◌<◌, [], ◌++◌, All, List as Items, IfOk, OnOk, length, flat_map, map, slice_index, slice_index_or};
+ghost use Rattle.std.specs.Prelude.{◌≡◌, ◌↔◌, ℕ, ◌+◌, ◌<◌, ◌≤◌, [], ◌++◌, All, List as Items, IfOk, OnOk, length, flat_map, map, slice_index, slice_index_or};
 ghost use Rattle.std.specs.List.{Contains};
 ghost use Rattle.std.specs.List.Sorted.{IsStrictlyIncreasing};
 ghost use Rattle.nk_store.specs.Leaves.{Strict};
-ghost use Rattle.nk_store.specs.Held.{Held, IsId, IsWhole, IsPacket, look, Grows, HasLeaves};
+ghost use Rattle.nk_store.specs.Nodes.{child_at};
+ghost use Rattle.nk_store.specs.Held.{Held, IsId, IsWhole, IsPacket, look, top, Grows, HasLeaves, AreParts};
+ghost use Rattle.nk_algebra.specs.Subs.{sub, IsSplit};
 ghost use Rattle.nk_algebra.specs.Unions.{AreIds};
 ghost use Rattle.nk_determ.specs.Exact.{split_leaf, AreExact, Sends};
 ghost use Rattle.nk_determ.specs.Sets.{SetsGrow};
 ghost use Rattle.nk_determ.specs.Branches.{branches, labels};
-ghost use Rattle.nk_determ.specs.States.{SomeSends, SomeLeads, AreFollowed, AreLedTo, StateSends, StateLeads, IsFollowed, IsLedTo, HaveEach, IsTogether, IsStateOf, IsThere, HasAll, HasSets, AllHaveSets, final_of, out_to_set, branch_outs, regrouped};
+ghost use Rattle.nk_determ.specs.States.{SomeSends, SomeLeads, IsRegrouped, AreRegrouped, AreFollowed, AreLedTo, StateSends, StateLeads, IsFollowed, IsLedTo, HaveEach, IsTogether, IsStateOf, IsThere, HasAll, HasSets, final_of, out_to_set, branch_outs, regrouped};
 
 use crate::branches::{Branch, branches_of, labels_in};
 use crate::sets::{SetId, Sets};
 use crate::splits::split;
-use nk_algebra::{LeafMap, map_leaves, union_all};
-use nk_field::List;
+use nk_algebra::{known, part_near, tested, union_all};
+use nk_field::{Fid, List};
 use nk_store::{Id, Node, Out, Store};
 use std::alloc::{AllocError, Global};
-use std::collections::HashSet;
+use std::collections::HashMap;
 
 /// The diagram of a set of labels, each of which is a place among the states: a final act with target 0 for each packet that
 /// some member ends at, and for each packet that some member records next one act with target 1 + the number of the set of
@@ -145,101 +147,126 @@ fn split_all(st: &mut Store, diagrams: &[Id]) -> Result<List<Id>, AllocError>
     Ok(ds)
 }
 
-/// The diagram with the outs of each act to the set of all labels of the act. Each node is visited once to put in the
-/// sets, and once more to make the diagram.
+/// The diagram with the outs of each act to the set of all labels of the act. Each node is visited once.
 fn regroup(st: &mut Store, ss: &mut Sets, d: Id) -> Result<Id, AllocError>
     requires { IsId st.old d }
     ensures grows { Grows st.old st.new }
     ensures sets { SetsGrow ss.old ss.new }
-    ensures ok { IfOk result (λ r. HasLeaves st.new r (λ pk. regrouped ss.new (look st.old d pk)) × HasSets ss.new st.old d) }
+    ensures ok { IfOk result (λ r. IsRegrouped st.old d st.new ss.new r) }
 {
-    let mut seen = HashSet::new(st.alloc());
-    intern_all(st, ss, &mut seen, d)?;
-    map_leaves(st, &Regrouping { sets: ss }, d)
+    let mut seen = HashMap::new(st.alloc());
+    regroup_new(st, ss, &mut seen, d)
 }
 
-/// Puts in the set of labels of each act of each leaf of a diagram, unless that was done before.
-#[cycle(intern)]
-fn intern_all(st: &Store, ss: &mut Sets, seen: &mut HashSet<Id>, d: Id) -> Result<(), AllocError>
-    requires id { IsId st.now d }
-    requires seen { AllHaveSets ss.old st.now seen.old.keys }
-    ensures grows { SetsGrow ss.old ss.new }
-    ensures ok { OnOk result (HasSets ss.new st.now d) }
-    ensures seen { OnOk result (AllHaveSets ss.new st.now seen.new.keys) }
+/// The same, which is looked up where it was made before.
+#[cycle(regroup)]
+fn regroup_once(
+    st: &mut Store,
+    ss: &mut Sets,
+    seen: &mut HashMap<Id, Id>,
+    d: Id,
+) -> Result<Id, AllocError>
+    requires id { IsId st.old d }
+    requires seen { AreRegrouped st.old ss.old seen.old.entries }
+    ensures grows { Grows st.old st.new }
+    ensures sets { SetsGrow ss.old ss.new }
+    ensures ok { IfOk result (λ r. IsRegrouped st.old d st.new ss.new r) }
+    ensures later { IfOk result (λ r. top st.old d ≤ top st.new r) }
+    ensures seen { OnOk result (AreRegrouped st.new ss.new seen.new.entries) }
 {
-    if seen.contains(&d) {
-        return Ok(());
+    if let Some(r) = known(seen, d) {
+        return Ok(r);
     }
-    intern_new(st, ss, seen, d)?;
-    seen.insert(d)?;
-    Ok(())
+    let r = regroup_new(st, ss, seen, d)?;
+    seen.insert(d, r)?;
+    Ok(r)
 }
 
-/// Puts in the set of labels of each act of each leaf of a diagram.
-#[cycle(intern)]
-fn intern_new(st: &Store, ss: &mut Sets, seen: &mut HashSet<Id>, d: Id) -> Result<(), AllocError>
-    requires id { IsId st.now d }
-    requires seen { AllHaveSets ss.old st.now seen.old.keys }
-    ensures grows { SetsGrow ss.old ss.new }
-    ensures ok { OnOk result (HasSets ss.new st.now d) }
-    ensures seen { OnOk result (AllHaveSets ss.new st.now seen.new.keys) }
+/// The same, made anew.
+#[cycle(regroup)]
+fn regroup_new(
+    st: &mut Store,
+    ss: &mut Sets,
+    seen: &mut HashMap<Id, Id>,
+    d: Id,
+) -> Result<Id, AllocError>
+    requires id { IsId st.old d }
+    requires seen { AreRegrouped st.old ss.old seen.old.entries }
+    ensures grows { Grows st.old st.new }
+    ensures sets { SetsGrow ss.old ss.new }
+    ensures ok { IfOk result (λ r. IsRegrouped st.old d st.new ss.new r) }
+    ensures later { IfOk result (λ r. top st.old d ≤ top st.new r) }
+    ensures seen { OnOk result (AreRegrouped st.new ss.new seen.new.entries) }
 {
-    match st.view(d) {
-        Node::Leaf(outs) => intern_leaf(st.alloc(), ss, outs.as_slice()),
-        Node::Case(_, parts) => {
-            for part in parts.as_slice() {
-                intern_all(st, ss, seen, part.1)?;
-            }
-            Ok(())
+    match tested(st, d) {
+        None => regroup_leaf(st, ss, d),
+        Some(f) => {
+            let parts = regroup_parts(st, ss, seen, f, d)?;
+            st.case(f, parts)
         }
     }
 }
 
-/// Puts in the set of labels of each act of a leaf.
-fn intern_leaf(alloc: Global, ss: &mut Sets, outs: &[Out]) -> Result<(), AllocError>
+/// The parts of the regrouped diagram by the first field.
+#[cycle(regroup)]
+fn regroup_parts(
+    st: &mut Store,
+    ss: &mut Sets,
+    seen: &mut HashMap<Id, Id>,
+    f: Fid,
+    d: Id,
+) -> Result<List<(u64, Id)>, AllocError>
+    requires id { IsId st.old d }
+    requires field { f < 18 }
+    requires first { top st.old d ≡ f }
+    requires split { IsSplit st.old f d }
+    requires seen { AreRegrouped st.old ss.old seen.old.entries }
+    ensures grows { Grows st.old st.new }
+    ensures sets { SetsGrow ss.old ss.new }
+    ensures parts { IfOk result (λ ps. AreParts st.new f ps) }
+    ensures ok { IfOk result (λ ps. (later : Items (Items ℕ)) → SetsGrow ss.new later → (v : ℕ) (pk : Items ℕ) → IsWhole pk →
+        look st.new (child_at 0 ps v) pk ≡ regrouped later (look st.old (sub st.old f v d) pk)) }
+    ensures held { OnOk result (HasSets ss.new st.old d) }
+    ensures seen { OnOk result (AreRegrouped st.new ss.new seen.new.entries) }
+{
+    let max = st.max(f);
+    let mut parts = List::new(st.alloc());
+    let mut near = 0;
+    let mut from = 0;
+    loop {
+        let (end, child) = part_near(st, d, f, from, &mut near);
+        let to = regroup_once(st, ss, seen, child)?;
+        parts.push((end, to))?;
+        if end == max {
+            return Ok(parts);
+        }
+        from = end + 1;
+    }
+}
+
+/// The regrouped diagram of a leaf.
+fn regroup_leaf(st: &mut Store, ss: &mut Sets, d: Id) -> Result<Id, AllocError>
+    requires id { IsId st.old d }
+    requires leaf { 18 ≤ top st.old d }
+    ensures grows { Grows st.old st.new }
+    ensures sets { SetsGrow ss.old ss.new }
+    ensures ok { IfOk result (λ r. IsRegrouped st.old d st.new ss.new r) }
+    ensures later { IfOk result (λ r. top st.old d ≤ top st.new r) }
+{
+    let outs = match st.view(d) {
+        Node::Leaf(outs) => outs_to_sets(st.alloc(), ss, outs.as_slice())?,
+        Node::Case(_, _) => unreachable!(),
+    };
+    st.leaf(outs)
+}
+
+/// The outs of each branch of a leaf. Sets that aren't there yet are put in.
+fn outs_to_sets(alloc: Global, sets: &mut Sets, outs: &[Out]) -> Result<List<Out>, AllocError>
     requires { Strict outs.now }
-    ensures grows { SetsGrow ss.old ss.new }
-    ensures ok { OnOk result (HasAll ss.new outs.now) }
-{
-    let all = branches_of(alloc, outs)?;
-    for b in all.as_slice() {
-        intern_branch(alloc, ss, b)?;
-    }
-    Ok(())
-}
-
-/// Puts in the set of labels of a branch.
-fn intern_branch(alloc: Global, ss: &mut Sets, b: &Branch) -> Result<(), AllocError>
-    requires { IsStrictlyIncreasing (labels b.now.targets) }
-    ensures grows { SetsGrow ss.old ss.new }
-    ensures ok { OnOk result (IsThere ss.new (labels b.now.targets)) }
-{
-    let labels = labels_in(alloc, b.targets.as_slice())?;
-    if !labels.is_empty() {
-        ss.intern(labels)?;
-    }
-    Ok(())
-}
-
-/// Each act of a leaf to the set of all its labels.
-#[derive(Drop)]
-struct Regrouping<'a> {
-    sets: &'a Sets,
-}
-
-impl<'a> LeafMap for Regrouping<'a> {
-    ghost mapped = { λ s os. regrouped s.sets.now os };
-
-    ghost allowed = { λ _ _. Unit {0} };
-
-    fn map(&self, alloc: Global, outs: &[Out]) -> Result<List<Out>, AllocError> {
-        outs_to_sets(alloc, self.sets, outs)
-    }
-}
-
-/// The outs of each branch of a leaf.
-fn outs_to_sets(alloc: Global, sets: &Sets, outs: &[Out]) -> Result<List<Out>, AllocError>
-    ensures { IfOk result (λ r. r ≡ flat_map (branch_outs sets.now) (branches outs.now)) }
+    ensures grows { SetsGrow sets.old sets.new }
+    ensures is { IfOk result (λ r. (later : Items (Items ℕ)) → SetsGrow sets.new later →
+        r ≡ flat_map (branch_outs later) (branches outs.now)) }
+    ensures held { OnOk result (HasAll sets.new outs.now) }
 {
     let parts = branches_of(alloc, outs)?;
     let mut all = List::new(alloc);
@@ -263,16 +290,21 @@ fn push_final(all: &mut List<Out>, b: &Branch) -> Result<(), AllocError>
     Ok(())
 }
 
-/// Appends the act of a branch to the set of its labels, if there are any.
-fn push_to_set(all: &mut List<Out>, sets: &Sets, b: &Branch) -> Result<(), AllocError>
-    ensures { OnOk result (all.new ≡ all.old ++ out_to_set sets.now b.now.act (labels b.now.targets)) }
+/// Appends the act of a branch to the set of its labels, if there are any. The set is put in where it isn't there.
+fn push_to_set(all: &mut List<Out>, sets: &mut Sets, b: &Branch) -> Result<(), AllocError>
+    requires { IsStrictlyIncreasing (labels b.now.targets) }
+    ensures grows { SetsGrow sets.old sets.new }
+    ensures is { OnOk result ((later : Items (Items ℕ)) → SetsGrow sets.new later →
+        all.new ≡ all.old ++ out_to_set later b.now.act (labels b.now.targets)) }
+    ensures there { OnOk result (IsThere sets.new (labels b.now.targets)) }
 {
     let labels = labels_in(all.alloc(), b.targets.as_slice())?;
-    if !labels.is_empty() {
-        all.push(Out {
-            act: b.act.copy()?,
-            target: sets.place(&labels).target(),
-        })?;
+    if labels.is_empty() {
+        return Ok(());
     }
-    Ok(())
+    let s = sets.put(labels)?;
+    all.push(Out {
+        act: b.act.copy()?,
+        target: s.target(),
+    })
 }

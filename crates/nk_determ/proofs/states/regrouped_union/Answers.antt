@@ -1,5 +1,6 @@
 use Rattle.std.proofs.Common.{◌∙◌}
 use Rattle.std.proofs.lemmas.Result.{IfOk-weaker}
+use Rattle.nk_determ.proofs.Interned.{sets_same}
 use Rattle.nk_determ.proofs.states.regrouped_union.Goals as goal
 
 pub returns-clause-made : goal.returns-clause-made
@@ -9,8 +10,8 @@ returns-clause-made c = IfOk-weaker c.regroup.result _ _ (λ r h. (
   record {
     together = c.in_ok-d.ensures.ok;
     sorted = λ pk. (c.laws.ensures.tidy c.in_ok-d.d).sorted pk;
-    leaves = h.0;
-    held = h.1;
+    leaves = h.leaves c.regroup.new.ss (sets_same c.regroup.new.ss);
+    held = h.held;
     maxes = c.regroup.ensures.grows.maxes ∙ c.together.ensures.grows.maxes;
   },
 )) (c.regroup.ensures.ok)
