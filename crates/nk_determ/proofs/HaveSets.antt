@@ -1,8 +1,7 @@
 -- Diagrams whose leaves have their sets.
-use Rattle.std.proofs.Common.{◌≡◌, ℕ, zero, suc, ◌+◌, ◌<◌, ◌≤◌, Bool, true, false, cond, leb, List, [], ◌∷◌, length, refl, sym, ◌∙◌, ap, subst, arith, get_or, inl, inr}
+use Rattle.std.proofs.Common.{◌≡◌, ℕ, zero, suc, ◌<◌, ◌≤◌, Bool, true, false, cond, leb, List, [], ◌∷◌, length, refl, sym, ◌∙◌, ap, subst, arith, get_or, inl}
 use Rattle.std.specs.List.Sorted.{IsStrictlyIncreasing}
 use Rattle.std.proofs.lemmas.List.{get_or_default}
-use Rattle.std.proofs.lemmas.Bool.Decides.{leb_tells}
 use Rattle.nk_store.specs.declared.node.Out.{Out}
 use Rattle.nk_store.specs.Nodes.{child_at, Each}
 use Rattle.nk_store.specs.Leaves.{Strict}
@@ -10,7 +9,7 @@ use Rattle.nk_store.specs.Held.{Held, IsId, look, IsCase, IsChild}
 use Rattle.nk_algebra.proofs.Members.{Has, has_contains, contains_has}
 use Rattle.nk_determ.specs.declared.branches.Branch.{Branch}
 use Rattle.nk_determ.specs.Branches.{begun, branches, targets_of, labels, labels_of}
-use Rattle.nk_determ.specs.Sets.{SetsGrow, holds}
+use Rattle.nk_determ.specs.Sets.{SetsGrow}
 use Rattle.nk_determ.specs.States.{IsThere, HasAll, HasSets}
 use Rattle.nk_determ.proofs.Interned.{holds_grow}
 use Rattle.nk_determ.proofs.Runs.{branch_for, branches_are, target_has, label_has, labels_ascend}
@@ -19,11 +18,6 @@ use Rattle.nk_determ.proofs.Runs.{branch_for, branches_are, target_has, label_ha
 pub there_grow : (old new : List (List ℕ)) (ls : List ℕ) → SetsGrow old new → IsThere old ls → IsThere new ls
 there_grow old new [] g h = tt
 there_grow old new (l ∷ ls) g h = holds_grow old new (l ∷ ls) g h
-
--- labels that are one of the sets are there
-pub there_now : (sets : List (List ℕ)) (ls : List ℕ) → holds sets ls ≡ true → IsThere sets ls
-there_now sets [] h = tt
-there_now sets (l ∷ ls) h = h
 
 -- a leaf that has its sets has them among more sets
 pub all_grow : (old new : List (List ℕ)) (outs : List Out) → SetsGrow old new → HasAll old outs → HasAll new outs
@@ -79,17 +73,6 @@ part_known st d f ps items i p c e l at =
 -- the labels of a leaf's branch at a place ascend
 pub branch_rises : (outs : List Out) (items : List Branch) (i : ℕ) (b : Branch) → Strict outs → items ≡ branches outs → i < length items → b ≡ get_or items i b → IsStrictlyIncreasing (labels b.targets)
 branch_rises outs items i b s e l at = labels_ascend outs s b (subst (λ bs. Has bs b) e (contains_has items b (i, l, sym at)))
-
--- one branch more
-pub branches_more : (old new : List (List ℕ)) (items : List Branch) (i : ℕ) (b : Branch) → SetsGrow old new → ((k : ℕ) → k < i → IsThere old (labels (get_or items k (begun [])).targets)) →
-    i < length items → b ≡ get_or items i b → IsThere new (labels b.targets) → (k : ℕ) → k < i + 1 → IsThere new (labels (get_or items k (begun [])).targets)
-branches_more old new items i b g done l at h k m = elim (leb_tells i k) [
-  | inr before ↦ there_grow old new (labels (get_or items k (begun [])).targets) g (done k before.1)
-  | inl here ↦
-      let same : i ≡ k = omega (arith, here.1, m) in
-      let is : b ≡ get_or items k (begun []) = at ∙ get_or_default items i b (begun []) l ∙ ap (λ j. get_or items j (begun [])) same in
-      subst (λ (z : Branch). IsThere new (labels z.targets)) is h
-]
 
 -- where all branches are done, the leaf is
 pub branches_done : (sets : List (List ℕ)) (outs : List Out) (items : List Branch) (i : ℕ) → Strict outs → items ≡ branches outs → length items ≤ i →

@@ -2,16 +2,15 @@
 use Rattle.std.proofs.Common.{◌≡◌, ℕ, ◌+◌, ◌<◌, ◌≤◌, cond, eqb, List, [], ◌∷◌, ◌++◌, Option, Some, None, refl, sym, ◌∙◌, ap, subst, arith, get_or, inl, inr}
 use Rattle.std.specs.Map.{lookup}
 use Rattle.std.proofs.lemmas.Bool.Decides.{leb_tells, eqb_tells}
-use Rattle.nk_store.specs.declared.node.Out.{Out}
 use Rattle.nk_store.specs.Nodes.{child_at}
 use Rattle.nk_store.specs.Held.{Held, IsId, look, top, Grows, HasLeaves, IsWhole}
 use Rattle.nk_algebra.specs.Subs.{sub, IsPart, IsSplit}
 use Rattle.nk_algebra.proofs.Built.{Built, part_old}
-use Rattle.nk_algebra.proofs.Turned.{turned, turned_push, turned_past, turned_made}
+use Rattle.nk_algebra.proofs.Turned.{turned, turned_push, turned_made}
 use Rattle.nk_determ.specs.Sets.{SetsGrow}
 use Rattle.nk_determ.specs.States.{HasAll, HasSets, IsRegrouped, AreRegrouped, regrouped}
 use Rattle.nk_determ.proofs.Interned.{sets_on, sets_same}
-use Rattle.nk_determ.proofs.HaveSets.{all_grow, sets_grow}
+use Rattle.nk_determ.proofs.HaveSets.{sets_grow}
 
 -- what is regrouped stays so while the sets and the store grow behind it
 pub regrouped_on : (old st new : Held) (sets more : List (List ℕ)) (d r : ℕ) → Grows st new → SetsGrow sets more → IsRegrouped old d st sets r → IsRegrouped old d new more r

@@ -1,4 +1,4 @@
-use Rattle.std.proofs.Common.{◌+◌, ◌++◌, ◌∷◌, [], ◌∙◌, sym, subst, ap, arith, get_or}
+use Rattle.std.proofs.Common.{◌+◌, ◌∙◌, sym, subst, ap, get_or}
 use Rattle.std.proofs.lemmas.Result.{IfOk-weaker}
 use Rattle.nk_store.proofs.Stores.{grows_on}
 use Rattle.nk_store.specs.Nodes.{child_at}
@@ -8,7 +8,7 @@ use Rattle.nk_algebra.proofs.MadeOf.{on_any}
 use Rattle.nk_algebra.proofs.Turned.{turned, turned_past, set_within}
 use Rattle.nk_determ.specs.States.{regrouped}
 use Rattle.nk_determ.proofs.Interned.{sets_on, sets_same}
-use Rattle.nk_determ.proofs.Regroupings.{AreBuilt, AreHeld, table_grow, table_put, built_more, held_more, held_whole, node_regrouped}
+use Rattle.nk_determ.proofs.Regroupings.{AreBuilt, table_grow, table_put, built_more, held_more, held_whole, node_regrouped}
 use Rattle.nk_determ.proofs.states.+regroup.Goals as goal
 
 pub regroup_once-returns-in-Some-clause-ok : goal.regroup_once-returns-in-Some-clause-ok
@@ -29,13 +29,13 @@ pub regroup_new-returns-in-None-clause-seen : goal.regroup_new-returns-in-None-c
 regroup_new-returns-in-None-clause-seen t c =
     on_any c.regroup_leaf.result _ (table_grow c.args.st.now c.regroup_leaf.new.st c.args.ss.now c.regroup_leaf.new.ss c.args.seen.now.entries c.regroup_leaf.ensures.grows c.regroup_leaf.ensures.sets c.requires.seen)
 
-pub regroup_new-returns-in-Some-clause-ok : goal.regroup_new-returns-in-Some-clause-ok
-regroup_new-returns-in-Some-clause-ok t c =
+pub regroup_new-returns-in_ok-parts-in-Some-clause-ok : goal.regroup_new-returns-in_ok-parts-in-Some-clause-ok
+regroup_new-returns-in_ok-parts-in-Some-clause-ok t c =
     IfOk-weaker c.case.result _ _
     (λ r h. node_regrouped c.args.st.now c.regroup_parts.new.st c.case.new.self c.regroup_parts.new.ss c.in-Some.f c.args.d r c.in_ok-parts-in-Some.parts c.in-Some.ensures.2 c.in_ok-parts-in-Some.ensures.ok c.in_ok-parts-in-Some.ensures.held h) c.case.ensures.ok
 
-pub regroup_new-returns-in-Some-clause-seen : goal.regroup_new-returns-in-Some-clause-seen
-regroup_new-returns-in-Some-clause-seen t c =
+pub regroup_new-returns-in_ok-parts-in-Some-clause-seen : goal.regroup_new-returns-in_ok-parts-in-Some-clause-seen
+regroup_new-returns-in_ok-parts-in-Some-clause-seen t c =
     on_any c.case.result _ (table_grow c.regroup_parts.new.st c.case.new.self c.regroup_parts.new.ss c.regroup_parts.new.ss c.regroup_parts.new.seen.entries c.case.ensures.grows (sets_same c.regroup_parts.new.ss) c.in_ok-parts-in-Some.ensures.seen)
 
 pub regroup_parts-returns-then-end-max-clause-parts : goal.regroup_parts-returns-then-end-max-clause-parts

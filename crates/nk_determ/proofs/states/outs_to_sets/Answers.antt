@@ -1,5 +1,4 @@
 use Rattle.std.proofs.Common.{◌∙◌, arith}
-use Rattle.nk_determ.proofs.Interned.{sets_on}
 use Rattle.nk_determ.proofs.HaveSets.{branch_rises, branches_done}
 use Rattle.nk_determ.proofs.states.outs_to_sets.Goals as goal
 
