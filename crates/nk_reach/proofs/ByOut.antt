@@ -90,7 +90,7 @@ leaf_by_out st d outs all es id leaf h past p is = subst (IsByOut st d) (sym is)
 })
 
 -- those of one part more
-up_to_push : (a st new : Held) (d f from : ℕ) (p : ℕ × ℕ) (es : List Given) (all : List Stretch) → IsId a d → IsSplit a f d → Grows a st → IsPart st f d from p → Grows st new →
+pub up_to_push : (a st new : Held) (d f from : ℕ) (p : ℕ × ℕ) (es : List Given) (all : List Stretch) → IsId a d → IsSplit a f d → Grows a st → IsPart st f d from p → Grows st new →
     IsByOut new p.1 es → IsUpTo a d f from st all → IsUpTo a d f (p.0 + 1) new (all ++ map (stretch from p.0) es)
 up_to_push a st new d f from p es all id split ga part g by_one m =
     let more : List Stretch = map (stretch from p.0) es in
@@ -115,14 +115,14 @@ up_to_push a st new d f from p es all id split ga part g by_one m =
       ];
     }
 
--- those of one part more, whose entries the table has
-pub up_to_found : (a st new : Held) (d f from : ℕ) (p : ℕ × ℕ) (kept : List (ℕ × List Given)) (all : List Stretch) → IsId a d → IsSplit a f d → Grows a st → IsPart st f d from p → Grows st new →
-    AreByOut new kept → IsSome (lookup (eqb p.1) kept) → IsUpTo a d f from st all → IsUpTo a d f (p.0 + 1) new (all ++ stretches from p.0 (lookup (eqb p.1) kept))
-up_to_found a st new d f from p kept all id split ga part g are some m = by (lookup (eqb p.1) kept) refl some
+-- what the table has for a diagram are its entries
+pub found_put : (st : Held) (d from end : ℕ) (kept : List (ℕ × List Given)) (old new : List Stretch) → AreByOut st kept → IsSome (lookup (eqb d) kept) →
+    new ≡ old ++ stretches from end (lookup (eqb d) kept) → (es : List Given) × IsByOut st d es × (new ≡ old ++ map (stretch from end) es)
+found_put st d from end kept old new are some is = by (lookup (eqb d) kept) refl some is
   where
-    by : (r : Option (List Given)) → lookup (eqb p.1) kept ≡ r → IsSome r → IsUpTo a d f (p.0 + 1) new (all ++ stretches from p.0 r)
-    by None e s = absurd cc
-    by (Some es) e s = up_to_push a st new d f from p es all id split ga part g (are p.1 es e) m
+    by : (r : Option (List Given)) → lookup (eqb d) kept ≡ r → IsSome r → new ≡ old ++ stretches from end r → (es : List Given) × IsByOut st d es × (new ≡ old ++ map (stretch from end) es)
+    by None e s is = absurd cc
+    by (Some es) e s is = (es, are d es e, is)
 
 -- those of all parts are those of the diagram
 pub up_to_all : (a new : Held) (d f bound : ℕ) (ss : List Stretch) → IsId a d → top a d ≡ f → Grows a new → get_or a.maxes f 0 < bound → IsUpTo a d f bound new ss → AreOfDiagram new f d ss

@@ -3,7 +3,7 @@ use Rattle.nk_store.proofs.Stores.{grows_on}
 use Rattle.nk_algebra.proofs.MadeOf.{on_any}
 use Rattle.nk_algebra.proofs.Turned.{set_within}
 use Rattle.nk_reach.specs.Outs.{IsUpTo}
-use Rattle.nk_reach.proofs.ByOut.{kept_on, kept_put, up_to_found, up_to_all}
+use Rattle.nk_reach.proofs.ByOut.{kept_on, kept_put, up_to_push, up_to_all}
 use Rattle.nk_reach.proofs.outs.+outs.Goals as goal
 
 pub visit-returns-clause-seen : goal.visit-returns-clause-seen
@@ -16,21 +16,28 @@ outs_new-returns-in-None-clause-seen t c = on_any c.outs_of_leaf.result _ (kept_
 pub outs_of_case-returns-clause-seen : goal.outs_of_case-returns-clause-seen
 outs_of_case-returns-clause-seen t c = on_any c.grouped.result _ (kept_on c.outs_of_parts.new.st c.grouped.new.st c.outs_of_parts.new.seen.entries c.grouped.ensures.grows c.in_ok-all.ensures.seen)
 
+pub put_outs-returns-in-None-clause-seen : goal.put_outs-returns-in-None-clause-seen
+put_outs-returns-in-None-clause-seen t c =
+    on_any c.put_leaf.result _ (kept_on c.args.st.now c.put_leaf.new.st c.args.seen.now.entries c.put_leaf.ensures.grows c.requires.seen)
+
 pub outs_of_parts-returns-then-end-max-clause-ok : goal.outs_of_parts-returns-then-end-max-clause-ok
 outs_of_parts-returns-then-end-max-clause-ok t c =
-    let g = grows_on _ _ _ c.loop-all.invariant.grows c.visit.ensures.grows in
+    let g = grows_on _ _ _ c.loop-all.invariant.grows c.put_outs.ensures.grows in
     let e : get_or c.args.st.now.maxes c.args.f 0 ≡ c.part_near-end.result.0 = sym (c.if-end-max.true ∙ c.max-max.ensures) in
-    up_to_all c.args.st.now c.visit.new.st c.args.d c.args.f (c.part_near-end.result.0 + 1) c.put_known.new.all c.requires.id c.requires.first g (omega (arith, e))
-    (subst (IsUpTo c.args.st.now c.args.d c.args.f (c.part_near-end.result.0 + 1) c.visit.new.st) (sym c.in_ok-put_known.ensures)
-    (up_to_found c.args.st.now c.loop-all.st c.visit.new.st c.args.d c.args.f c.loop-all.from c.part_near-end.result c.visit.new.seen.entries c.loop-all.all c.requires.id c.requires.split c.loop-all.invariant.grows
-    c.part_near-end.ensures c.visit.ensures.grows c.in_ok-visit.ensures.seen c.in_ok-visit.ensures.found c.loop-all.invariant.made))
+    let put = c.in_ok-put_outs.ensures.ok in
+    up_to_all c.args.st.now c.put_outs.new.st c.args.d c.args.f (c.part_near-end.result.0 + 1) c.put_outs.new.all c.requires.id c.requires.first g (omega (arith, e))
+    (subst (IsUpTo c.args.st.now c.args.d c.args.f (c.part_near-end.result.0 + 1) c.put_outs.new.st) (sym put.2)
+    (up_to_push c.args.st.now c.loop-all.st c.put_outs.new.st c.args.d c.args.f c.loop-all.from c.part_near-end.result put.0 c.loop-all.all c.requires.id c.requires.split c.loop-all.invariant.grows
+    c.part_near-end.ensures c.put_outs.ensures.grows put.1 c.loop-all.invariant.made))
 
 pub outs_of_parts-loop-all-preserved : goal.outs_of_parts-loop-all-preserved
-outs_of_parts-loop-all-preserved t c = record {
-  grows = grows_on _ _ _ c.loop-all.invariant.grows c.visit.ensures.grows;
-  seen = c.in_ok-visit.ensures.seen;
-  within = set_within c.args.st.now c.loop-all.st c.args.f c.args.d c.loop-all.from c.max-max.result c.part_near-end.result c.part_near-end.ensures c.loop-all.invariant.grows c.max-max.ensures c.if-end-max.false;
-  made = subst (IsUpTo c.args.st.now c.args.d c.args.f (c.part_near-end.result.0 + 1) c.visit.new.st) (sym c.in_ok-put_known.ensures)
-      (up_to_found c.args.st.now c.loop-all.st c.visit.new.st c.args.d c.args.f c.loop-all.from c.part_near-end.result c.visit.new.seen.entries c.loop-all.all c.requires.id c.requires.split c.loop-all.invariant.grows
-      c.part_near-end.ensures c.visit.ensures.grows c.in_ok-visit.ensures.seen c.in_ok-visit.ensures.found c.loop-all.invariant.made);
-}
+outs_of_parts-loop-all-preserved t c =
+    let put = c.in_ok-put_outs.ensures.ok in
+    record {
+      grows = grows_on _ _ _ c.loop-all.invariant.grows c.put_outs.ensures.grows;
+      seen = c.in_ok-put_outs.ensures.seen;
+      within = set_within c.args.st.now c.loop-all.st c.args.f c.args.d c.loop-all.from c.max-max.result c.part_near-end.result c.part_near-end.ensures c.loop-all.invariant.grows c.max-max.ensures c.if-end-max.false;
+      made = subst (IsUpTo c.args.st.now c.args.d c.args.f (c.part_near-end.result.0 + 1) c.put_outs.new.st) (sym put.2)
+          (up_to_push c.args.st.now c.loop-all.st c.put_outs.new.st c.args.d c.args.f c.loop-all.from c.part_near-end.result put.0 c.loop-all.all c.requires.id c.requires.split c.loop-all.invariant.grows
+          c.part_near-end.ensures c.put_outs.ensures.grows put.1 c.loop-all.invariant.made);
+    }

@@ -4,16 +4,19 @@ use Rattle.nk_reach.specs.Outs.{AreByOut, IsUpTo}
 use Rattle.nk_reach.proofs.outs.+outs.Given as goal
 
 abbrev pub decreases-visit : goal.decreases-visit
-decreases-visit l = 4 * l.d + 3
+decreases-visit l = 5 * l.d + 3
 
 abbrev pub decreases-outs_new : goal.decreases-outs_new
-decreases-outs_new l = 4 * l.d + 2
+decreases-outs_new l = 5 * l.d + 2
 
 abbrev pub decreases-outs_of_case : goal.decreases-outs_of_case
-decreases-outs_of_case l = 4 * l.d + 1
+decreases-outs_of_case l = 5 * l.d + 1
 
 abbrev pub decreases-outs_of_parts : goal.decreases-outs_of_parts
-decreases-outs_of_parts l = 4 * l.d
+decreases-outs_of_parts l = 5 * l.d
+
+abbrev pub decreases-put_outs : goal.decreases-put_outs
+decreases-put_outs l = 5 * l.d + 4
 
 abbrev pub invariant-outs_of_parts-loop-all : goal.invariant-outs_of_parts-loop-all
 invariant-outs_of_parts-loop-all l = record {
