@@ -1,0 +1,71 @@
+-- How a run ends.
+use Rattle.std.specs.Prelude.{◌≡◌, ◌⊎◌, ℕ, List, [], Option, MatchBool, Result}
+use Rattle.std.specs.Io.KnownBytes.{Appends, IsAtEnd}
+use Rattle.nk_io.specs.Faults.{AppendsProperPrefix, Rose}
+use Rattle.nk_io.specs.Piece.{longest}
+use Rattle.nk_io.specs.Reading.{GaveMore, IsAllOf}
+use Rattle.nk_picture.specs.declared.status.Status.{Status}
+use Rattle.nk_picture.specs.declared.status.Status.TheVariants.{Done, Text, Packet, ReadFault, WriteFault, NoMemory, TooLong}
+use Rattle.nk_picture.specs.declared.way.Place.{Place}
+use Rattle.nk_picture.specs.Answer.{Answer, answer_to, goes_out}
+use Rattle.nk_picture.specs.Way.{way_of}
+
+-- the bytes that a source has left or a sink took, where they are told, and the count of its faults
+pub record State : Type 0 where
+  pub bytes : Option (List ℕ)
+  pub faults : ℕ
+
+abbrev pub state_of : {X : Type 0} → (X → Option (List ℕ)) → (X → ℕ) → X → State
+state_of bytes faults x = record { bytes = bytes x; faults = faults x }
+
+-- all that the source had left was read, and with it this answer is fixed
+pub record IsFixed (way : Result (List Place) ℕ) (old new : State) (a : Answer) : Type 0 where
+  pub bytes : List ℕ
+  pub left : IsAllOf old.bytes bytes
+  pub end : IsAtEnd new.bytes
+  pub quiet : new.faults ≡ old.faults
+  pub answer : a ≡ answer_to way bytes
+
+-- nothing was read, and whatever the source has left, this answer is fixed
+pub record IsUnread (way : Result (List Place) ℕ) (old new : State) (a : Answer) : Type 0 where
+  pub same : new ≡ old
+  pub answer : (bytes : List ℕ) → a ≡ answer_to way bytes
+
+-- why an answer is meant by a run with this way, or the number of a word that is none
+abbrev pub IsMeantWith : Status → Result (List Place) ℕ → State → State → Answer → Type 0
+IsMeantWith Done way old new a = IsFixed way old new a
+IsMeantWith Text way old new a = IsFixed way old new a
+IsMeantWith Packet way old new a = IsUnread way old new a
+IsMeantWith ReadFault way old new a = Rose old.faults new.faults
+IsMeantWith NoMemory way old new a = new.faults ≡ old.faults
+IsMeantWith TooLong way old new a = (new.faults ≡ old.faults) × GaveMore longest old.bytes new.bytes
+IsMeantWith WriteFault way old new a = ⊥
+
+abbrev pub IsMeant : Result (List Place) ℕ → State → State → Answer → Type 0
+IsMeant way old new a = IsMeantWith a.status way old new a
+
+-- a sink took exactly these bytes, and no call of it failed
+abbrev pub Took : State → State → List ℕ → Type 0
+Took old new text = Appends old.bytes new.bytes text × (new.faults ≡ old.faults)
+
+-- a sink failed: it took a front of these bytes that isn't the whole of them
+abbrev pub FailedAt : State → State → List ℕ → Type 0
+FailedAt old new text = Rose old.faults new.faults × AppendsProperPrefix old.bytes new.bytes text
+
+-- all of the bytes went out, or the sink failed at them
+abbrev pub IsDelivered : State → State → List ℕ → Status → Status → Type 0
+IsDelivered old new text s result =
+    ((result ≡ s) × Took old new text) ⊎ ((result ≡ WriteFault) × FailedAt old new text)
+
+-- the answer went to its sink, or that failed at it, and the other sink is as it was
+abbrev pub Delivers : Answer → (out_old out_new err_old err_new : State) → Status → Type 0
+Delivers a out_old out_new err_old err_new s =
+    MatchBool (goes_out a.status)
+    (IsDelivered out_old out_new a.text a.status s × (err_new ≡ err_old))
+    (IsDelivered err_old err_new a.text a.status s × (out_new ≡ out_old))
+
+-- an answer was meant for its cause, and then it was sent or its sink failed at it
+pub record Ends (words : List (List ℕ)) (old new out_old out_new err_old err_new : State) (s : Status) : Type 0 where
+  pub answer : Answer
+  pub meant : IsMeant (way_of words) old new answer
+  pub delivered : Delivers answer out_old out_new err_old err_new s

@@ -1,0 +1,6 @@
+pub mod Way
+pub mod Drawing
+pub mod Status
+pub mod Network
+pub mod Answer
+pub mod Ends

@@ -1,0 +1,13 @@
+//! Pictures of networks: the Graphviz text of a program's switches, ports and links, with a way through them that is
+//! numbered packet by packet.
+#![tactic(auto)]
+
+mod drawing;
+mod network;
+mod reply;
+mod status;
+mod top;
+mod way;
+
+pub use status::Status;
+pub use top::draw;
