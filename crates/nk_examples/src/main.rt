@@ -1,13 +1,14 @@
-//! Runs each example in the folder `data`, and says whether the answers are the texts beside it.
+//! Runs each example in the folder `data`, draws some of them, and says whether the answers are the texts beside it.
 #![tactic(auto)]
 
 use nk::{Status, run};
 use nk_io::{MemSink, PlainSource};
+use nk_picture::draw;
 use std::alloc::{AllocError, Global};
 use std::{fs, io};
 
 /// The words of a command, the file that is its input, and the file with the answer.
-const RUNS: [(&[&str], &str, &str); 23] = [
+const RUNS: [(&[&str], &str, &str); 38] = [
     (
         &["compile", "allow"],
         "access-list.nk",
@@ -99,6 +100,98 @@ const RUNS: [(&[&str], &str, &str); 23] = [
         "waypoint.nk",
         "waypoint.apart",
     ),
+    (&["compile", "mirror"], "mirror.nk", "mirror.tables"),
+    (
+        &[
+            "trace",
+            "0",
+            "sw=1,pt=1,source=167772170,destination=3405803783",
+        ],
+        "mirror.tables",
+        "mirror.trace",
+    ),
+    (&["compile", "balance"], "balancer.nk", "balancer.tables"),
+    (
+        &[
+            "trace",
+            "1",
+            "sw=1,pt=1,source=3405803783,destination=167772260",
+        ],
+        "balancer.tables",
+        "balancer.trace",
+    ),
+    (&["compile", "office"], "guests.nk", "guests.tables"),
+    (&["compile", "stray"], "guests.nk", "guests.refused"),
+    (
+        &["apart", "office", "guests", "files"],
+        "guests.nk",
+        "guests.apart",
+    ),
+    (
+        &["apart", "open", "guests", "files"],
+        "guests.nk",
+        "guests.broken",
+    ),
+    (
+        &["check_apart", "office", "guests", "files"],
+        "guests.certified",
+        "guests.check",
+    ),
+    (&["compile", "lost"], "fabric.nk", "fabric.refused"),
+    (
+        &["waypoint", "route", "host", "spine11", "target"],
+        "fabric.nk",
+        "fabric.broken",
+    ),
+    (&["compile", "admit"], "pair.nk", "pair.tables"),
+    (
+        &["trace", "1", "sw=1,pt=1,destination=167772162,service=25"],
+        "pair.tables",
+        "pair.trace",
+    ),
+    (&["gen", "2", "1"], "quarantine.nk", "generated.nk"),
+    (&["job", "2", "1"], "quarantine.nk", "generated.counts"),
+];
+
+/// The words of `nk_draw`, the file that is its input, and the file with the answer.
+const PICTURES: [(&[&str], &str, &str); 6] = [
+    (&[], "two-switches.nk", "two-switches.dot"),
+    (
+        &[
+            "sw=1,pt=1",
+            "sw=1,pt=2,destination=167772162,service=25",
+            "sw=2,pt=2,destination=167772162,service=25",
+            "sw=2,pt=3,destination=167772162,service=25",
+        ],
+        "pair.nk",
+        "pair.dot",
+    ),
+    (
+        &[
+            "sw=1,pt=9",
+            "sw=1,pt=2",
+            "sw=2,pt=1",
+            "sw=2,pt=2",
+            "sw=1,pt=3",
+            "sw=1,pt=9",
+        ],
+        "ring.nk",
+        "ring.dot",
+    ),
+    (
+        &[
+            "start",
+            "sw=1,pt=1,destination=2,service=0,vlan=0",
+            "history",
+            "sw=1,pt=2,destination=2,service=0,vlan=0",
+            "sw=2,pt=1,destination=2,service=0,vlan=0",
+            "sw=2,pt=3,destination=2,service=0,vlan=0",
+        ],
+        "change.nk",
+        "change.dot",
+    ),
+    (&["sw=1,pt=2", "sw=1,port=3"], "pair.nk", "pair.word"),
+    (&[], "pair.tables", "pair.fault"),
 ];
 
 fn main(rt: HostRuntime) -> io::Result<()> {
@@ -107,6 +200,12 @@ fn main(rt: HostRuntime) -> io::Result<()> {
         let text = fs::read(&rt, input)?;
         let wanted = fs::read(&rt, answer)?;
         let said = said_of(answers(alloc, command, text, &wanted)?);
+        println!(rt; "{answer}: {said}")?;
+    }
+    for (words, input, answer) in PICTURES {
+        let text = fs::read(&rt, input)?;
+        let wanted = fs::read(&rt, answer)?;
+        let said = said_of(draws(alloc, words, text, &wanted)?);
         println!(rt; "{answer}: {said}")?;
     }
     Ok(())
@@ -124,10 +223,7 @@ fn answers(
     input: Vec<u8>,
     wanted: &[u8],
 ) -> Result<bool, AllocError> {
-    let mut words = Vec::new(alloc);
-    for word in command {
-        words.push(String::from_str(alloc, word)?)?;
-    }
+    let words = owned(alloc, command)?;
     let mut source = PlainSource::new(input);
     let mut out = sink(alloc)?;
     let mut err = sink(alloc)?;
@@ -137,6 +233,29 @@ fn answers(
         _ => (err.taken(), out.taken()),
     };
     Ok(answer == wanted && other.is_empty())
+}
+
+/// Whether `nk_draw` gives this answer to words, on one sink, or a message on the other.
+fn draws(alloc: Global, words: &[&str], input: Vec<u8>, wanted: &[u8]) -> Result<bool, AllocError> {
+    let words = owned(alloc, words)?;
+    let mut source = PlainSource::new(input);
+    let mut out = sink(alloc)?;
+    let mut err = sink(alloc)?;
+    let status = draw(alloc, &words, &mut source, &mut out, &mut err);
+    let (answer, other) = match status {
+        nk_picture::Status::Done => (out.taken(), err.taken()),
+        _ => (err.taken(), out.taken()),
+    };
+    Ok(answer == wanted && other.is_empty())
+}
+
+/// The words, each in a text of its own.
+fn owned(alloc: Global, given: &[&str]) -> Result<Vec<String>, AllocError> {
+    let mut words = Vec::new(alloc);
+    for word in given {
+        words.push(String::from_str(alloc, word)?)?;
+    }
+    Ok(words)
 }
 
 /// A sink with room for an answer.
