@@ -1,5 +1,4 @@
 //! What a run means to say, and how it is sent.
-ghost use Rattle.std.specs.Prelude.{◌≡◌};
 ghost use Rattle.nk_picture.specs.Answer.{answer_in};
 ghost use Rattle.nk_picture.specs.Ends.{Delivers, IsDelivered, state_of};
 

@@ -1,7 +1,7 @@
 use Rattle.std.proofs.Common.{◌≡◌, ◌++◌, drop}
 use Rattle.std.specs.List.{flat_map}
-use Rattle.nk_topo.specs.Topology.{numbers_of, ports_of}
-use Rattle.nk_picture.specs.Drawing.{port_line, switch_lines}
+use Rattle.nk_topo.specs.Topology.{ports_of}
+use Rattle.nk_picture.specs.Drawing.{port_line}
 use Rattle.nk_picture.proofs.drawing.push_ports.Given as goal
 
 -- what is made so far, then the rest, is the whole
