@@ -1,7 +1,7 @@
 //! The program: the words, the standard streams, and the drawing.
 #![tactic(auto)]
 
-use nk_io::{StdSink, StdSource, write_all};
+use nk_io::{Sink, StdSink, StdSource, write_all};
 use nk_picture::{Status, draw};
 use std::io;
 use std::io::ErrorKind;
@@ -13,11 +13,10 @@ fn main(rt: HostRuntime) -> ExitCode {
     let mut err = StdSink::new(rt.stderr());
     let status = match given_words(&rt) {
         Ok(words) => draw(rt.alloc(), &words, &mut source, &mut out, &mut err),
-        Err(error) if error.kind() == ErrorKind::OutOfMemory => Status::NoMemory,
-        Err(_) => match write_all(&mut err, b"a word is not UTF-8\n") {
-            Ok(()) => Status::Packet,
-            Err(_) => Status::WriteFault,
-        },
+        Err(error) if error.kind() == ErrorKind::OutOfMemory => {
+            told(&mut err, b"no memory\n", Status::NoMemory)
+        }
+        Err(_) => told(&mut err, b"a word is not UTF-8\n", Status::Packet),
     };
     ExitCode::from(status.code())
 }
@@ -25,4 +24,12 @@ fn main(rt: HostRuntime) -> ExitCode {
 /// The words after the program's name.
 fn given_words(rt: &HostRuntime) -> io::Result<Vec<String>> {
     Ok(std::env::args(rt)?.skip(1).collect(rt.alloc())?)
+}
+
+/// Writes a line, and answers the status where all of it went out.
+fn told<K: Sink>(sink: &mut K, line: &[u8], status: Status) -> Status {
+    match write_all(sink, line) {
+        Ok(()) => status,
+        Err(_) => Status::WriteFault,
+    }
 }
