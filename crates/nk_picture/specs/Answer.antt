@@ -37,11 +37,20 @@ abbrev pub answer_to : Result (List Place) ℕ → List ℕ → Answer
 answer_to (Ok way) bytes = to_network way (network_of bytes)
 answer_to (Err n) bytes = answer Packet (word_line n)
 
+abbrev pub read_fault : Answer
+read_fault = answer ReadFault (codes "read fault\n")
+
+abbrev pub no_memory : Answer
+no_memory = answer NoMemory (codes "no memory\n")
+
+abbrev pub too_long : Answer
+too_long = answer TooLong (codes "too long\n")
+
 -- the answer in a reply
 abbrev pub answer_in : Reply → Answer
 answer_in (reply.Drawing text) = answer Done text.items
 answer_in (reply.Text text) = answer Text text.items
 answer_in (reply.Packet text) = answer Packet text.items
-answer_in reply.ReadFault = answer ReadFault (codes "read fault\n")
-answer_in reply.NoMemory = answer NoMemory (codes "no memory\n")
-answer_in reply.TooLong = answer TooLong (codes "too long\n")
+answer_in reply.ReadFault = read_fault
+answer_in reply.NoMemory = no_memory
+answer_in reply.TooLong = too_long

@@ -1,13 +1,13 @@
 -- How a run ends.
-use Rattle.std.specs.Prelude.{◌≡◌, ◌⊎◌, ℕ, List, Option, MatchBool, Result}
+use Rattle.std.specs.Prelude.{◌≡◌, ◌⊎◌, ◌≤◌, ℕ, Bool, true, false, List, length, Option, MatchBool, Result, Ok, Err}
 use Rattle.std.specs.Io.KnownBytes.{Appends, IsAtEnd}
 use Rattle.nk_io.specs.Faults.{AppendsProperPrefix, Rose}
 use Rattle.nk_io.specs.Piece.{longest}
-use Rattle.nk_io.specs.Reading.{GaveMore, IsAllOf}
+use Rattle.nk_io.specs.Reading.{GaveMore, GaveWithin, IsAllOf}
 use Rattle.nk_picture.specs.declared.status.Status.{Status}
 use Rattle.nk_picture.specs.declared.status.Status.TheVariants.{Done, Text, Packet, ReadFault, WriteFault, NoMemory, TooLong}
 use Rattle.nk_picture.specs.declared.way.Place.{Place}
-use Rattle.nk_picture.specs.Answer.{Answer, answer_to, goes_out}
+use Rattle.nk_picture.specs.Answer.{Answer, answer_to, goes_out, no_memory, read_fault, too_long}
 use Rattle.nk_picture.specs.Way.{way_of}
 
 -- the bytes that a source has left or a sink took, where they are told, and the count of its faults
@@ -18,10 +18,16 @@ pub record State : Type 0 where
 abbrev pub state_of : {X : Type 0} → (X → Option (List ℕ)) → (X → ℕ) → X → State
 state_of bytes faults x = record { bytes = bytes x; faults = faults x }
 
--- all that the source had left was read, and with it this answer is fixed
+-- whether the text is asked for: it is for a way, and isn't where a word is none
+abbrev pub asks_for_text : Result (List Place) ℕ → Bool
+asks_for_text (Ok way) = true
+asks_for_text (Err n) = false
+
+-- all that the source had left, within the limit, was read, and with it this answer is fixed
 pub record IsFixed (way : Result (List Place) ℕ) (old new : State) (a : Answer) : Type 0 where
   pub bytes : List ℕ
   pub left : IsAllOf old.bytes bytes
+  pub fits : length bytes ≤ longest
   pub end : IsAtEnd new.bytes
   pub quiet : new.faults ≡ old.faults
   pub answer : a ≡ answer_to way bytes
@@ -31,14 +37,34 @@ pub record IsUnread (way : Result (List Place) ℕ) (old new : State) (a : Answe
   pub same : new ≡ old
   pub answer : (bytes : List ℕ) → a ≡ answer_to way bytes
 
--- why an answer is meant by a run with this way, or the number of a word that is none
+-- a call of the source failed while the text was read
+pub record IsReadFault (way : Result (List Place) ℕ) (old new : State) (a : Answer) : Type 0 where
+  pub answer : a ≡ read_fault
+  pub rose : Rose old.faults new.faults
+  pub asks : asks_for_text way ≡ true
+  pub given : GaveWithin longest old.bytes new.bytes
+
+-- memory ran out, and no call of the source failed
+pub record IsNoMemory (old new : State) (a : Answer) : Type 0 where
+  pub answer : a ≡ no_memory
+  pub quiet : new.faults ≡ old.faults
+  pub given : GaveWithin longest old.bytes new.bytes
+
+-- the source gave more than the limit while the text was read
+pub record IsTooLong (way : Result (List Place) ℕ) (old new : State) (a : Answer) : Type 0 where
+  pub answer : a ≡ too_long
+  pub quiet : new.faults ≡ old.faults
+  pub asks : asks_for_text way ≡ true
+  pub given : GaveMore longest old.bytes new.bytes
+
+-- why an answer with this status is meant by a run with this way, or the number of a word that is none
 abbrev pub IsMeantWith : Status → Result (List Place) ℕ → State → State → Answer → Type 0
 IsMeantWith Done way old new a = IsFixed way old new a
 IsMeantWith Text way old new a = IsFixed way old new a
 IsMeantWith Packet way old new a = IsUnread way old new a
-IsMeantWith ReadFault way old new a = Rose old.faults new.faults
-IsMeantWith NoMemory way old new a = new.faults ≡ old.faults
-IsMeantWith TooLong way old new a = (new.faults ≡ old.faults) × GaveMore longest old.bytes new.bytes
+IsMeantWith ReadFault way old new a = IsReadFault way old new a
+IsMeantWith NoMemory way old new a = IsNoMemory old new a
+IsMeantWith TooLong way old new a = IsTooLong way old new a
 IsMeantWith WriteFault way old new a = ⊥
 
 abbrev pub IsMeant : Result (List Place) ℕ → State → State → Answer → Type 0
@@ -69,3 +95,9 @@ pub record Ends (words : List (List ℕ)) (old new out_old out_new err_old err_n
   pub answer : Answer
   pub meant : IsMeant (way_of words) old new answer
   pub delivered : Delivers answer out_old out_new err_old err_new s
+
+-- of two facts about `out` and `err`, the one of the sink that a run with this status leaves alone
+abbrev pub LeavesAlone : Status → Type 0 → Type 0 → Type 0
+LeavesAlone Done out err = err
+LeavesAlone WriteFault out err = out ⊎ err
+LeavesAlone s out err = out

@@ -1,6 +1,7 @@
 //! What a run means to say, and how it is sent.
+ghost use Rattle.std.specs.Prelude.{◌≡◌};
 ghost use Rattle.nk_picture.specs.Answer.{answer_in};
-ghost use Rattle.nk_picture.specs.Ends.{Delivers, IsDelivered, state_of};
+ghost use Rattle.nk_picture.specs.Ends.{Delivers, IsDelivered, LeavesAlone, state_of};
 
 use crate::Status;
 use nk_io::{Sink, write_all};
@@ -24,9 +25,10 @@ pub enum Reply {
 
 /// Sends the answer to its sink, and leaves the other as it is. It takes no memory.
 pub(crate) fn deliver<O: Sink, E: Sink>(reply: &Reply, out: &mut O, err: &mut E) -> Status
-    ensures { Delivers (answer_in reply.now)
+    ensures delivered { Delivers (answer_in reply.now)
         (state_of O.taken O.faults out.old) (state_of O.taken O.faults out.new)
         (state_of E.taken E.faults err.old) (state_of E.taken E.faults err.new) result }
+    ensures alone { LeavesAlone result (out.new ≡ out.old) (err.new ≡ err.old) }
 {
     match reply {
         Reply::Drawing(text) => send(out, text, Status::Done),

@@ -1,7 +1,7 @@
 //! The top call.
-ghost use Rattle.std.specs.Prelude.{◌≡◌, Ok, IfOk, map, string_bytes};
+ghost use Rattle.std.specs.Prelude.{◌≡◌, false, Ok, IfOk, map, string_bytes};
 ghost use Rattle.nk_picture.specs.Answer.{answer_in, to_network};
-ghost use Rattle.nk_picture.specs.Ends.{Ends, IsMeant, state_of};
+ghost use Rattle.nk_picture.specs.Ends.{Ends, IsMeant, LeavesAlone, asks_for_text, state_of};
 ghost use Rattle.nk_picture.specs.Network.{network_of};
 ghost use Rattle.nk_picture.specs.Way as specs;
 
@@ -15,8 +15,8 @@ use std::alloc::{AllocError, Global};
 
 /// Draws the network of the text that the source has, with the way that the words give: each word is a packet with its switch
 /// and its port, as `nk trace` prints it, or `start` or `history`, as `nk equal` puts before packets. The words are looked at
-/// before anything is read. The whole answer is made before its first byte is written: on `out` for `Done`, and on `err` for
-/// the other statuses. After a write that fails nothing more is written.
+/// before anything is read, and nothing is read where one of them is none of these. The whole answer is made before its first
+/// byte is written: on `out` for `Done`, and on `err` for the other statuses. After a write that fails nothing more is written.
 pub fn draw<S: Source, O: Sink, E: Sink>(
     alloc: Global,
     words: &[String],
@@ -24,10 +24,16 @@ pub fn draw<S: Source, O: Sink, E: Sink>(
     out: &mut O,
     err: &mut E,
 ) -> Status
-    ensures { Ends (map (λ w. string_bytes w) words.now)
+    // An answer was meant for a cause, and then sent, or its sink failed at it.
+    ensures ends { Ends (map (λ w. string_bytes w) words.now)
         (state_of S.left S.faults source.old) (state_of S.left S.faults source.new)
         (state_of O.taken O.faults out.old) (state_of O.taken O.faults out.new)
         (state_of E.taken E.faults err.old) (state_of E.taken E.faults err.new) result }
+    // No call was made on the source where a word is neither heading nor packet.
+    ensures unread { asks_for_text (specs.way_of (map (λ w. string_bytes w) words.now)) ≡ false
+        → source.new ≡ source.old }
+    // No call was made on the sink that the answer doesn't go to.
+    ensures alone { LeavesAlone result (out.new ≡ out.old) (err.new ≡ err.old) }
 {
     let reply = reply_to_words(alloc, words, source);
     deliver(&reply, out, err)
@@ -35,8 +41,10 @@ pub fn draw<S: Source, O: Sink, E: Sink>(
 
 /// What the run means to say. Nothing is written yet.
 fn reply_to_words<S: Source>(alloc: Global, words: &[String], source: &mut S) -> Reply
-    ensures { IsMeant (specs.way_of (map (λ w. string_bytes w) words.now))
+    ensures meant { IsMeant (specs.way_of (map (λ w. string_bytes w) words.now))
         (state_of S.left S.faults source.old) (state_of S.left S.faults source.new) (answer_in result) }
+    ensures unread { asks_for_text (specs.way_of (map (λ w. string_bytes w) words.now)) ≡ false
+        → source.new ≡ source.old }
 {
     match way_of(alloc, words) {
         Ok(Way::Places(places)) => reply_to_way(alloc, &places, source),
