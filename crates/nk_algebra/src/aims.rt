@@ -29,7 +29,7 @@ impl LeafMap for ToTarget {
 fn outs_to(alloc: Global, target: u64, outs: &[Out]) -> Result<List<Out>, AllocError>
     ensures { IfOk result (λ r. r ≡ map (out_to target) outs.now) }
 {
-    let mut all = List::new(alloc);
+    let mut all = List::with_capacity(alloc, outs.len())?;
     for o in outs {
         all.push(Out {
             act: o.act.copy()?,
@@ -59,7 +59,7 @@ pub fn assign(st: &mut Store, f: Fid, n: u64) -> Result<Id, AllocError>
     ensures later { IfOk result (λ d. top st.new d ≡ 18) }
 {
     let alloc = st.alloc();
-    let mut outs = List::new(alloc);
+    let mut outs = List::with_capacity(alloc, 1)?;
     outs.push(Out {
         act: Act::one(alloc, f, n)?,
         target: 0,

@@ -55,7 +55,7 @@ fn united(st: &Store, a: Id, b: Id) -> Option<Id>
 fn join_sorted(alloc: Global, a: &[Out], b: &[Out]) -> Result<List<Out>, AllocError>
     ensures { IfOk result (λ r. r ≡ merged a.now b.now) }
 {
-    let mut all = List::new(alloc);
+    let mut all = List::with_capacity(alloc, a.len().saturating_add(b.len()))?;
     let mut i = 0;
     let mut k = 0;
     while i < a.len() && k < b.len() {
@@ -95,10 +95,11 @@ impl Join for Guard {
     }
 
     fn join(&self, alloc: Global, a: &[Out], b: &[Out]) -> Result<List<Out>, AllocError> {
-        let mut all = List::new(alloc);
-        if a.len() > 0 {
-            copy_from(&mut all, b, 0)?;
+        if a.is_empty() {
+            return Ok(List::new(alloc));
         }
+        let mut all = List::with_capacity(alloc, b.len())?;
+        copy_from(&mut all, b, 0)?;
         Ok(all)
     }
 }
@@ -131,7 +132,7 @@ impl Join for Absent {
     }
 
     fn join(&self, alloc: Global, a: &[Out], _b: &[Out]) -> Result<List<Out>, AllocError> {
-        let mut all = List::new(alloc);
+        let mut all = List::with_capacity(alloc, 1)?;
         if a.len() == 0 {
             all.push(Out {
                 act: Act::none(alloc),

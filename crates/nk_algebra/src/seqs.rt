@@ -41,7 +41,7 @@ impl<'a> LeafMap for Prefix<'a> {
 fn outs_after(alloc: Global, act: &Act, outs: &[Out]) -> Result<List<Out>, AllocError>
     ensures { IfOk result (λ r. r ≡ map (out_after act.now) outs.now) }
 {
-    let mut all = List::new(alloc);
+    let mut all = List::with_capacity(alloc, outs.len())?;
     for o in outs {
         all.push(Out {
             act: act.then(&o.act)?,

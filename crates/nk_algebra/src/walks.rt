@@ -54,8 +54,23 @@ pub trait NodeMap {
         ensures later { IfOk result (λ r. first self.now (top st.old d) ≤ top st.new r) };
 }
 
-/// What is made of a diagram. Each node is visited once. The only error is that memory ran out.
+/// What is made of a diagram. Each node is visited once; no table is made where it tests none of the kept fields. The only
+/// error is that memory ran out.
 pub fn map_nodes<M: NodeMap>(st: &mut Store, m: &M, d: Id) -> Result<Id, AllocError>
+    requires id { IsId st.old d }
+    requires allowed { M.allowed m.now st.old.maxes }
+    ensures grows { Grows st.old st.new }
+    ensures ok { IfOk result (λ r. HasLeaves st.new r (λ pk. M.made m.now st.old.maxes pk (look st.old d (M.taken m.now pk)))) }
+    ensures later { IfOk result (λ r. M.first m.now (top st.old d) ≤ top st.new r) }
+{
+    match first_before(st, d, m.place()) {
+        None => m.change(st, d),
+        Some(_) => map_below(st, m, d),
+    }
+}
+
+/// The same of a diagram that tests a field which is kept.
+fn map_below<M: NodeMap>(st: &mut Store, m: &M, d: Id) -> Result<Id, AllocError>
     requires id { IsId st.old d }
     requires allowed { M.allowed m.now st.old.maxes }
     ensures grows { Grows st.old st.new }

@@ -33,7 +33,7 @@ impl LeafMap for Without {
 fn outs_without(alloc: Global, f: Fid, n: u64, outs: &[Out]) -> Result<List<Out>, AllocError>
     ensures { IfOk result (λ r. r ≡ map (out_without f n) outs.now) }
 {
-    let mut all = List::new(alloc);
+    let mut all = List::with_capacity(alloc, outs.len())?;
     for o in outs {
         all.push(Out {
             act: act_without(alloc, f, n, &o.act)?,

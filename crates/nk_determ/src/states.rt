@@ -269,7 +269,7 @@ fn outs_to_sets(alloc: Global, sets: &mut Sets, outs: &[Out]) -> Result<List<Out
     ensures held { OnOk result (HasAll sets.new outs.now) }
 {
     let parts = branches_of(alloc, outs)?;
-    let mut all = List::new(alloc);
+    let mut all = List::with_capacity(alloc, outs.len())?;
     for b in parts.as_slice() {
         push_final(&mut all, b)?;
         push_to_set(&mut all, sets, b)?;

@@ -36,6 +36,14 @@ impl<T: Drop> List<T> {
         }
     }
 
+    /// The empty list with room for so many values. The only error is that memory ran out.
+    pub fn with_capacity(alloc: Global, capacity: usize) -> Result<List<T>, AllocError>
+        ensures { IfOk result (λ v. v ≡ []) }
+    {
+        let vec = Vec::with_capacity(alloc, capacity)?;
+        Ok(List { vec })
+    }
+
     /// Puts a value at the end. Where memory runs out the list stays as it was.
     pub fn push(&mut self, value: T) -> Result<(), AllocError>
         ensures ok { OnOk result (self.new ≡ self.old ++ value ∷ []) }

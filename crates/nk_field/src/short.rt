@@ -1,4 +1,4 @@
-//! A short list, kept in place up to four items, that contracts see as a list.
+//! A short list, kept in place up to two items, that contracts see as a list.
 ghost use Rattle.std.specs.Prelude.{◌≡◌, ◌<◌, [], ◌∷◌, ◌++◌, length, IfOk, OnOk, OnErr, slice_index_or};
 ghost use Rattle.std.specs.Cmp.Lexicographic.{pointwise, slice_cmp, slice_partial_cmp, lists_per, lists_equiv, lists_po, lists_total, lists_agrees, lists_ties};
 ghost use Rattle.std.specs.Hash as fed;
@@ -11,10 +11,10 @@ use std::default::MadeWith;
 use std::hash::{Hash, Hasher};
 use std::marker::Model;
 
-/// A growing list of values, in place up to four. A contract sees it as the list of its items.
+/// A growing list of values, in place up to two. A contract sees it as the list of its items.
 #[derive(Debug, Drop)]
 pub struct Short<T> {
-    vec: SmallVec<T, 4>,
+    vec: SmallVec<T, 2>,
 }
 
 impl<T> Model for Short<T> {

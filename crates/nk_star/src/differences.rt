@@ -48,7 +48,7 @@ fn missing_outs(alloc: Global, a: &[Out], b: &[Out]) -> Result<List<Out>, AllocE
     requires { Strict b.now }
     ensures { IfOk result (λ r. r ≡ lacking a.now b.now) }
 {
-    let mut all = List::new(alloc);
+    let mut all = List::with_capacity(alloc, a.len())?;
     for o in a {
         if !has(b, o) {
             all.push(o.copy()?)?;

@@ -42,4 +42,4 @@ operation_number Split = 5
 
 -- an operation and its diagrams as a number
 abbrev pub key_mixed : Key → ℕ
-key_mixed k = mixed (mixed (operation_number k.operation) k.left) k.right
+key_mixed k = mixed (mixed (mixed 0 (operation_number k.operation)) k.left) k.right

@@ -76,7 +76,7 @@ impl Hash for Key {
     ghost respects_eq = { λ k q h. ap (λ x. fed.u64 (key_mixed x)) (key_same k q h) };
 
     fn hash<H: Hasher>(&self, state: &mut H) {
-        let first = mixed(number(self.operation), self.left.place() as u64);
+        let first = mixed(mixed(0, number(self.operation)), self.left.place() as u64);
         state.write_u64(mixed(first, self.right.place() as u64));
     }
 }

@@ -36,7 +36,7 @@ impl Id {
 }
 
 /// What a leaf sends: the packet changed by the act, to the target.
-#[derive(PartialEq, Eq, PartialOrd, Ord, Hash, Drop)]
+#[derive(PartialEq, Eq, PartialOrd, Ord, Drop)]
 pub struct Out {
     /// The assignments that are made.
     pub act: Act,

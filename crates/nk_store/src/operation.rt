@@ -2,7 +2,7 @@
 use crate::node::Id;
 
 /// An operation on diagrams, of which a store keeps the answers.
-#[derive(Clone, Copy, PartialEq, Eq, Hash)]
+#[derive(Clone, Copy, PartialEq, Eq)]
 pub enum Operation {
     /// Both leaves together.
     Union,

@@ -172,7 +172,7 @@ impl Store {
             return Ok(d);
         }
         let alloc = self.alloc();
-        let mut outs = List::new(alloc);
+        let mut outs = List::with_capacity(alloc, 1)?;
         outs.push(Out {
             act: Act::none(alloc),
             target: 0,
