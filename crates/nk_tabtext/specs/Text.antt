@@ -2,7 +2,7 @@
 -- fields with their largest values; the tag; the switches with their ports; the links; and for each switch its table, that
 -- is its groups and its rows. What stands in order in the tables, as they are read, stands so in the text: switches, ports,
 -- links, groups, matches by field.
-use Rattle.std.specs.Prelude.{ℕ, ◌==◌, not, Bool, true, false, if◌then◌else◌, codes, Option, Some, None, List, [], ◌∷◌, ◌++◌, drop, slice_index}
+use Rattle.std.specs.Prelude.{◌≡◌, ℕ, ◌≤◌, ◌==◌, not, Bool, true, false, if◌then◌else◌, codes, Option, Some, None, List, [], ◌∷◌, ◌++◌, drop, slice_index}
 use Rattle.std.specs.Fmt.{decimal}
 use Rattle.std.specs.List.{flat_map, list_any}
 use Rattle.nk_field.specs.Packet.{FieldTable}
@@ -143,6 +143,10 @@ rules_text fs tables sw = flat_map (group_text fs) (groups_of tables sw) ++ flat
 -- the table of a switch; one that has none among the tables has an empty one
 abbrev pub section_text : FieldTable → List Table → ℕ → List ℕ
 section_text fs tables sw = codes "table " ++ decimal sw ++ codes "\n" ++ rules_text fs tables sw
+
+-- in the second tables each switch from that one on has the groups and rows that it has in the first
+abbrev pub AreTablesFrom : ℕ → List Table → List Table → Type 0
+AreTablesFrom sw all rest = (n : ℕ) → sw ≤ n → (rows_of rest n ≡ rows_of all n) × (groups_of rest n ≡ groups_of all n)
 
 -- whether some match of these rows is a prefix
 abbrev pub have_prefix : FieldTable → List Row → Bool

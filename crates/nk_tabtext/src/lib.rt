@@ -55,13 +55,17 @@ fn first_line(out: &mut Vec<u8>, version: u64) -> Result<(), AllocError>
     Ok(())
 }
 
-/// The tables of the switches with these numbers.
+/// The tables of the switches with these numbers. Where both ascend, they are gone through together.
 fn sections(out: &mut Vec<u8>, t: &Tables, numbers: &[u16]) -> Result<(), AllocError>
     ensures { OnOk result (out.new.items
         ≡ out.old.items ++ flat_map (λ n. section_text t.now.fields t.now.tables n) numbers.now) }
 {
+    let mut rest = t.tables.as_slice();
+    let mut last = 0;
     for n in numbers {
-        rules::section(out, &t.fields, t.tables.as_slice(), *n)?;
+        rest = rules::behind(t.tables.as_slice(), rest, last, *n);
+        rules::section(out, &t.fields, rest, *n)?;
+        last = *n;
     }
     Ok(())
 }

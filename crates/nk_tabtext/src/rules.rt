@@ -3,7 +3,7 @@ ghost use Rattle.std.specs.Prelude.{◌≡◌, ◌++◌, not, codes, OnOk};
 ghost use Rattle.std.specs.List.{flat_map, list_any};
 ghost use Rattle.nk_table.specs.Rules.{rows_of};
 ghost use Rattle.nk_tabtext.specs.Text as text;
-ghost use Rattle.nk_tabtext.specs.Text.{is_tag, name_of, length_text, match_text, set_text, where_same, matches_text, sets_text, exit_text, bucket_text, target_text, row_text, group_text, rules_text, section_text, version_of};
+ghost use Rattle.nk_tabtext.specs.Text.{is_tag, name_of, length_text, match_text, set_text, where_same, matches_text, sets_text, exit_text, bucket_text, target_text, row_text, group_text, rules_text, section_text, version_of, AreTablesFrom};
 
 use crate::number;
 use nk_field::{Fid, Fields};
@@ -52,16 +52,45 @@ fn have_prefix(fs: &Fields, rows: &[Row]) -> bool
     false
 }
 
-/// Whether some match in the tables of these switches is a prefix.
+/// Whether some match in the tables of these switches is a prefix. Where switches and tables ascend, both are gone through
+/// together.
 fn some_table(t: &Tables, numbers: &[u16]) -> bool
     ensures { result ≡ list_any (λ n. text.have_prefix t.now.fields (rows_of t.now.tables n)) numbers.now }
 {
+    let mut rest = t.tables.as_slice();
+    let mut last = 0;
     for n in numbers {
-        if have_prefix(&t.fields, rows_at(t.tables.as_slice(), *n)) {
+        rest = behind(t.tables.as_slice(), rest, last, *n);
+        if have_prefix(&t.fields, rows_at(rest, *n)) {
             return true;
         }
+        last = *n;
     }
     false
+}
+
+/// What is left of the tables behind those of lesser switches, by what was left at another switch: in it each switch from this
+/// one on has the table that it has among all.
+pub(crate) fn behind<'a>(all: &'a [Table], rest: &'a [Table], last: u16, sw: u16) -> &'a [Table]
+    requires { AreTablesFrom last all.now rest.now }
+    ensures { AreTablesFrom sw all.now result.now }
+{
+    if sw < last {
+        without_lesser(all, sw)
+    } else {
+        without_lesser(rest, sw)
+    }
+}
+
+/// The tables without those of lesser switches at the front.
+fn without_lesser<'a>(tables: &'a [Table], sw: u16) -> &'a [Table]
+    ensures { AreTablesFrom sw tables.now result.now }
+{
+    let mut place = 0;
+    while place < tables.len() && tables[place].switch < sw {
+        place += 1;
+    }
+    &tables[place..]
 }
 
 /// The number of the text's version: 2 where some match is a prefix, else 1.
