@@ -7,7 +7,8 @@ ghost use Rattle.nk_draws.specs.Draws as draws;
 /// The product of a draw and the multiplier is taken modulo this number.
 const MODULUS: u64 = 2_147_483_647;
 
-/// The draw after this one, which may be any number: it is below 2,147,483,647.
+/// The draw that follows `draw`: 48,271 times it, modulo 2,147,483,647 (Park and Miller,
+/// Communications of the ACM 31, 1988, with the multiplier of 36, 1993). Any number may be given.
 pub fn next_draw(draw: u64) -> u64
     ensures value { result ≡ draws.next_draw draw }
     ensures bound { result < 2147483647 }

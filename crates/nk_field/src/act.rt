@@ -37,7 +37,7 @@ impl Act {
         }
     }
 
-    /// The act that assigns one field. The only error is that memory ran out.
+    /// The act that assigns one value to one field. The only error is that memory ran out.
     pub fn one(alloc: Global, f: Fid, n: u64) -> Result<Act, AllocError>
         ensures { IfOk result (λ a. a ≡ (f, n) ∷ []) }
     {
@@ -53,7 +53,7 @@ impl Act {
         self.sets.as_slice()
     }
 
-    /// The same act once more. The only error is that memory ran out.
+    /// A copy of the act. The only error is that memory ran out.
     pub fn copy(&self) -> Result<Act, AllocError>
         ensures { IfOk result (λ a. a ≡ self.now) }
     {
@@ -61,8 +61,8 @@ impl Act {
         Ok(Act { sets })
     }
 
-    /// The act without the assignment of one field, the same act where it assigns the field nothing. The only error is
-    /// that memory ran out.
+    /// The act without its assignment to a field; the same act where it has none. The only error is that memory ran
+    /// out.
     pub fn without(&self, alloc: Global, f: Fid) -> Result<Act, AllocError>
         ensures { IfOk result (λ a. a ≡ left_without f self.now) }
     {
@@ -70,8 +70,8 @@ impl Act {
         Ok(Act { sets })
     }
 
-    /// This act, then that one: at a field that both assign, that one's value stands. The only error is that memory ran
-    /// out.
+    /// This act followed by `h`: where both assign to a field, the value of `h` stands. The only error is that memory
+    /// ran out.
     pub fn then(&self, h: &Act) -> Result<Act, AllocError>
         ensures is { IfOk result (λ a. a ≡ act_then self.now h.now) }
         ensures does { IfOk result (λ a.
@@ -81,7 +81,7 @@ impl Act {
         Ok(Act { sets })
     }
 
-    /// The packet with the assignments made, in the fields' ranges or not.
+    /// The packet with the assignments made. Their values aren't checked against the fields' ranges.
     pub fn apply(&self, p: &Packet) -> Packet
         ensures { result ≡ applied self.now p.now }
     {

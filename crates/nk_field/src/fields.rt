@@ -50,8 +50,8 @@ impl Model for Fields {
 }
 
 impl Fields {
-    /// The switch `sw` and the port `pt`, each 0 to 65,535, no declared field and no tag. The only error is that memory
-    /// ran out.
+    /// The fields of a program that declares none: the switch `sw` and the port `pt`, each from 0 to 65,535, and no
+    /// tag. The only error is that memory ran out.
     pub fn new(alloc: Global) -> Result<Fields, AllocError>
         ensures { IfOk result (λ f. f ≡ built_in) }
     {
@@ -68,8 +68,8 @@ impl Fields {
         })
     }
 
-    /// Declares a field with values from 0 to `max`, behind the others. An `Err` leaves the fields as they were; a name
-    /// that a field has is `FieldTwice` even where there is no room.
+    /// Declares a field with values from 0 to `max`, behind the others, and gives its number. It is refused, and
+    /// nothing changes, where a field has the name already, or else sixteen are declared already.
     pub fn add(&mut self, name: &str, max: u64) -> Result<Fid, FieldsError>
         ensures place { IfOk result (λ f. f ≡ length self.old.maxima) }
         ensures added { OnOk result (self.new ≡ with_field self.old name.now max) }
@@ -138,7 +138,7 @@ impl Fields {
         self.tag
     }
 
-    /// Makes a declared field the tag, where there is none yet.
+    /// Makes a declared field the tag. There must be no tag yet.
     pub fn set_tag(&mut self, f: Fid)
         requires declared { 2 ≤ f }
         requires field { f < length self.old.maxima }
@@ -148,7 +148,7 @@ impl Fields {
         self.tag = Some(f);
     }
 
-    /// The name of a field, empty past the last one.
+    /// The name of a field; empty for a number that no field has.
     pub fn name(&self, f: Fid) -> &str
         ensures { result.now ≡ slice_index_or self.now.names f [] }
     {
@@ -166,7 +166,7 @@ impl Fields {
         self.maxima[f.place()]
     }
 
-    /// The same fields once more. The only error is that memory ran out.
+    /// A copy of the fields. The only error is that memory ran out.
     pub fn copy(&self) -> Result<Fields, AllocError>
         ensures { IfOk result (λ f. f ≡ self.now) }
     {

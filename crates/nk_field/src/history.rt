@@ -16,7 +16,7 @@ pub struct History {
 }
 
 impl History {
-    /// The same history once more. The only error is that memory ran out.
+    /// A copy of the history. The only error is that memory ran out.
     pub fn copy(&self) -> Result<History, AllocError>
         ensures { IfOk result (λ h. h ≡ self.now) }
     {

@@ -1,4 +1,5 @@
-//! Fields, packets, acts and histories, and the list types that contracts see as lists.
+//! Fields, packets, assignments (acts) and histories, and the list types that contracts see as
+//! lists.
 #![tactic(auto)]
 
 mod act;

@@ -36,7 +36,7 @@ impl<T: Drop> List<T> {
         }
     }
 
-    /// The empty list with room for so many values. The only error is that memory ran out.
+    /// The empty list, with room for `capacity` values. The only error is that memory ran out.
     pub fn with_capacity(alloc: Global, capacity: usize) -> Result<List<T>, AllocError>
         ensures { IfOk result (λ v. v ≡ []) }
     {
@@ -53,7 +53,7 @@ impl<T: Drop> List<T> {
         Ok(())
     }
 
-    /// Writes a value at a place.
+    /// Replaces the item at a place, 0 being the first. There must be one.
     pub fn put(&mut self, index: usize, value: T)
         requires { index < length self.old }
         ensures { self.new ≡ slice_set self.old index value }
@@ -96,7 +96,7 @@ impl<T> List<T> {
         self.vec.as_slice()
     }
 
-    /// The item at a place, 0 being the first.
+    /// The item at a place, 0 being the first. There must be one.
     pub fn at(&self, index: usize) -> &T
         requires { index < length self.now }
         ensures { result.now ≡ slice_index_or self.now index result.now }
@@ -113,7 +113,7 @@ impl<T> List<T> {
 }
 
 impl<T: Copy> List<T> {
-    /// The same list once more. The only error is that memory ran out.
+    /// A copy of the list. The only error is that memory ran out.
     pub fn copy(&self) -> Result<List<T>, AllocError>
         ensures { IfOk result (λ v. v ≡ self.now) }
     {

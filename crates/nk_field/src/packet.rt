@@ -74,7 +74,7 @@ impl Packet {
         Packet { values: [0; 18] }
     }
 
-    /// The value at a field.
+    /// The value of a field.
     pub fn get(&self, f: Fid) -> u64
         ensures { result ≡ slice_index self.now f }
     {
@@ -101,7 +101,7 @@ impl Packet {
         }
     }
 
-    /// Writes a value at a field, in its range or not.
+    /// Sets a field to a value, which isn't checked against the field's range.
     pub fn put(&mut self, f: Fid, value: u64)
         ensures { self.new ≡ slice_set self.old f value }
     {

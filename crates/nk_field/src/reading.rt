@@ -17,7 +17,7 @@ pub enum PacketError {
     /// Memory ran out.
     #[error("no memory")]
     NoMemory,
-    /// An item is wrong, missing or too many.
+    /// An item is wrong or missing, or there is one too many.
     #[error("bad packet")]
     BadPacket {
         /// The number of the first such item, from 1.
@@ -25,8 +25,8 @@ pub enum PacketError {
     },
 }
 
-/// The packet of a text as `sw=1,pt=2,dst=3`: items between commas, one `name=digits` for each field but the tag, in
-/// order, each value in its field's range. The tag is 0.
+/// The packet that a text such as `sw=1,pt=2,dst=3` gives: items between commas, one `name=digits` for each field
+/// but the tag, in the order of the fields, each value in its field's range. The tag is 0.
 pub fn read_packet(alloc: Global, fields: &Fields, text: &str) -> Result<Packet, PacketError>
     ensures answer { Returns result (packet_of fields.now text.now) }
     ensures packet { IfOk result (λ p. IsPacket fields.now p × IsUntagged fields.now p) }

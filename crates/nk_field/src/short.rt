@@ -11,7 +11,8 @@ use std::default::MadeWith;
 use std::hash::{Hash, Hasher};
 use std::marker::Model;
 
-/// A growing list of values, in place up to two. A contract sees it as the list of its items.
+/// A growing list of values. It keeps up to two of them in place, without memory of its own. A
+/// contract sees it as the list of its items.
 #[derive(Debug, Drop)]
 pub struct Short<T> {
     vec: SmallVec<T, 2>,
@@ -68,7 +69,7 @@ impl<T> Short<T> {
         self.vec.as_slice()
     }
 
-    /// The item at a place, 0 being the first.
+    /// The item at a place, 0 being the first. There must be one.
     pub fn at(&self, index: usize) -> &T
         requires { index < length self.now }
         ensures { result.now ≡ slice_index_or self.now index result.now }
@@ -78,7 +79,7 @@ impl<T> Short<T> {
 }
 
 impl<T: MadeWith<Global> + Copy> Short<T> {
-    /// The same list once more. The only error is that memory ran out.
+    /// A copy of the list. The only error is that memory ran out.
     pub fn copy(&self) -> Result<Short<T>, AllocError>
         ensures { IfOk result (λ v. v ≡ self.now) }
     {

@@ -8,8 +8,8 @@ use crate::packet::{Fid, Packet};
 use itoa::Buffer;
 use std::alloc::{AllocError, Global};
 
-/// The text of a packet, as `sw=1,pt=2,dst=3`: its fields in order, without the tag where that isn't wanted. The only
-/// error is that memory ran out.
+/// The text of a packet, such as `sw=1,pt=2,dst=3`: its fields in order, the tag only where `with_tag` says so. The
+/// only error is that memory ran out.
 pub fn packet_text(
     alloc: Global,
     fields: &Fields,
@@ -23,8 +23,8 @@ pub fn packet_text(
     Ok(out)
 }
 
-/// The text of a history: the recorded packets and the last one, with spaces between them. The only error is that
-/// memory ran out.
+/// The text of a history: the recorded packets and the last one, with spaces between them, each with its tag only
+/// where `with_tag` says so. The only error is that memory ran out.
 pub fn history_text(
     alloc: Global,
     fields: &Fields,

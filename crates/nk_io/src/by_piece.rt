@@ -24,7 +24,7 @@ impl Model for Taken {
 }
 
 impl Taken {
-    /// Nothing is taken.
+    /// A count of no bytes.
     pub fn new() -> Self
         ensures { result ≡ 0 }
     {
@@ -50,8 +50,9 @@ pub enum PieceError {
     TooLong,
 }
 
-/// The next bytes of the source, in the front of the slice, and how many they are: 0 exactly at the
-/// end. A call that fails is never taken for the end. Bytes that go past the limit are counted too.
+/// Reads the next bytes of the source into the front of the slice and says how many they are: 0 exactly
+/// at the end. A call that fails is never taken for the end. Bytes that go past the limit are counted
+/// too.
 pub fn next_piece<S: Source>(
     source: &mut S,
     taken: &mut Taken,

@@ -12,7 +12,7 @@ pub struct StdSource<R: Read> {
 }
 
 impl<R: Read> StdSource<R> {
-    /// The count of faults begins at 0.
+    /// Wraps the reader, with no fault so far.
     pub fn new(inner: R) -> Self
         ensures inner { result.inner ≡ inner }
         ensures faults { result.faults ≡ 0 }
@@ -46,7 +46,7 @@ pub struct StdSink<W: Write> {
 }
 
 impl<W: Write> StdSink<W> {
-    /// The count of faults begins at 0.
+    /// Wraps the writer, with no fault so far.
     pub fn new(inner: W) -> Self
         ensures inner { result.inner ≡ inner }
         ensures faults { result.faults ≡ 0 }

@@ -59,8 +59,9 @@ impl Source for PlainSource {
     }
 }
 
-/// A source in memory that gives at most `piece` bytes a call, and fails at the calls whose numbers,
-/// from 1, stand in `fails`, and at no others. The number of a call stops at the last u64.
+/// A source in memory that gives at most `piece` bytes a call. Its calls are numbered from 1, and it
+/// fails at those whose numbers stand in `fails`, and at no others. The number of a call stops at
+/// the last u64.
 #[derive(Drop)]
 pub struct MemSource {
     bytes: Vec<u8>,
@@ -89,7 +90,7 @@ impl Model for MemSource {
 }
 
 impl MemSource {
-    /// All of the bytes are left, and there were no calls. `piece` is at least 1.
+    /// A source that has all of the bytes left, before its first call. `piece` is at least 1.
     pub fn new(bytes: Vec<u8>, piece: usize, fails: Vec<u64>) -> Self
         requires { 0 < piece }
         ensures { result ≡ record {
@@ -148,9 +149,9 @@ impl Source for MemSource {
     }
 }
 
-/// A sink in memory that takes at most `piece` bytes a call. It fails at the calls whose numbers,
-/// from 1, stand in `fails`, and at a piece that isn't empty while its room is full; at no others.
-/// The number of a call stops at the last u64.
+/// A sink in memory that takes at most `piece` bytes a call. Its calls are numbered from 1; it fails
+/// at those whose numbers stand in `fails`, and at a piece that isn't empty while its room is full,
+/// and at no others. The number of a call stops at the last u64.
 #[derive(Drop)]
 pub struct MemSink {
     bytes: Vec<u8>,
@@ -181,8 +182,9 @@ impl Model for MemSink {
 }
 
 impl MemSink {
-    /// Room for `room` bytes is reserved, nothing is taken, and there were no calls. `piece` is at
-    /// least 1. No later call takes memory.
+    /// A sink that has taken nothing, before its first call, with room for `room` bytes. `piece` is
+    /// at least 1. No later call takes memory. The only error is that there isn't enough memory for
+    /// the room.
     pub fn new(alloc: Global, room: usize, piece: usize, fails: Vec<u64>) -> Result<Self, NoMemory>
         requires { 0 < piece }
         ensures { IfOk result (λ s. s ≡ record {
@@ -243,8 +245,8 @@ impl Sink for MemSink {
     }
 }
 
-/// A sink that never fails and takes every byte. It keeps only how many it took, up to the last u64,
-/// and a contract sees it as that number.
+/// A sink that never fails and takes every byte. It keeps only how many bytes it took, up to the
+/// last u64; a contract sees it as that number.
 #[derive(Drop)]
 pub struct CountSink {
     count: u64,

@@ -20,7 +20,8 @@ pub trait Source {
     /// How often a call has failed. It never falls.
     ghost faults: { Self → ℕ };
 
-    /// Gives the next bytes. Into a slice with room it gives none exactly where nothing is left.
+    /// Reads the next bytes into the front of the slice and says how many. Where the slice has
+    /// room, 0 comes exactly where nothing is left.
     fn read(&mut self, into: &mut [u8]) -> Result<usize, Failed>
         ensures bound { ReadsAtMost result into.new }
         ensures bytes { ReadConsumes (left self.old) (left self.new) result into.new }
@@ -35,7 +36,8 @@ pub trait Sink {
     /// How often a call has failed. It never falls.
     ghost faults: { Self → ℕ };
 
-    /// Takes bytes from the front of the piece, at least one where there is one, and says how many.
+    /// Takes bytes from the front of the piece and says how many: at least one, unless the piece is
+    /// empty. A call that fails takes none.
     fn write(&mut self, bytes: &[u8]) -> Result<usize, Failed>
         ensures bytes { Takes (taken self.old) (taken self.new) result bytes.now }
         ensures cause { HasCause (faults self.old) (faults self.new) result };

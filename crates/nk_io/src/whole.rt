@@ -8,7 +8,7 @@ use crate::{Sink, Source};
 use std::alloc::Global;
 use thiserror::Error;
 
-/// Why not all of a source was read.
+/// Why a source wasn't read to its end.
 #[derive(Clone, Copy, Debug, PartialEq, Eq, Error)]
 pub enum ReadError {
     /// There is not enough memory for the bytes.
@@ -22,7 +22,7 @@ pub enum ReadError {
     TooLong,
 }
 
-/// A call of the sink failed, and a part of the bytes was not taken.
+/// A call of the sink failed before all of the bytes were taken.
 #[derive(Clone, Copy, Debug, PartialEq, Eq, Error)]
 #[error("write fault")]
 pub struct WriteFault;
@@ -31,7 +31,7 @@ pub struct WriteFault;
 const PIECE: usize = 4096;
 
 /// All that the source has left, at most `limit` bytes. A call that fails is never taken for the end:
-/// it is a `ReadFault`. `TooLong` comes where more than `limit` bytes were given.
+/// it is a `ReadFault`. `TooLong` comes where the source gave more than `limit` bytes.
 pub fn read_all<S: Source>(alloc: Global, source: &mut S, limit: u64) -> Result<Vec<u8>, ReadError>
     ensures bytes { IfOk result (λ bytes.
         Consumes (S.left source.old) (S.left source.new) bytes.items) }

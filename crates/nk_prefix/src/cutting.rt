@@ -6,7 +6,7 @@ ghost use Rattle.nk_prefix.specs.Blocks.{blocks_of, end_of, largest_fit};
 
 use std::alloc::{AllocError, Global};
 
-/// How many binary digits a number has, 1 for 0.
+/// How many binary digits a number has: 1 to 64, and 1 for 0.
 pub fn digits_of(max: u64) -> u8
     ensures is { result ≡ prefix.digits_of max }
     ensures small { result ≤ 64 }
@@ -18,7 +18,8 @@ pub fn digits_of(max: u64) -> u8
     }
 }
 
-/// Whether the first `len` of so many digits of a number are those of a value.
+/// Whether a value and a number `n`, each written with `digits` binary digits, have the same first `len` of them. `len`
+/// is at most `digits`, and `digits` at most 64.
 pub fn agrees(value: u64, len: u8, digits: u8, n: u64) -> bool
     requires len { len ≤ digits }
     requires digits { digits ≤ 64 }
@@ -28,8 +29,10 @@ pub fn agrees(value: u64, len: u8, digits: u8, n: u64) -> bool
     (n as u128) >> rest == (value as u128) >> rest
 }
 
-/// The blocks of the interval from `lo` to `hi` of a field with a largest value, each with its first value and how many
-/// digits its values share. Fails where memory runs out.
+/// The interval from `lo` to `hi`, both included, cut into prefixes: each block is its first value and how many leading
+/// digits its values share, of the digits of `max`, the field's largest value. There is none where `lo` is above `hi`.
+/// An interval of several values that ends at `max` counts as ending at the largest number of as many digits. The only
+/// error is that memory ran out.
 pub fn blocks(alloc: Global, lo: u64, hi: u64, max: u64) -> Result<Vec<(u64, u8)>, AllocError>
     requires { hi ≤ max }
     ensures { IfOk result (λ all. all.items ≡ blocks_of lo hi max) }

@@ -29,7 +29,7 @@ pub fn blocks_are_aligned()
     ensures single { (v max : ℕ) → v ≤ max → blocks_of v v max ≡ (v, digits_of max) ∷ [] }
 {}
 
-/// A value in range is in one block of an interval where the interval has it, and else in none.
+/// A value in range is in exactly one block of an interval where the interval has it, and in none where it hasn't.
 pub fn blocks_cover()
     ensures count { (lo hi max n : ℕ) → hi ≤ max → n ≤ max
         → count_by (is_in_block max n) (blocks_of lo hi max) ≡ (if nat_le lo n && nat_le n hi then 1 else 0) }
@@ -44,7 +44,7 @@ pub fn blocks_cover()
         → is_in_block max n b ≡ true → is_in_block max n c ≡ true → ⊥ }
 {}
 
-/// Blocks that are worked by hand.
+/// Blocks that are worked out by hand.
 pub fn worked_blocks()
     ensures digits { DigitsByHand }
     ensures seven { UpToSeven }
