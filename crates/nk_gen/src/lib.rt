@@ -1,4 +1,5 @@
-//! Generated programs: networks of any size with policies over them, the same text for the same size and seed.
+//! Generated programs: networks of 2 to 1,000 switches with policies over them. Size and seed alone decide the
+//! text.
 #![tactic(auto)]
 
 mod drawn;

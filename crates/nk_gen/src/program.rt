@@ -8,10 +8,10 @@ use crate::network::{Home, Link, chords, homes, ring, tree};
 use crate::text::{push_fields, push_homes, push_links, push_named, push_policies, push_switches};
 use std::alloc::{AllocError, Global};
 
-/// The text of a program with 2 to 1,000 switches, made by the draws behind a seed from 1 to 2147483646: fields, tag,
-/// switches and links; the policies `home`, `ring`, `chord` and `tree`, and `hop`, `go`, `same` and `cast` over them. The
-/// draws are those of Park and Miller (Communications of the ACM 31, 1988) with the multiplier 48271 (36, 1993). The only
-/// error is that memory ran out.
+/// The text of a program with 2 to 1,000 switches, made by draws from a seed, 1 to 2147483646: fields, tag, switches and
+/// links; the policies `home`, `ring`, `chord` and `tree`, and `hop`, `go`, `same` and `cast`, made of these. The draws
+/// are those of Park and Miller (Communications of the ACM 31, 1988) with the multiplier 48271 (36, 1993). The only error
+/// is that memory ran out.
 pub fn generate(alloc: Global, size: u64, seed: u64) -> Result<Vec<u8>, AllocError>
     requires sizes { (2 ≤ size) × (size ≤ 1000) }
     requires seeds { (1 ≤ seed) × (seed ≤ 2147483646) }

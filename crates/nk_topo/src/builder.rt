@@ -12,8 +12,8 @@ use std::alloc::{AllocError, Global};
 use std::collections::{BTreeMap, HashSet};
 use std::marker::Model;
 
-/// A topology in the making. Switches and links are declared in any order, each in the time of a search in a map, and
-/// listed once at the end. A contract sees it as the `Topology` that is declared so far.
+/// A topology in the making. Switches and links may be declared in any order; each takes the time of a search in a map,
+/// and they are listed once, at the end. A contract sees it as the `Topology` that is declared so far.
 #[derive(Drop)]
 pub struct TopoBuilder {
     alloc: Global,
@@ -80,7 +80,7 @@ impl TopoBuilder {
 
     /// Declares a switch with its ports, in any order.
     ///
-    /// It is refused, and nothing changes, where the switch is declared already, or else a port is given twice.
+    /// It is refused, and nothing changes, where the switch is declared already, or else where a port is given twice.
     pub fn add_switch(&mut self, n: u16, ports: &[u16]) -> Result<(), TopoError>
         ensures added { OnOk result (self.new ≡ with_switch self.old n ports.now) }
         ensures answer { Returns result (switch_answer self.old n ports.now) }
@@ -115,8 +115,8 @@ impl TopoBuilder {
 
     /// Declares a link from port `m` of switch `a` to port `n` of switch `b`.
     ///
-    /// It is refused, and nothing changes, at the first of these: the source is no declared port, the target is none, a
-    /// link begins at the source already, one ends at the target already.
+    /// It is refused, and nothing changes, for the first of these reasons that holds: the source is no declared port;
+    /// the target is none; a link begins at the source already; one ends at the target already.
     pub fn add_link(&mut self, a: u16, m: u16, b: u16, n: u16) -> Result<(), TopoError>
         ensures added { OnOk result (self.new ≡ with_link self.old (link_of (a, m, b, n))) }
         ensures answer { Returns result (link_answer self.old (link_of (a, m, b, n))) }
@@ -155,7 +155,7 @@ impl TopoBuilder {
         Ok(())
     }
 
-    /// The topology that is declared, with its switches and links in order.
+    /// The topology that is declared, with its switches and links in order. The only error is that memory ran out.
     pub fn finish(self) -> Result<Topo, AllocError>
         ensures { IfOk result (λ t. t ≡ self) }
     {

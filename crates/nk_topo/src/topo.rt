@@ -44,11 +44,10 @@ pub enum TopoError {
     TargetTwice,
 }
 
-/// Switches with their ports, and links between declared ports: at most one begins at a port, and at most one ends
-/// there. A contract sees it as a `Topology`: switches ascend by number, the ports of each ascend, and links ascend by
-/// source.
+/// Switches with their ports, and links between declared ports: at most one begins at a port, and at most one ends there.
+/// A contract sees it as a `Topology`: switches ascend by number, the ports of each ascend, and links ascend by source.
 ///
-/// Both are kept sorted, so one that is declared before others that are greater moves these: a `TopoBuilder` takes them in
+/// All are kept sorted, so adding a switch or a link moves those behind it. A `TopoBuilder` is quicker where they come in
 /// any order.
 #[derive(Drop)]
 pub struct Topo {
@@ -111,7 +110,7 @@ impl Topo {
         self.links.as_slice()
     }
 
-    /// Where the link that begins at a port ends: its switch and port; None where no link begins there.
+    /// The switch and port where the link that begins at a port ends; `None` where no link begins there.
     pub fn link_from(&self, sw: u16, pt: u16) -> Option<(u16, u16)>
         ensures { result ≡ declared.link_from self.now sw pt }
     {
@@ -153,7 +152,8 @@ impl Topo {
         self.targets.contains(&(sw, pt))
     }
 
-    /// Declares a switch with its ports, in any order.
+    /// Declares a switch with its ports, in any order. It is refused, and nothing changes, where the switch is declared
+    /// already, or else where a port is given twice.
     pub fn add_switch(&mut self, n: u16, ports: &[u16]) -> Result<(), TopoError>
         ensures added { OnOk result (self.new ≡ with_switch self.old n ports.now) }
         ensures answer { Returns result (switch_answer self.old n ports.now) }
@@ -189,7 +189,9 @@ impl Topo {
         Ok(())
     }
 
-    /// Declares a link from port `m` of switch `a` to port `n` of switch `b`.
+    /// Declares a link from port `m` of switch `a` to port `n` of switch `b`. It is refused, and nothing changes, for the
+    /// first of these reasons that holds: the source is no declared port; the target is none; a link begins at the source
+    /// already; one ends at the target already.
     pub fn add_link(&mut self, a: u16, m: u16, b: u16, n: u16) -> Result<(), TopoError>
         ensures added { OnOk result (self.new ≡ with_link self.old (link_of (a, m, b, n))) }
         ensures answer { Returns result (link_answer self.old (link_of (a, m, b, n))) }
@@ -229,7 +231,7 @@ impl Topo {
         Ok(())
     }
 
-    /// The same topology once more.
+    /// A copy of the topology. The only error is that memory ran out.
     pub fn copy(&self) -> Result<Topo, AllocError>
         ensures { IfOk result (λ t. t ≡ self.now) }
     {

@@ -19,7 +19,7 @@ impl Model for Bytes {
 }
 
 impl Bytes {
-    /// The bytes of a text.
+    /// A copy of a text's bytes. The only error is that memory ran out.
     pub fn of_text(alloc: Global, text: &str) -> Result<Bytes, AllocError>
         ensures { IfOk result (λ b. b ≡ text.now) }
     {

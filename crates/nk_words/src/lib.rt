@@ -1,4 +1,4 @@
-//! The words of the command line, as commands.
+//! The words of the command line, read as commands.
 #![tactic(auto)]
 
 mod bytes;

@@ -22,27 +22,30 @@ use thiserror::Error;
 pub enum Command {
     /// `compile NAME`: the table of every switch for the policy of this name.
     Compile(Bytes),
-    /// `trace HOPS PACKET`: the histories with which the packet leaves after at most so many link crossings, from
-    /// 0 to 65535. The packet is a text as `sw=1,pt=2,dst=3`.
+    /// `trace HOPS PACKET`: the histories with which the packet leaves after at most so many link crossings, from 0 to
+    /// 65535. The packet is a text such as `sw=1,pt=2,dst=3`.
     Trace(u64, Bytes),
     /// `equal LEFT RIGHT`: whether the policies of these names do the same.
     Equal(Bytes, Bytes),
-    /// `check LEFT RIGHT`: what is found of a certificate that the policies of these names do the same.
+    /// `check LEFT RIGHT`: whether a certificate shows that the policies of these names do the same.
     Check(Bytes, Bytes),
-    /// `fly SEED STEPS PACKET`: what leaves when the switches take turns as draws from the seed, 1 to 2147483646, say, for so
-    /// many steps, 0 to 1000000. The packet is a text as `sw=1,pt=2,dst=3`.
+    /// `fly SEED STEPS PACKET`: what has left after so many turns of the switches, 0 to 1000000, whose order is drawn
+    /// from the seed, 1 to 2147483646. The packet is a text such as `sw=1,pt=2,dst=3`.
     Fly(u64, u64, Bytes),
-    /// `apart NAME A B`: whether no history of the policy leads from a packet of A to one of B.
+    /// `apart NAME A B`: whether no history of the policy leads from a packet of predicate A to one of B.
     Apart(Bytes, Bytes, Bytes),
-    /// `waypoint NAME A W B`: whether each history of the policy that does has a packet of W.
+    /// `waypoint NAME A W B`: whether each history of the policy that leads from a packet of A to one of B has a packet
+    /// of W.
     Waypoint(Bytes, Bytes, Bytes, Bytes),
-    /// `check_apart NAME A B`: what is found of a certificate that no history of the policy does.
+    /// `check_apart NAME A B`: whether a certificate shows what `apart` asks.
     CheckApart(Bytes, Bytes, Bytes),
-    /// `check_waypoint NAME A W B`: what is found of a certificate that each history of the policy that does has a packet of W.
+    /// `check_waypoint NAME A W B`: whether a certificate shows what `waypoint` asks.
     CheckWaypoint(Bytes, Bytes, Bytes, Bytes),
-    /// `gen SIZE SEED`: the text of a program over so many switches, 2 to 1000, made by the draws behind the seed, 1 to 2147483646.
+    /// `gen SIZE SEED`: the text of a program with so many switches, 2 to 1000, made by draws from the seed, 1 to
+    /// 2147483646.
     Gen(u64, u64),
-    /// `job SIZE SEED`: what is counted of that program's tables, and of the certificate that two of its policies do the same.
+    /// `job SIZE SEED`: the counts of what belongs to that program's tables, and to the certificate that two of its
+    /// policies do the same.
     Job(u64, u64),
 }
 
