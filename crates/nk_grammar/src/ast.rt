@@ -1,4 +1,4 @@
-//! The syntax trees of policies, with a line for each name, number and `~`.
+//! The syntax trees of policies, with the line of each name, number and `~`.
 ghost use Rattle.std.specs.Prelude.{◌≡◌};
 
 use nk_lex::{Number, Word};
@@ -15,7 +15,7 @@ pub struct Asts {
 #[derive(Drop)]
 #[cycle(ast)]
 pub enum Ast {
-    /// A name alone, which is a `let`'s.
+    /// A name alone: that of a policy that a `let` declares.
     Name(Word),
     /// `NAME = NUMBER`.
     Test(Word, Number),
@@ -27,9 +27,9 @@ pub enum Ast {
     Sum(Asts),
     /// Several factors, or none, which is `id`.
     Seq(Asts),
-    /// `~ atom`, with the line of the `~`.
+    /// `~` over an atom, with the line of the `~`.
     Not(Box<Ast>, u64),
-    /// A factor and a run of `*`.
+    /// An atom with one `*` behind it, or several.
     Star(Box<Ast>),
     /// `dup`.
     Dup,
@@ -38,7 +38,7 @@ pub enum Ast {
 }
 
 impl Asts {
-    /// The parts as a list, from a vector.
+    /// The parts in the order of the vector.
     pub fn new(items: Vec<Ast>) -> Asts
         ensures { result.items ≡ items }
     {

@@ -55,7 +55,7 @@ pub fn sequence(items: Vec<Ast>) -> Ast
     }
 }
 
-/// One more part behind the others.
+/// Puts one more part behind the others. The only error is that memory ran out.
 #[tactic(auto, using(crate::proofs::Trees::trees_push))]
 pub fn push(items: &mut Vec<Ast>, item: Ast) -> Result<(), AllocError>
     ensures { OnOk result (trees_of items.new.items ≡ with_part (trees_of items.old.items)
@@ -65,7 +65,8 @@ pub fn push(items: &mut Vec<Ast>, item: Ast) -> Result<(), AllocError>
     Ok(())
 }
 
-/// The policy whose terms but the last, and whose last term's factors, are these.
+/// The policy of some terms and one more, the last, which is given by its factors. The only error
+/// is that memory ran out.
 pub fn join(terms: Vec<Ast>, factors: Vec<Ast>) -> Result<Ast, AllocError>
     ensures { IfOk result (λ t. tree_of t ≡ joined (trees_of terms.items) (trees_of factors.items)) }
 {
@@ -74,7 +75,8 @@ pub fn join(terms: Vec<Ast>, factors: Vec<Ast>) -> Result<Ast, AllocError>
     Ok(sum(terms))
 }
 
-/// The last of some factors with a star.
+/// Puts a star over the last of some factors; nothing where there is none. The only error is that
+/// memory ran out.
 #[tactic(auto, using(crate::proofs::Trees::trees_push, crate::proofs::Spelled::star_last))]
 pub fn star_on_last(alloc: Global, factors: &mut Vec<Ast>) -> Result<(), AllocError>
     ensures { OnOk result (trees_of factors.new.items ≡ with_star (trees_of factors.old.items)) }

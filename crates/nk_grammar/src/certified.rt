@@ -54,10 +54,10 @@ use nk_lex::{Kind, Token};
 use std::alloc::{AllocError, AllocFailed, Global};
 use std::mem::replace;
 
-/// What stands before the next token.
+/// What has been read before the next token.
 #[derive(Drop)]
 pub enum CertifiedStage {
-    /// No `certificate` so far.
+    /// The word `certificate` hasn't come yet.
     Declaring,
     /// The start row is wanted.
     RowWanted,
@@ -70,8 +70,8 @@ pub enum CertifiedStage {
     InRow(u64, Vec<u64>),
 }
 
-/// A text that is read: its declarations, and behind them the rows of its certificate. After a fault
-/// nothing is said of it.
+/// Reads a text and the certificate behind it, token by token: its declarations, then the rows. After a fault
+/// nothing is said of its state.
 #[derive(Drop)]
 pub struct CertifiedReader {
     stage: CertifiedStage,
@@ -248,7 +248,7 @@ impl CertifiedReader {
         }
     }
 
-    /// One more token.
+    /// Reads one more token. An error is the first fault of the tokens so far, or that memory ran out.
     pub fn take(&mut self, alloc: Global, token: &Token) -> Result<(), GrammarError>
         requires shallow { open_certified (certifying_of self.old) ≤ 256 }
         ensures { Returns (λ _. certifying_of self.new) result
@@ -282,7 +282,8 @@ impl CertifiedReader {
         }
     }
 
-    /// The end, `line` being the last token's.
+    /// Ends the text; `line` is that of the last token. `Unexpected` comes where the tokens so far are no
+    /// text with a certificate.
     pub fn end(&mut self, alloc: Global, line: u64) -> Result<(), GrammarError>
         ensures { Returns (λ _. certified (declarations_in self.new.reader) (rows_in self.new)) result
             (certified_end_at line (certified_at_end (certifying_of self.old))) }
@@ -323,9 +324,11 @@ fn read_certified(alloc: Global, tokens: &[Token]) -> Result<File, GrammarError>
 }
 
 /// The declarations of a text's tokens and the rows of the certificate behind them, the start row first.
-/// `Unexpected` is answered at the first token that no text with a certificate goes on with, or at the end of
-/// tokens that are the front of such a text and none, with the line of the last token, or 1; `TooDeep` at the
-/// first token that opens one parenthesis or `~` more than 256, where a text goes on with it.
+///
+/// The first fault is answered. `Unexpected` comes at the first token with which no text with a certificate
+/// can continue, or, where the tokens end too early, with the line of the last token, 1 without tokens.
+/// `TooDeep` comes at the first token that opens a 257th parenthesis or `~`, where a text could continue with
+/// it.
 #[tactic(auto, using(crate::proofs::WrittenRows::declarations_written, crate::proofs::WrittenRows::rows_written))]
 pub fn file_with_certificate(alloc: Global, tokens: &[Token]) -> Result<File, GrammarError>
     ensures read { Returns (λ f. certified (map declaration_of f.decls) (map row_value f.rows)) result

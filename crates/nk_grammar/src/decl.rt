@@ -27,9 +27,9 @@ pub enum Decl {
 /// A row of a certificate, with the line of the word `row`.
 #[derive(Drop)]
 pub struct CertRow {
-    /// The positions: none in the start row, else at least one.
+    /// The numbers before the colon: none in the start row, else at least one.
     pub positions: List<u64>,
-    /// What is written as the row's predicate.
+    /// The policy that is written behind the colon, to be read as a predicate.
     pub pred: Ast,
     /// The line of the word `row`.
     pub line: u64,
@@ -44,7 +44,7 @@ pub struct File {
     pub rows: List<CertRow>,
 }
 
-/// What stands before the next token of a text.
+/// What has been read before the next token of a text.
 #[derive(Drop)]
 pub enum Stage {
     /// A declaration is wanted, or the end.
@@ -54,9 +54,9 @@ pub enum Stage {
     Tag,
     Switch,
     SwitchNumbered(Number),
-    /// A port is wanted.
+    /// The number of a port is wanted.
     Ports(Number, Vec<Number>),
-    /// A port stands there.
+    /// The number of a port was read.
     PortRead(Number, Vec<Number>),
     Link(Quad),
     Let(u64),
@@ -71,16 +71,17 @@ pub enum GrammarError {
     /// Memory ran out.
     #[error("no memory")]
     NoMemory,
-    /// No text goes on with this token, or none ends with the last one.
+    /// No text can continue with this token, or the tokens end where no text can end.
     #[error("line {line}: unexpected")]
     Unexpected {
-        /// The line of the token, or of the last token where the tokens end, or 1 without tokens.
+        /// The line of the token; where the tokens end too early, that of the last one, or 1
+        /// without tokens.
         line: u64,
     },
-    /// More than 256 parentheses and `~` are open.
+    /// More than 256 parentheses and `~` would be open at once.
     #[error("line {line}: too deep")]
     TooDeep {
-        /// The line of the token that opens one more than 256.
+        /// The line of the token that would open the 257th.
         line: u64,
     },
 }

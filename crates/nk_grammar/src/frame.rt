@@ -10,7 +10,7 @@ ghost use Rattle.nk_grammar.specs.Reader.{
 
 use crate::ast::Ast;
 
-/// A parenthesis with the terms and factors before it, or a `~` with its line.
+/// An open parenthesis with the terms and factors before it, or an open `~` with its line.
 #[derive(Drop)]
 pub enum Frame {
     Group(Vec<Ast>, Vec<Ast>),
@@ -21,9 +21,9 @@ pub enum Frame {
 #[derive(Clone, Copy, Debug, PartialEq, Eq)]
 pub enum Took {
     Taken,
-    /// No policy goes on with it.
+    /// No policy can continue with it.
     Refused,
-    /// It opens one more than 256.
+    /// It would open a 257th parenthesis or `~`.
     TooDeep,
 }
 
@@ -47,7 +47,8 @@ fn top_negation(frames: &[Frame]) -> Option<u64>
     }
 }
 
-/// The line of the innermost `~`, which is closed, if one is the innermost that is open.
+/// Closes the innermost of what is open where that is a `~`, and gives its line; else nothing
+/// changes.
 pub fn pop_negation(frames: &mut Vec<Frame>) -> Option<u64>
     ensures { PopsNegation result (stack_of frames.old.items) (stack_of frames.new.items) }
 {

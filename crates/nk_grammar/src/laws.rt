@@ -1,4 +1,4 @@
-//! What reading token by token has to do with the grammar.
+//! Laws of reading token by token: it reads the grammar's texts, and no others.
 ghost use Rattle.nk_grammar.specs.Machine.{
   ReadsPolicies,
   ReadsOnlyPolicies,
@@ -28,12 +28,12 @@ pub fn policies_are_read()
     ensures { ReadsPolicies }
 {}
 
-/// What is read as a policy is one.
+/// Only the tokens of a policy are read as one.
 pub fn what_is_read_is_a_policy()
     ensures { ReadsOnlyPolicies }
 {}
 
-/// Tokens that are taken are the front of a policy.
+/// Tokens that are accepted are the front of a policy.
 pub fn what_is_taken_goes_on()
     ensures { TakesFronts }
 {}
@@ -43,12 +43,12 @@ pub fn what_is_refused_goes_nowhere()
     ensures { RefusesOthers }
 {}
 
-/// The tokens of a text give its declarations, so they are those of no other text.
+/// The tokens of a text give its declarations; so no other text has these tokens.
 pub fn texts_are_read()
     ensures { ReadsTexts }
 {}
 
-/// What reading a text's tokens answers is its declarations, or its first fault.
+/// Reading a text's tokens answers its declarations, or its first fault.
 pub fn texts_are_answered()
     ensures { AnswersTexts }
 {}
@@ -58,7 +58,7 @@ pub fn a_text_has_one_tree()
     ensures { IsUnique }
 {}
 
-/// What reading the tokens of a text with a certificate answers is its declarations and rows, or its first fault.
+/// Reading the tokens of a text with a certificate answers its declarations and rows, or its first fault.
 pub fn certified_texts_are_answered()
     ensures { AnswersCertifiedTexts }
 {}
@@ -73,26 +73,26 @@ pub fn certificates_are_read()
     ensures { ReadsCertificates }
 {}
 
-/// The text of a certificate, each row on a line of its own, in which no more than 256 are open at once in a row, is cut into
-/// tokens that give its rows.
+/// The text of a certificate with each row on a line of its own, in which at most 256 parentheses and `~` are open at
+/// once, is cut into tokens that give its rows.
 pub fn certificate_texts_are_read()
     ensures { ReadsCertificateTexts }
 {
     a_text_of_lexemes_is_cut_into_them();
 }
 
-/// The tokens of a program are that program in front of the tokens of a certificate.
+/// A text's declarations stay the same with the tokens of a certificate behind them.
 pub fn a_program_stays_in_front_of_its_certificate()
     ensures { StaysInFront }
 {}
 
-/// The tokens of a certificate on later lines are those of the same rows on later lines.
+/// The tokens of a certificate, moved to later lines, give the same rows on later lines.
 pub fn certificates_are_moved()
     ensures { CertificatesMove }
 {}
 
-/// The text of a program, a line feed and the text of a certificate are the text of that program with that
-/// certificate, its lines moved on by those of the program's text.
+/// The text of a program, a line feed and the text of a certificate give that program's declarations and that
+/// certificate's rows, with the lines of the rows counted from the top of the program.
 pub fn a_program_and_a_certificate_are_read_together()
     ensures { ReadsTogether }
 {
@@ -111,7 +111,7 @@ pub fn let_texts_are_read()
     a_text_of_lexemes_is_cut_into_them();
 }
 
-/// What a text declares as a field has a name that is one and no keyword, and a maximum that is at most the largest number.
+/// Each field that a text declares has a valid name that is no keyword, and a largest value that a number can write.
 pub fn fields_of_texts_have_names()
     ensures { DeclaresFields }
 {

@@ -19,9 +19,9 @@
 //!
 //! `file` reads texts without a certificate, `file_with_certificate` those with one.
 //!
-//! One term alone is that term, several are one sum, and the same of factors and sequences. A run of
-//! `*` behind one atom is one star. Parentheses leave no trace of their own. `(` and `~` are open until
-//! the parenthesis or the atom ends, and no more than 256 may be open.
+//! Several terms are one sum, and several factors one sequence; a single one is only itself. Several
+//! `*` behind one atom are one star. Parentheses have no node of their own in the tree. A `(` is open
+//! until its `)`, and a `~` until the end of its atom; no more than 256 may be open at once.
 #![tactic(auto)]
 
 mod ast;

@@ -8,7 +8,7 @@ use crate::place::{Quad, QuadNext};
 use nk_lex::{Kind, Number, Token, Word, word_of};
 use std::alloc::{AllocError, Global};
 
-/// The number that a token is.
+/// The number that a token is, if it is one.
 pub fn number_of(token: &Token) -> Option<Number>
     ensures { result ≡ number_in (terminal_of token.now) }
 {
@@ -21,7 +21,7 @@ pub fn number_of(token: &Token) -> Option<Number>
     }
 }
 
-/// The sign `..`.
+/// Whether the token is the sign `..`.
 pub fn is_dots_token(token: &Token) -> bool
     ensures { result ≡ is_dots (terminal_of token.now) }
 {
@@ -51,7 +51,7 @@ fn is_between_token(literal: bool, token: &Token) -> bool
     }
 }
 
-/// The name that a token is.
+/// The name that a token is, if it is one. The only error is that memory ran out.
 pub fn name_of(alloc: Global, token: &Token) -> Result<Option<Word>, AllocError>
     ensures { IfOk result (λ o. o ≡ name_in (terminal_of token.now)) }
 {
@@ -61,7 +61,8 @@ pub fn name_of(alloc: Global, token: &Token) -> Result<Option<Word>, AllocError>
     }
 }
 
-/// One more token of a link.
+/// What one more token makes of a link: `=>` stands between its ends in a literal, `->` in a
+/// declaration.
 pub fn quad_after(literal: bool, quad: Quad, token: &Token) -> QuadNext
     ensures { result ≡ quad_step literal quad (terminal_of token.now) }
 {

@@ -1,7 +1,7 @@
 //! What may come next in a policy.
 use nk_lex::{Number, Word};
 
-/// How much of `NUMBER : NUMBER => NUMBER : NUMBER` stands there.
+/// How much of `NUMBER : NUMBER => NUMBER : NUMBER` has been read.
 #[derive(Clone, Copy, Debug, PartialEq, Eq)]
 pub enum Quad {
     /// Nothing yet.
@@ -20,18 +20,18 @@ pub enum Quad {
     ToColon(Number, Number, Number),
 }
 
-/// A token read behind a part of a link.
+/// What one more token makes of a part of a link.
 #[derive(Clone, Copy, Debug, PartialEq, Eq)]
 pub enum QuadNext {
-    /// No link goes on with it.
+    /// No link can continue with it.
     Refused,
-    /// The link goes on.
+    /// The link isn't complete yet.
     Going(Quad),
-    /// The link is whole.
+    /// The link is complete: switch and port of the source, then of the target.
     Full(Number, Number, Number, Number),
 }
 
-/// What stands before the next token of a policy.
+/// What has been read before the next token of a policy.
 #[derive(Drop)]
 pub enum Place {
     /// An atom is wanted.

@@ -53,8 +53,8 @@ use std::mem::replace;
 /// How many parentheses and `~` may be open.
 const DEEPEST: usize = 256;
 
-/// A policy that is read: what may come next, what is open, the innermost last, and the terms and
-/// factors that are done.
+/// Reads a policy token by token. It keeps what may come next, what is open, the innermost last,
+/// and the terms and factors that are complete.
 #[derive(Drop)]
 pub struct PolicyReader {
     place: Place,
@@ -261,7 +261,7 @@ impl PolicyReader {
         }
     }
 
-    /// One more token.
+    /// Reads one more token and says what became of it. The only error is that memory ran out.
     pub fn take(&mut self, alloc: Global, token: &Token) -> Result<Took, AllocError>
         ensures state { Follows result (step (reader_state self.old) (terminal_of token.now))
             (reader_state self.new) }
@@ -318,7 +318,7 @@ impl PolicyReader {
         }
     }
 
-    /// The policy, if it may end here.
+    /// The policy, if one can end here. The only error is that memory ran out.
     pub fn end(&mut self, alloc: Global) -> Result<Option<Ast>, AllocError>
         ensures { IfOk result (λ o. option_map tree_of o ≡ ended (reader_state self.old)) }
     {

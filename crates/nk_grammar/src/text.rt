@@ -68,8 +68,8 @@ use nk_lex::{Kind, Number, Token, Word};
 use std::alloc::{AllocError, AllocFailed, Global};
 use std::mem::replace;
 
-/// A text that is read: what may come next, the policy that is read, and the declarations that are
-/// done. After a fault nothing is said of it.
+/// Reads a text token by token. It keeps what may come next, the policy that is being read, and the declarations
+/// that are complete. After a fault nothing is said of its state.
 #[derive(Drop)]
 pub struct Reader {
     stage: Stage,
@@ -283,7 +283,7 @@ impl Reader {
         }
     }
 
-    /// One more token.
+    /// Reads one more token. An error is the first fault of the tokens so far, or that memory ran out.
     pub fn take(&mut self, alloc: Global, token: &Token) -> Result<(), GrammarError>
         requires shallow { open_count (reading_of self.old) ≤ 256 }
         ensures { Returns (λ _. reading_of self.new) result
@@ -317,14 +317,14 @@ impl Reader {
         }
     }
 
-    /// The declarations that are done.
+    /// The declarations that are complete.
     pub fn into_decls(self) -> Vec<Decl>
         ensures { result ≡ self.decls }
     {
         self.decls
     }
 
-    /// The end, `line` being the last token's.
+    /// Ends the text; `line` is that of the last token. `Unexpected` comes where the tokens so far are no text.
     pub fn end(&mut self, alloc: Global, line: u64) -> Result<(), GrammarError>
         ensures { Returns (λ _. declarations_in self.new) result
             (ended_at line (declarations_at_end (reading_of self.old))) }
@@ -362,10 +362,11 @@ fn read_file(alloc: Global, tokens: &[Token]) -> Result<File, GrammarError>
     })
 }
 
-/// The declarations of a text's tokens, in order, and no row. `Unexpected` is answered at the first token that no
-/// text goes on with, or at the end of tokens that are the front of a text and no text, with the line
-/// of the last token, or 1; `TooDeep` at the first token that opens one parenthesis or `~` more than
-/// 256, where a text goes on with it.
+/// The declarations of a text's tokens, in order; there are no rows.
+///
+/// The first fault is answered. `Unexpected` comes at the first token with which no text can continue, or, where
+/// the tokens end too early, with the line of the last token, 1 without tokens. `TooDeep` comes at the first
+/// token that opens a 257th parenthesis or `~`, where a text could continue with it.
 #[tactic(auto, using(crate::proofs::Written::written_of))]
 pub fn file(alloc: Global, tokens: &[Token]) -> Result<File, GrammarError>
     ensures read { Returns (λ f. map declaration_of f.decls) result (file_of tokens.now) }

@@ -6,7 +6,7 @@ use nk_field::List;
 use std::alloc::{AllocError, Global};
 
 impl Bucket {
-    /// The same bucket once more.
+    /// A copy of the bucket. The only error is that memory ran out.
     pub fn copy(&self) -> Result<Bucket, AllocError>
         ensures { IfOk result (λ b. b ≡ self.now) }
     {
@@ -19,7 +19,7 @@ impl Bucket {
 }
 
 impl Target {
-    /// The same target once more.
+    /// A copy of the target. The only error is that memory ran out.
     pub fn copy(&self) -> Result<Target, AllocError>
         ensures { IfOk result (λ t. t ≡ self.now) }
     {
@@ -32,7 +32,7 @@ impl Target {
 }
 
 impl Row {
-    /// The same row once more.
+    /// A copy of the row. The only error is that memory ran out.
     pub fn copy(&self) -> Result<Row, AllocError>
         ensures { IfOk result (λ r. r ≡ self.now) }
     {
@@ -47,7 +47,7 @@ impl Row {
 }
 
 impl Group {
-    /// The same group once more.
+    /// A copy of the group. The only error is that memory ran out.
     pub fn copy(&self) -> Result<Group, AllocError>
         ensures { IfOk result (λ g. g ≡ self.now) }
     {
@@ -60,7 +60,7 @@ impl Group {
 }
 
 impl Table {
-    /// The same table once more.
+    /// A copy of the table. The only error is that memory ran out.
     pub fn copy(&self) -> Result<Table, AllocError>
         ensures { IfOk result (λ t. t ≡ self.now) }
     {
@@ -75,7 +75,7 @@ impl Table {
 }
 
 impl Tables {
-    /// The same tables once more.
+    /// A copy of the tables. The only error is that memory ran out.
     pub fn copy(&self) -> Result<Tables, AllocError>
         ensures { IfOk result (λ t. t ≡ self.now) }
     {
@@ -123,7 +123,7 @@ fn rows(alloc: Global, all: &[Row]) -> Result<List<Row>, AllocError>
     Ok(copies)
 }
 
-/// The same tables once more.
+/// A copy of the tables. The only error is that memory ran out.
 fn tables(alloc: Global, all: &[Table]) -> Result<List<Table>, AllocError>
     ensures { IfOk result (λ l. l ≡ all.now) }
 {

@@ -5,7 +5,8 @@ ghost use Rattle.nk_table.specs.declared.Tables.{Tables};
 ghost use Rattle.nk_table.specs.Hops.{Copy, waiting, left_after, behind};
 ghost use Rattle.nk_table.specs.Worked.{CrossesOnce, TiesDrop, SendsToAnotherPort, GroupsCopy, PrefixesMatch};
 
-/// k + 1 crossings are one and then k, as lists in order.
+/// What waits or has left after k + 1 crossings is what one crossing leads to, followed by k more,
+/// as lists in order.
 pub fn the_first_crossing()
     ensures waiting { (t : Tables) (k : ℕ) (pk : List ℕ) → waiting t (suc k) pk
         ≡ flat_map (λ (c : Copy). map (behind c.records) (waiting t k c.packet)) (waiting t 1 pk) }
@@ -13,7 +14,7 @@ pub fn the_first_crossing()
         ≡ flat_map (λ (c : Copy). map (behind c.records) (left_after t k c.packet)) (waiting t 1 pk) }
 {}
 
-/// What tables do that are worked by hand: a crossing, a tie, exits, a group and prefixes.
+/// What small tables do, worked out by hand: a crossing, a tie, exits, a group and prefixes.
 pub fn worked_tables()
     ensures crossing { CrossesOnce }
     ensures ties { TiesDrop }

@@ -1,4 +1,4 @@
-//! Tables as values: rows, buckets and groups of each switch, and which row acts on a packet.
+//! The tables of OpenFlow 1.3 switches as values: rows, buckets and groups, and which row acts on a packet.
 #![tactic(auto)]
 
 mod copies;
@@ -27,7 +27,7 @@ pub struct Bucket {
     pub exit: Exit,
 }
 
-/// What a row does.
+/// What a row does with a packet.
 #[derive(Drop)]
 pub enum Target {
     /// One bucket.
@@ -41,24 +41,24 @@ pub enum Target {
 /// A row of a table.
 #[derive(Drop)]
 pub struct Row {
-    /// The higher one of two rows that match acts.
+    /// Of the rows that match a packet, the one with the highest priority acts.
     pub priority: u16,
-    /// The field, a value and a length: the first `length` digits of a packet's value there must be the value's. A length
-    /// of all the field's digits is the exact value.
+    /// Each a field, a value and a length: the first `length` binary digits of the packet's value must be those of the
+    /// value. A length of all the field's digits asks for exactly the value.
     pub matches: List<(Fid, u64, u8)>,
     /// What the row does.
     pub target: Target,
 }
 
-/// A row with its whole bucket list.
+/// A row that lists its buckets in place of a group's number.
 #[derive(Drop)]
 pub struct Plain {
-    /// The higher one of two rows that match acts.
+    /// Of the rows that match a packet, the one with the highest priority acts.
     pub priority: u16,
-    /// The field, a value and a length: the first `length` digits of a packet's value there must be the value's. A length
-    /// of all the field's digits is the exact value.
+    /// Each a field, a value and a length: the first `length` binary digits of the packet's value must be those of the
+    /// value. A length of all the field's digits asks for exactly the value.
     pub matches: List<(Fid, u64, u8)>,
-    /// The buckets, none to drop the packet.
+    /// The buckets, each on a copy of its own; none drops the packet.
     pub buckets: List<Bucket>,
 }
 

@@ -71,7 +71,7 @@ fn agrees_at(fields: &Fields, at: &(Fid, u64, u8), p: &Packet) -> bool
     nk_prefix::agrees(value, len.min(digits), digits, p.get(f))
 }
 
-/// How many binary digits the largest value of a field has; of no field, those of 0.
+/// How many binary digits the largest value of a field has, 1 to 64; 1 for a number that no field has.
 pub fn digits_at(fields: &Fields, f: Fid) -> u8
     ensures is { result ≡ prefix.digits_of (slice_index fields.now.maxima f) }
     ensures small { result ≤ 64 }
