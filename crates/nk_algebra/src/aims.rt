@@ -39,7 +39,7 @@ fn outs_to(alloc: Global, target: u64, outs: &[Out]) -> Result<List<Out>, AllocE
     Ok(all)
 }
 
-/// The diagram with one target for all.
+/// The diagram with all of its targets replaced by one.
 pub fn aim(st: &mut Store, d: Id, target: u64) -> Result<Id, AllocError>
     requires { IsId st.old d }
     ensures grows { Grows st.old st.new }
@@ -50,7 +50,7 @@ pub fn aim(st: &mut Store, d: Id, target: u64) -> Result<Id, AllocError>
     map_leaves(st, &ToTarget { target }, d)
 }
 
-/// The assignment of a value to a field.
+/// The diagram that assigns a value in range to a field, and sends the packet to target 0.
 pub fn assign(st: &mut Store, f: Fid, n: u64) -> Result<Id, AllocError>
     requires field { f < 18 }
     requires within { n ≤ slice_index st.old.maxes f }

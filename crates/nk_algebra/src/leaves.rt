@@ -177,7 +177,7 @@ pub(crate) fn union_later(st: &mut Store, a: Id, b: Id) -> Result<Id, AllocError
     merge(st, &Together, a, b)
 }
 
-/// The diagram's leaf where the predicate holds, else none.
+/// The diagram `d` where the predicate holds; elsewhere it drops the packet.
 pub fn both(st: &mut Store, pred: Id, d: Id) -> Result<Id, AllocError>
     requires pred { IsId st.old pred }
     requires right { IsId st.old d }
@@ -189,7 +189,7 @@ pub fn both(st: &mut Store, pred: Id, d: Id) -> Result<Id, AllocError>
     merge(st, &Guard, pred, d)
 }
 
-/// The packets where the predicate doesn't hold.
+/// The predicate that holds exactly where this one doesn't.
 pub fn negate(st: &mut Store, pred: Id) -> Result<Id, AllocError>
     requires { IsId st.old pred }
     ensures grows { Grows st.old st.new }

@@ -1,4 +1,5 @@
-//! Operations on diagrams.
+//! Operations on diagrams of one store. Each adds what nodes it needs and changes none, also where
+//! it fails; its only error is that memory ran out.
 #![tactic(auto)]
 
 mod aims;

@@ -9,7 +9,7 @@ use nk_field::{List, PLACES};
 use nk_store::{Id, Node, Out, Store};
 use std::alloc::{AllocError, Global};
 
-/// What is made of a leaf.
+/// A change of leaves: what is made of each leaf of a diagram.
 pub trait LeafMap {
     ghost mapped: { Self → Items Out → Items Out };
 

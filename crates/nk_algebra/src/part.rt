@@ -7,7 +7,7 @@ ghost use Rattle.nk_algebra.specs.Subs.{found_in, IsPart, IsSplit};
 use nk_field::Fid;
 use nk_store::{Id, Node, Store};
 
-/// The field that a diagram tests first.
+/// The field that a diagram tests first; `None` for a leaf.
 pub fn tested(st: &Store, a: Id) -> Option<Fid>
     requires { IsId st.now a }
     ensures { MatchOption result (top st.now a ≡ 18) (λ f. (f < 18) × (top st.now a ≡ f) × IsSplit st.now f a) }
@@ -18,7 +18,8 @@ pub fn tested(st: &Store, a: Id) -> Option<Fid>
     }
 }
 
-/// What the diagram is at a value of the field: up to which value, and which diagram.
+/// Which diagram it is at a value of the field, and up to which value that stays so: the last such value, then the
+/// diagram.
 pub fn part_at(st: &Store, d: Id, f: Fid, v: u64) -> (u64, Id)
     requires id { IsId st.now d }
     requires first { f ≤ top st.now d }
@@ -30,8 +31,8 @@ pub fn part_at(st: &Store, d: Id, f: Fid, v: u64) -> (u64, Id)
     part_near(st, d, f, v, &mut near)
 }
 
-/// What the diagram is at a value of the field, as `part_at` says it. The place near which it is found first is kept for the
-/// next value: values that rise are found in steps, wherever they are.
+/// The same as `part_at`. The search begins at the place `near` and leaves there the place that it found, so values that
+/// rise are found in few steps.
 pub fn part_near(st: &Store, d: Id, f: Fid, v: u64, near: &mut usize) -> (u64, Id)
     requires id { IsId st.now d }
     requires first { f ≤ top st.now d }

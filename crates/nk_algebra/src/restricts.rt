@@ -9,7 +9,7 @@ use nk_field::Fid;
 use nk_store::{Id, Store};
 use std::alloc::AllocError;
 
-/// The diagram with the field at that value.
+/// The diagram that gives each packet the leaf that `d` gives it with the field set to `n`.
 pub fn restrict(st: &mut Store, d: Id, f: Fid, n: u64) -> Result<Id, AllocError>
     requires id { IsId st.old d }
     requires field { f < 18 }

@@ -95,8 +95,8 @@ pub fn put_after(st: &mut Store, d: Id, act: &Act) -> Result<Id, AllocError>
     map_leaves(st, &Prefix { act }, d)
 }
 
-/// All that the second diagram makes of what the first one gives, whatever the first one's targets: each act of the
-/// first, then one of the second at the packet that it makes, to the second's target.
+/// The first diagram, then the second: each act of the first, whatever its target, followed by each act of the
+/// second at the packet that it makes, to the second's target.
 pub fn seq(st: &mut Store, a: Id, b: Id) -> Result<Id, AllocError>
     requires left { IsId st.old a }
     requires right { IsId st.old b }

@@ -10,7 +10,7 @@ use nk_field::{Fid, List};
 use nk_store::{Id, Store};
 use std::alloc::{AllocError, Global};
 
-/// One diagram for the values from lo to hi, another one for the rest.
+/// The diagram `inside` where the field's value is from `lo` to `hi`, and `outside` elsewhere.
 pub fn span(
     st: &mut Store,
     f: Fid,
@@ -54,7 +54,7 @@ fn span_parts(
     Ok(parts)
 }
 
-/// The packet itself where the field has the value.
+/// The predicate that the field has this value.
 pub fn test(st: &mut Store, f: Fid, n: u64) -> Result<Id, AllocError>
     requires field { f < 18 }
     requires within { n ≤ slice_index st.old.maxes f }

@@ -11,7 +11,7 @@ use nk_field::{Fid, PLACES};
 use nk_store::{Id, Store};
 use std::alloc::AllocError;
 
-/// All leaves together.
+/// The diagram that gives each packet the outs of all of these diagrams.
 pub fn union_all(st: &mut Store, ds: &[Id]) -> Result<Id, AllocError>
     requires { AreIds st.old ds.now }
     ensures grows { Grows st.old st.new }

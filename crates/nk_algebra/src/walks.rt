@@ -13,8 +13,8 @@ use nk_store::{Id, Node, Store};
 use std::alloc::AllocError;
 use std::collections::HashMap;
 
-/// What is made of a diagram: at each packet something of the leaf that it has at a packet with the same values of the
-/// fields before one place. So these fields are kept, and what comes behind them is changed.
+/// A change of diagrams that keeps the fields before some place: what is made of a diagram at a packet comes from the
+/// leaf that it has at a packet with the same values of those fields.
 pub trait NodeMap {
     /// The packet whose leaf is taken.
     ghost taken: { Self → Items ℕ → Items ℕ };
@@ -142,7 +142,7 @@ fn walk_end<M: NodeMap>(
     Ok(r)
 }
 
-/// What a table has for a diagram.
+/// What a table has for a diagram, if anything.
 pub fn known(seen: &HashMap<Id, Id>, d: Id) -> Option<Id>
     ensures { result ≡ lookup (eqb d) seen.now.entries }
 {

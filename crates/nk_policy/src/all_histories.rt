@@ -9,6 +9,7 @@ use nk_field::{Act, Fid, History, List, Packet};
 use std::alloc::{AllocError, Global};
 
 /// All histories of the policy from a packet. A history that the policy gives in several ways may come several times.
+/// The only error is that memory ran out.
 pub fn histories(alloc: Global, p: &Pol, pk: &Packet) -> Result<Vec<History>, AllocError>
     requires flat { IsFlat (tree_of p.now) }
     ensures list { IfOk result (λ hs. hs.items ≡ histories_of (tree_of p.now) pk.now) }

@@ -35,7 +35,7 @@ pub fn runs_have_the_policys_dups()
     ensures rest { (p : Policy) (k l : ℕ) → has_dup (after p k) l ≡ true → has_dup p l ≡ true }
 {}
 
-/// A run that records x at dup l is a run so far to there, and then a run of what is left after the dup.
+/// A run that records x at dup l is a run so far that ends there, followed by a run of what is left after the dup.
 pub fn a_run_splits()
     ensures complete { (p : Policy) → HasDistinct p
         → (pk : Packet) (u : Marked) (x : Packet) (l : ℕ) (v : Marked) (y : Packet)
@@ -45,7 +45,7 @@ pub fn a_run_splits()
         → RecordsAt p pk (u ++ (x, l) ∷ v) y l' ↔ (RecordsAt p pk u x l × RecordsAt (after p l) x v y l') }
 {}
 
-/// A run of what is left after dup k splits in the same way, and what is left then is that of the whole policy.
+/// A run of what is left after dup k splits in the same way, and the second run is of what is left of the whole policy.
 pub fn a_rest_splits()
     ensures complete { (p : Policy) → HasDistinct p
         → (k : ℕ) (pk : Packet) (u : Marked) (x : Packet) (l : ℕ) (v : Marked) (y : Packet)
@@ -57,7 +57,8 @@ pub fn a_rest_splits()
         ↔ (RecordsAt (after p k) pk u x l × RecordsAt (after p l) x v y l') }
 {}
 
-/// First step: a run that records first x at dup l is a run so far to there, and then a run of what is left after l.
+/// First step: a run whose first record is x at dup l is a run so far to there, followed by a run of what is left after
+/// l.
 pub fn first_step()
     ensures complete { (p : Policy) → HasDistinct p
         → (pk x : Packet) (l : ℕ) (v : Marked) (y : Packet)
@@ -67,7 +68,8 @@ pub fn first_step()
         → RecordsAt p pk ((x, l) ∷ v) y l' ↔ (RecordsAt p pk [] x l × RecordsAt (after p l) x v y l') }
 {}
 
-/// Next step: from what is left after k, a run that records next y at l goes on as what is left of the policy after l.
+/// Next step: a run of what is left after k whose next record is y at l is a run so far to there, followed by a run of
+/// what is left of the policy after l.
 pub fn next_step()
     ensures complete { (p : Policy) → HasDistinct p
         → (k : ℕ) (x y : Packet) (l : ℕ) (v : Marked) (z : Packet)
@@ -78,8 +80,8 @@ pub fn next_step()
         ↔ (RecordsAt (after p k) x [] y l × RecordsAt (after p l) y v z l') }
 {}
 
-/// Last step: a run so far past (x, l) by one record is one to (x, l) and one step of what is left; and a complete run
-/// whose last record is (x, l) is one so far to there and an end of what is left without a record.
+/// Last step: a run so far that records one packet after (x, l) is one to (x, l), followed by one step of what is left
+/// after l; and a complete run whose last record is (x, l) is one so far to there, followed by an end without a record.
 pub fn last_step()
     ensures step { (p : Policy) → HasDistinct p
         → (pk : Packet) (u : Marked) (x : Packet) (l : ℕ) (y : Packet) (l' : ℕ)
@@ -103,7 +105,8 @@ pub fn a_run_goes_on_by_one()
         ↔ ((l : ℕ) × IsAt p pk (u ++ x ∷ []) l × Gives (after p l) x [] z) }
 {}
 
-/// The label set after one more record is that of what its members record next, and the policy ends where a member does.
+/// The label set after one more record has exactly the labels at which its members record next, and the policy ends
+/// where a member does.
 pub fn label_sets_follow()
     ensures next { (p : Policy) → HasDistinct p
         → (pk : Packet) (u : List Packet) (x y : Packet) (s next : List ℕ)
@@ -116,8 +119,8 @@ pub fn label_sets_follow()
         → Gives p pk (u ++ x ∷ []) z ↔ ((l : ℕ) × Contains s l × Gives (after p l) x [] z) }
 {}
 
-/// The set of positions after any records is the one to which stepping set by set from position 0 leads, and a policy
-/// gives a history exactly where some member of the set of its records ends there without a record.
+/// The set of positions after any records is the one to which stepping from position 0, set by set, leads; and a policy
+/// gives a history exactly where some member of the set of its records ends at its last packet without another record.
 pub fn one_policys_sets()
     ensures start { (p : Policy) (pk : Packet) → HasExactly (IsPosition p pk []) (0 ∷ []) }
     ensures next { (p : Policy) → IsNumbered p
@@ -237,8 +240,8 @@ pub fn written_out_links_keep()
     ensures dups { (p : Policy) (l : ℕ) → has_dup (without_links p) l ≡ has_dup p l }
 {}
 
-/// A policy over the fields sets them to values in range, and stays over them: numbered anew, with its link literals
-/// written out, and as what is left of it after a dup.
+/// A policy over the fields sets them to values in range, and is still over them when it is numbered anew, when its link
+/// literals are written out, and in what is left of it after a dup.
 pub fn policies_stay_over_fields()
     ensures in_range { (fields : FieldTable) (p : Policy) → IsOver fields p → IsInRange p fields }
     ensures numbered { (fields : FieldTable) (p : Policy) (n : ℕ)

@@ -7,7 +7,7 @@ use crate::policy::Pol;
 
 const LAST: u64 = u64::MAX;
 
-/// How many elements the tree has, at most the last u64.
+/// How many elements the tree has; the largest u64 where there are more.
 #[cycle(size)]
 #[tactic(auto, using(crate::proofs::Trees::tree_of_sum, crate::proofs::Trees::tree_of_seq))]
 pub fn size(p: &Pol) -> u64
@@ -32,7 +32,7 @@ fn sizes(ps: &[Pol]) -> u64
     total
 }
 
-/// The depth of the tree, at most the last u64: 1 for a leaf.
+/// The depth of the tree, 1 for a leaf; the largest u64 where it is deeper.
 #[cycle(depth)]
 #[tactic(auto, using(crate::proofs::Trees::tree_of_sum, crate::proofs::Trees::tree_of_seq))]
 pub fn depth(p: &Pol) -> u64
@@ -60,7 +60,7 @@ fn deepest(ps: &[Pol]) -> u64
     most
 }
 
-/// How many dups it has, a link counting two, at most the last u64.
+/// How many dups it has, a link counting as two; the largest u64 where there are more.
 #[cycle(dups)]
 #[tactic(auto, using(crate::proofs::Trees::tree_of_sum, crate::proofs::Trees::tree_of_seq))]
 pub fn dups(p: &Pol) -> u64
@@ -86,7 +86,8 @@ fn dups_all(ps: &[Pol]) -> u64
     total
 }
 
-/// Whether it has tests, ranges, sums, sequences and complements alone.
+/// Whether it is a predicate: made of tests, ranges, sums, sequences and complements of predicates
+/// alone.
 #[cycle(is_predicate)]
 #[tactic(auto, using(crate::proofs::Trees::tree_of_sum, crate::proofs::Trees::tree_of_seq))]
 pub fn is_predicate(p: &Pol) -> bool

@@ -20,13 +20,13 @@ pub enum Pol {
     Range(Fid, u64, u64),
     /// Sets the field to the value.
     Set(Fid, u64),
-    /// All that the parts give.
+    /// All that any of the parts gives.
     Sum(Pols),
-    /// The parts in turn.
+    /// The parts one after another.
     Seq(Pols),
     /// Keeps the packet exactly where the predicate doesn't.
     Not(Box<Pol>),
-    /// All that any number of rounds gives.
+    /// All that any number of rounds gives, 0 rounds too.
     Star(Box<Pol>),
     /// Records the packet; the number tells the dups of one policy apart.
     Dup(u32),

@@ -7,7 +7,8 @@ use crate::policy::{Pol, Pols};
 use nk_field::Fid;
 use std::alloc::{AllocError, Global};
 
-/// The same policy, its dups numbered from `first` on in text order.
+/// The same policy with its dups numbered from `first` on in text order, a link counting as two.
+/// The only error is that memory ran out.
 pub fn marked(alloc: Global, p: &Pol, first: u32) -> Result<Pol, AllocError>
     requires positive { 1 ≤ first }
     requires fit { first + dups_of (tree_of p.now) ≤ 2 ^ 32 }
@@ -59,7 +60,8 @@ fn all_renumbered(alloc: Global, ps: &[Pol], next: &mut u64) -> Result<Vec<Pol>,
     Ok(out)
 }
 
-/// The same policy with each link literal as its six parts.
+/// The same policy with each link literal written out as its six parts. The only error is that
+/// memory ran out.
 #[cycle(expand)]
 #[tactic(auto, using(crate::proofs::Trees::tree_of_sum, crate::proofs::Trees::tree_of_seq))]
 pub fn expand_links(alloc: Global, p: &Pol) -> Result<Pol, AllocError>
@@ -110,7 +112,7 @@ fn link_parts(alloc: Global, a: u16, m: u16, b: u16, n: u16, mark: u32) -> Resul
 }
 
 impl Pol {
-    /// The same policy once more.
+    /// A copy of the policy. The only error is that memory ran out.
     pub fn copy(&self, alloc: Global) -> Result<Pol, AllocError>
         ensures { IfOk result (λ q. tree_of q ≡ tree_of self.now) }
     {
@@ -118,7 +120,7 @@ impl Pol {
     }
 }
 
-/// The same policy once more.
+/// A copy of the policy. The only error is that memory ran out.
 #[cycle(copy)]
 #[tactic(auto, using(crate::proofs::Trees::tree_of_sum, crate::proofs::Trees::tree_of_seq))]
 fn copied(alloc: Global, p: &Pol) -> Result<Pol, AllocError>

@@ -9,8 +9,9 @@ use itoa::Buffer;
 use nk_field::{Fid, Fields};
 use std::alloc::{AllocError, Global};
 
-/// The text of a policy without names, as the language's grammar reads it: fields by their names in `fields`, numbers
-/// in decimal, and parentheses where the grammar wants them. The numbers of dups are not in it.
+/// The text of a policy, without names of policies, as the language's grammar reads it: fields by their names in
+/// `fields`, numbers in decimal, and parentheses where the grammar wants them. The numbers of dups are not in it. The
+/// only error is that memory ran out.
 pub fn pol_text(alloc: Global, fields: &Fields, p: &Pol) -> Result<Vec<u8>, AllocError>
     ensures { IfOk result (λ text. text.items ≡ pol_bytes fields.now (tree_of p.now)) }
 {

@@ -10,7 +10,8 @@ use std::collections::HashMap;
 /// Up to how many parts a node's children are compared by going over the parts once more for each.
 const FEW: usize = 8;
 
-/// The child of a node with the most values, the one of the least value of several. Linear in the parts.
+/// Of a node's children the one with the most values, of several such the one with the least value.
+/// Takes time in proportion to the parts. The only error is that memory ran out.
 pub fn else_child(alloc: Global, high: u64, parts: &[(u64, Id)]) -> Result<Id, AllocError>
     requires some { 0 < length parts.now }
     requires rise { Rises high 0 parts.now }

@@ -35,17 +35,17 @@ impl Id {
     }
 }
 
-/// What a leaf sends: the packet changed by the act, to the target.
+/// One thing that a leaf does: it changes the packet by the act and sends it to the target.
 #[derive(PartialEq, Eq, PartialOrd, Ord, Drop)]
 pub struct Out {
     /// The assignments that are made.
     pub act: Act,
-    /// Where the packet goes.
+    /// The number of the target, which the user of the store gives a meaning.
     pub target: u64,
 }
 
 impl Out {
-    /// The same out once more.
+    /// A copy of the out. The only error is that memory ran out.
     pub fn copy(&self) -> Result<Out, AllocError>
         ensures { IfOk result (λ o. o ≡ self.now) }
     {

@@ -1,14 +1,14 @@
 //! Operations whose answers a store keeps.
 use crate::node::Id;
 
-/// An operation on diagrams, of which a store keeps the answers.
+/// An operation on diagrams whose answers a store keeps.
 #[derive(Clone, Copy, PartialEq, Eq)]
 pub enum Operation {
     /// Both leaves together.
     Union,
-    /// The second leaf where the first one is not empty.
+    /// The second leaf where the first one isn't empty, else none.
     Both,
-    /// The packet itself where the first leaf is empty.
+    /// The packet as it is where the first leaf is empty, else none.
     Negate,
     /// The outs of the first leaf that the second one lacks.
     Missing,

@@ -43,7 +43,8 @@ fn are_apart(parts: &[(u64, Id)]) -> bool
     true
 }
 
-/// The parts with neighbours of one child joined: of each run of such parts the last one. The only error is that memory ran out.
+/// The parts with neighbours that have one child joined: the last part of each run of such parts stays. The only error is
+/// that memory ran out.
 pub fn join_neighbours(
     alloc: Global,
     parts: &List<(u64, Id)>,

@@ -14,8 +14,8 @@ use nk_field::{Act, Fid, Fields, List, Packet};
 use std::alloc::{AllocError, Global};
 use std::marker::Model;
 
-/// Diagrams that share their nodes. Equal diagrams have one number. It keeps answers of operations, and the two leaves that
-/// are asked for most, which its contract value doesn't show.
+/// Diagrams that share their nodes. Two diagrams are equal exactly where their numbers are. The store also keeps answers
+/// of operations and the two leaves that are asked for most, which its contract value doesn't show.
 #[derive(Drop)]
 pub struct Store {
     table: NodeTable,
@@ -110,7 +110,7 @@ impl Store {
         self.table.same(d, e)
     }
 
-    /// Whether a diagram drops each packet: whether it is the leaf with no out.
+    /// Whether a diagram drops every packet: whether it is the leaf with no out.
     pub fn drops(&self, d: Id) -> bool
         requires { IsId self.now d }
         ensures is { result ≡ is_empty_leaf (node_of self.now d) }
@@ -127,7 +127,8 @@ impl Store {
         self.table.look(d, p)
     }
 
-    /// The leaf with these outs, in any order and number: they are put in order, and each stands once.
+    /// The leaf with these outs. They may come in any order and several times; the leaf has each once, in order. The
+    /// only error is that memory ran out.
     pub fn leaf(&mut self, outs: List<Out>) -> Result<Id, AllocError>
         requires { Every (Suits self.old.maxes) outs }
         ensures grows { Grows self.old self.new }
@@ -148,7 +149,7 @@ impl Store {
         self.table.leaf_in_order(outs)
     }
 
-    /// The leaf with no out: each packet is dropped.
+    /// The leaf with no out: it drops every packet. The only error is that memory ran out.
     pub fn empty(&mut self) -> Result<Id, AllocError>
         ensures grows { Grows self.old self.new }
         ensures ok { IfOk result (λ d. HasLeaves self.new d (λ pk. [])) }
@@ -162,7 +163,7 @@ impl Store {
         Ok(d)
     }
 
-    /// The leaf that passes each packet as it is, to target 0.
+    /// The leaf that passes each packet as it is, to target 0. The only error is that memory ran out.
     pub fn identity(&mut self) -> Result<Id, AllocError>
         ensures grows { Grows self.old self.new }
         ensures ok { IfOk result (λ d. HasLeaves self.new d (λ pk. passing ∷ [])) }
