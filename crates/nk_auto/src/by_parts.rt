@@ -15,9 +15,9 @@ use nk_policy::Pol;
 use nk_store::{Id, Store};
 use std::alloc::AllocError;
 
-/// The automaton of a policy from its parts: the diagram of the first part, then that of each part behind a dup, in text
-/// order. It is the automaton of each policy of which these are the parts and whose dups are numbered in text order. The
-/// plain way: each part is drawn alone, so what several dups have behind them is drawn once for each of them. The only
+/// The automaton of a policy from its parts: the diagram of the first part, then that of the part behind each dup, in
+/// text order. It is the automaton of every policy that has these parts and whose dups are numbered in text order. This
+/// is the plain way: each part is drawn alone, so what several dups have behind them is drawn several times. The only
 /// error is that memory ran out.
 pub fn automaton(st: &mut Store, parts: &Parts) -> Result<List<Id>, AllocError>
     ensures grows { Grows st.old st.new }

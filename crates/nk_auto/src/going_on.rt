@@ -110,7 +110,7 @@ pub fn after_predicate(st: &mut Store, p: &Pol, next: Id) -> Result<Id, AllocErr
     Ok(r)
 }
 
-/// A dup, continued by a diagram, to which it doesn't come before it records.
+/// A dup, continued by a diagram: the dup records first, so the diagram is never reached.
 pub fn before_dup(st: &mut Store, l: u32, next: Id) -> Result<Id, AllocError>
     requires { IsId st.old next }
     ensures grows { Grows st.old st.new }

@@ -18,7 +18,7 @@ use std::alloc::AllocError;
 /// behind them.
 #[derive(Clone, Copy)]
 pub struct Behind {
-    /// A predicate diagram, of all packets where no predicate stands there.
+    /// The diagram of the predicates; it holds for all packets where there is none.
     pub guard: Id,
     /// The diagram of what is behind the predicates.
     pub rest: Id,
@@ -45,7 +45,7 @@ pub fn put_together(st: &mut Store, behind: Behind) -> Result<Id, AllocError>
     Ok(d)
 }
 
-/// One more predicate before those that stand at the place.
+/// The same with one more predicate, `d`, before the others.
 pub fn guarded_by(st: &mut Store, d: Id, behind: Behind) -> Result<Behind, AllocError>
     requires id { IsId st.old d }
     requires guard { IsId st.old behind.guard }

@@ -47,8 +47,7 @@ pub fn silent_not(st: &mut Store, q: &Pol) -> Result<Id, AllocError>
     negate(st, d)
 }
 
-/// The diagram of a predicate: a predicate diagram. That it is one is shown by its complement's complement, but for a sum of tests of
-/// one field.
+/// The diagram of a predicate, as a predicate diagram.
 pub fn silent_predicate(st: &mut Store, p: &Pol) -> Result<Id, AllocError>
     requires { is_predicate (tree_of p.now) ≡ true }
     ensures grows { Grows st.old st.new }

@@ -17,10 +17,10 @@ use nk_policy::{Pol, dups};
 use nk_store::{Id, Store};
 use std::alloc::AllocError;
 
-/// The same diagram as that of `continued`, in the same pass from the right; meanwhile the state of each dup of the policy
-/// is written, where it has a place. The state of the dup l stands at the place l - base, and becomes the diagram of what is left of the policy
-/// after l, continued by the same diagram. Dups behind which the same is left have one diagram. The only error is that
-/// memory ran out.
+/// The same diagram as that of `continued`, in the same pass from the right, which also writes the state of each dup of
+/// the policy that has a place: the state of dup l stands at the place l - base, and becomes the diagram of what is left
+/// of the policy after l, continued by the same diagram. Dups that have the same left behind them have one diagram. The
+/// only error is that memory ran out.
 #[cycle(with_states)]
 #[tactic(auto, using(nk_policy::proofs::Trees::tree_of_sum, nk_policy::proofs::Trees::tree_of_seq, crate::proofs::Writing::test_written, crate::proofs::Writing::range_written, crate::proofs::Writing::set_written, crate::proofs::Writing::not_written))]
 pub fn continued_with_states(

@@ -11,7 +11,7 @@ use nk_field::{Fid, List};
 use nk_policy::{Pol, Pols};
 use std::alloc::{AllocError, Global};
 
-/// The part of a policy.
+/// The part of a policy. The only error is that memory ran out.
 pub fn part_of(alloc: Global, p: &Pol) -> Result<Part, AllocError>
     requires complements { NegatesPredicates (tree_of p.now) }
     ensures { IfOk result (λ r. IsPart r (tree_of p.now)) }
@@ -86,7 +86,7 @@ fn collected_any(alloc: Global, ps: &[Pol], legs: &mut List<(Pol, u32)>) -> Resu
     Ok(Pol::Sum(sum))
 }
 
-/// The parts of policies, in order.
+/// The parts of policies, in order. The only error is that memory ran out.
 #[cycle(first)]
 pub fn parts_of_all(alloc: Global, ps: &[Pol]) -> Result<List<Part>, AllocError>
     requires complements { AllNegatePredicates (trees_of ps.now) }

@@ -18,7 +18,7 @@ use std::alloc::{AllocError, Global};
 use std::slice;
 
 /// Puts at the end, for each dup of the policy in text order, its label and the part of what is left of the policy after
-/// it and then of the next one.
+/// that dup, followed by `next`. The only error is that memory ran out.
 #[cycle(rests)]
 #[tactic(auto, using(nk_policy::proofs::Trees::tree_of_sum, nk_policy::proofs::Trees::tree_of_seq))]
 pub fn rests(

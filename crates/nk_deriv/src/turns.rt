@@ -1,4 +1,4 @@
-//! Policies without dups and parts, one after the other.
+//! Policies without dups, and parts, one after another.
 ghost use Rattle.std.specs.Prelude.{◌≡◌, ◌++◌, List as Items, IfOk, OnOk};
 ghost use Rattle.nk_policy.specs.Policy.{seq_of, sum_of, no_part, part, star_of};
 ghost use Rattle.nk_policy.specs.After.{id_policy, drop_policy};
@@ -11,7 +11,7 @@ use nk_field::List;
 use nk_policy::{Pol, Pols};
 use std::alloc::{AllocError, Global};
 
-/// The policy that keeps each packet.
+/// The policy that keeps each packet, `id`.
 #[tactic(auto, using(nk_policy::proofs::Trees::tree_of_seq))]
 pub fn keeping(alloc: Global) -> Pol
     ensures { tree_of result ≡ id_policy }
@@ -19,7 +19,7 @@ pub fn keeping(alloc: Global) -> Pol
     Pol::Seq(Pols::new(Vec::new(alloc)))
 }
 
-/// The policy that drops each packet.
+/// The policy that drops each packet, `drop`.
 #[tactic(auto, using(nk_policy::proofs::Trees::tree_of_sum))]
 pub fn dropping(alloc: Global) -> Pol
     ensures { tree_of result ≡ drop_policy }
@@ -94,7 +94,8 @@ fn push_copies(alloc: Global, out: &mut Vec<Pol>, ps: &[Pol]) -> Result<(), Allo
     Ok(())
 }
 
-/// Any number of rounds; those of the empty sum are none.
+/// Any number of rounds of a policy, 0 rounds too; for the empty sum that is the policy that keeps
+/// each packet. The only error is that memory ran out.
 pub fn repeated(alloc: Global, p: Pol) -> Result<Pol, AllocError>
     ensures { IfOk result (λ r. IsRounds (tree_of r) (tree_of p)) }
 {
@@ -113,7 +114,8 @@ fn star(alloc: Global, p: Pol) -> Result<Pol, AllocError>
     Ok(Pol::Star(Box::new(alloc, p)?))
 }
 
-/// Puts the legs behind those before, the free policy before each; none where that is the empty sum.
+/// Puts the legs behind those that are there, each with the free policy before it; none where that is
+/// the empty sum. The only error is that memory ran out.
 pub fn put_behind(
     alloc: Global,
     out: &mut List<(Pol, u32)>,
@@ -134,7 +136,8 @@ pub fn put_behind(
     Ok(())
 }
 
-/// The free policy of these parts in turn; puts their legs behind those before.
+/// The free policy of these parts, one after another; their legs are put behind those that are there.
+/// The only error is that memory ran out.
 pub fn in_turn(
     alloc: Global,
     states: &[Part],
@@ -154,7 +157,8 @@ pub fn in_turn(
     Ok(free)
 }
 
-/// The part of these parts in turn, and then of the next one.
+/// The part of these parts, one after another, followed by the next one. The only error is that
+/// memory ran out.
 pub fn continued(alloc: Global, states: &[Part], next: &Part) -> Result<Part, AllocError>
     ensures { IfOk result (λ r. IsContinued r states.now next.now) }
 {

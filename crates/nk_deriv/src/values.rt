@@ -1,4 +1,4 @@
-//! Parts: a policy, or what is left of one after a dup, up to its first record.
+//! Parts: what a policy, or what is left of it after a dup, does up to its first record.
 use nk_field::List;
 use nk_policy::Pol;
 

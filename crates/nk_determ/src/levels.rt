@@ -5,17 +5,18 @@ use crate::sets::SetId;
 use nk_field::List;
 use nk_store::Id;
 
-/// Levels: by number of records, each set state with the packets that are first met under it there.
+/// A walk of an automaton, level by level: the level at place k has each set state with the packets that are
+/// first met under it after k records.
 #[derive(Drop)]
 pub struct Levels {
-    /// The levels, the first being the start; each has entries of a set and its packets, a set once.
+    /// The levels, that of the start first. Each is a list of a set's number and its packets, each set once.
     pub levels: List<List<(SetId, Id)>>,
-    /// Whether they ended with a level that has a bad final.
+    /// Whether they ended at a level with a bad final.
     broken: bool,
 }
 
 impl Levels {
-    /// These levels, and whether they ended with a level that has a bad final.
+    /// These levels, and whether they ended at a level with a bad final.
     pub fn new(levels: List<List<(SetId, Id)>>, broken: bool) -> Levels
         ensures levels { result.levels ≡ levels }
         ensures broken { result.broken ≡ broken }
@@ -23,7 +24,7 @@ impl Levels {
         Levels { levels, broken }
     }
 
-    /// Whether the levels ended at a bad final: true exactly where the last level has one. No level before it has.
+    /// Whether the levels ended at a bad final: then the last level has one, and no level before it.
     pub fn broken(&self) -> bool
         ensures { result ≡ self.now.broken }
     {

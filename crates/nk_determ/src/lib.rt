@@ -1,5 +1,5 @@
 //! Diagrams made deterministic: each act of a leaf assigns exactly the fields that it changes, and a set of labels has
-//! one diagram, which leads from each packet to the set of all labels that record it next.
+//! one diagram, which sends each packet to the set of all labels that record it next.
 #![tactic(auto)]
 
 mod assigned;

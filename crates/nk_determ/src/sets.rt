@@ -45,7 +45,7 @@ impl SetId {
         self.place as u64 + 1
     }
 
-    /// The set that outs with this target, which is no end, lead to.
+    /// The set that outs with this target lead to. The target isn't 0, which is the end.
     pub fn from_target(target: u64) -> SetId
         requires { 0 < target }
         ensures { result + 1 ≡ target }
@@ -56,7 +56,7 @@ impl SetId {
     }
 }
 
-/// Sets of labels, as ascending lists, each once, in the order in which they came.
+/// Sets of labels, as ascending lists, each once, numbered in the order in which they came.
 #[derive(Drop)]
 pub struct Sets {
     sets: IndexSet<List<u64>>,
@@ -83,7 +83,7 @@ impl Sets {
         }
     }
 
-    /// The number of the set with these labels, which is put in where it isn't there. The only error is that memory ran
+    /// The number of the set with these labels, which is added where it isn't there. The only error is that memory ran
     /// out; then the sets stay as they were.
     pub fn intern(&mut self, labels: List<u64>) -> Result<SetId, AllocError>
         requires { IsStrictlyIncreasing labels }
@@ -112,7 +112,7 @@ impl Sets {
         self.sets.len()
     }
 
-    /// What holds of all sets; it does nothing: two numbers with equal members are one, and labels ascend.
+    /// States what holds of all sets, and does nothing: two numbers with equal members are one, and labels ascend.
     pub fn differ(&self)
         ensures differ { Differ self.now }
         ensures ascend { Ascend self.now }

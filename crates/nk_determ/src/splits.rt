@@ -11,7 +11,8 @@ use nk_field::{Fid, List};
 use nk_store::{Id, Operation, Store};
 use std::alloc::AllocError;
 
-/// The diagram with the same meaning whose acts assign exactly the fields that they change.
+/// The diagram with the same meaning whose acts assign exactly the fields that they change. The only error is that
+/// memory ran out.
 pub fn split(st: &mut Store, d: Id) -> Result<Id, AllocError>
     requires { IsId st.old d }
     ensures grows { Grows st.old st.new }

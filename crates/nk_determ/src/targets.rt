@@ -64,7 +64,8 @@ fn new_target(table: &[Option<u64>], target: u64) -> Option<u64>
     }
 }
 
-/// The diagram with each target replaced by what the table has at its place; where that is none, the out goes.
+/// The diagram with each target replaced by what the table has at that place. Where the table has none there,
+/// or is shorter, the out is left out. The only error is that memory ran out.
 pub fn retarget(st: &mut Store, d: Id, table: &[Option<u64>]) -> Result<Id, AllocError>
     requires { IsId st.old d }
     ensures grows { Grows st.old st.new }

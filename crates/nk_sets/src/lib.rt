@@ -18,7 +18,7 @@ pub use images::{image, preimage};
 pub use least_packets::least;
 pub use predicate::set_pol;
 
-/// Nine small sets with their predicates.
+/// The predicates of nine small sets, worked out by hand.
 pub fn worked_predicates()
     ensures { WorkedPredicates }
 {}

@@ -16,7 +16,7 @@ use nk_policy::{Pol, Pols};
 use nk_store::{Id, Node, Store, else_child};
 use std::alloc::{AllocError, Global};
 
-/// The predicate of a set, in the form that is printed: a function of the set. The only error is that memory ran out.
+/// The predicate that is printed for a set. The set alone decides it. The only error is that memory ran out.
 pub fn set_pol(st: &Store, s: Id) -> Result<Pol, AllocError>
     requires { IsSet st.now s }
     ensures { IfOk result (λ p. IsPolicyOf st.now s (tree_of p)) }

@@ -15,7 +15,7 @@ use nk_field::List;
 use nk_store::{Id, Store};
 use std::alloc::AllocError;
 
-/// All that some number of copies of a diagram make, one after another, the packet itself among them. The diagram's
+/// All that any number of copies of a diagram make, one after another; for none that is the packet itself. The diagram's
 /// outs have target 0, and so have those of the answer. The only error is that memory ran out.
 pub fn star(st: &mut Store, d: Id) -> Result<Id, AllocError>
     requires id { IsId st.old d }
@@ -101,7 +101,7 @@ fn put_to(st: &mut Store, all: &[Id], new: Id, n: usize) -> Result<List<Id>, All
     Ok(next)
 }
 
-/// What a diagram makes of a packet of the fields is one of the fields too; it does nothing.
+/// States a law, and does nothing: what a diagram makes of a packet of the fields is a packet of the fields too.
 pub fn laws(st: &Store)
     ensures { (d : ℕ) (pk y : Items ℕ) → IsPacket st.now pk → Makes (look st.now d) pk y → IsPacket st.now y }
 {
