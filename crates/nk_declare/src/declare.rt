@@ -24,7 +24,7 @@ pub struct Declared {
 }
 
 impl Declared {
-    /// The fields `sw` and `pt`, no switch and no link.
+    /// The fields `sw` and `pt`, no switch and no link. The only error is that memory ran out.
     pub fn new(alloc: Global) -> Result<Declared, AllocError>
         ensures { IfOk result (λ d. declared_in d ≡ nothing_declared) }
     {
@@ -33,7 +33,7 @@ impl Declared {
         Ok(Declared { fields, topo })
     }
 
-    /// One more field: its name is new, and there are fewer than sixteen.
+    /// One more field. It is a fault that a field has the name already, or else that sixteen are declared already.
     pub fn with_field(self, w: &Word, n: Number) -> Result<Declared, DeclareError>
         ensures { Returns declared_in result (declared_with (declared_in self) (field w.now n)) }
     {
@@ -48,7 +48,7 @@ impl Declared {
         Err(DeclareError::Fault { kind, line: w.line })
     }
 
-    /// The tag: there is none so far, and it is a declared field.
+    /// The tag. It is a fault that there is a tag already, or else that no declared field has the name.
     pub fn with_tag(self, w: &Word) -> Result<Declared, DeclareError>
         ensures { Returns declared_in result (declared_with (declared_in self) (tag w.now)) }
     {
@@ -67,7 +67,8 @@ impl Declared {
         }
     }
 
-    /// One more switch with its ports: the switch is in range and new, then each port is in range and stands once.
+    /// One more switch with its ports. The first of these faults is answered: the switch is above 65,535; it is declared
+    /// already; then, port by port, the port is above 65,535 or stands before.
     pub fn with_switch(
         self,
         alloc: Global,
@@ -98,8 +99,9 @@ impl Declared {
         }
     }
 
-    /// One more link, from port `m` of switch `a` to port `n` of switch `b`: the four numbers are in range, both ends are
-    /// declared ports, no link begins at the source and none ends at the target.
+    /// One more link, from port `m` of switch `a` to port `n` of switch `b`. The first of these faults is answered: one
+    /// of the four numbers is above 65,535; the source is no declared port; the target is none; a link begins at the
+    /// source already; one ends at the target already.
     pub fn with_link(
         self,
         a: Number,

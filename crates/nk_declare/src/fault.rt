@@ -27,7 +27,7 @@ pub enum DeclareFault {
     SourceTwice,
     /// A link leads to the port already.
     TargetTwice,
-    /// A switch or a port above 65,535.
+    /// A switch or a port is above 65,535.
     ValueOutOfRange,
 }
 

@@ -4,7 +4,7 @@ ghost use Rattle.nk_field.specs.Packet.{field_named};
 
 use nk_field::{Fid, Fields};
 
-/// The field with the name.
+/// The field with the name, if there is one.
 pub fn field_with(fields: &Fields, name: &[u8]) -> Option<Fid>
     ensures is { result ≡ field_named fields.now name.now }
     ensures within { IfSome result (λ f. f < length fields.now.maxima) }

@@ -31,9 +31,9 @@ use crate::{LexError, Token};
 use std::alloc::{AllocError, Global};
 use std::marker::Model;
 
-/// The tokens of a text that comes in pieces. It keeps neither the text nor the tokens that it gave:
-/// of what is open at the end of a piece the bytes where it is a name or a symbol, the value where it
-/// is a number, and nothing of white space and comments. After a fault of the text it keeps the fault.
+/// Cuts a text that comes in pieces into tokens. It keeps neither the text nor the tokens that it gave. Of
+/// what is open at the end of a piece it keeps the bytes of a name or a symbol, the value of a number, and
+/// nothing of white space and comments. After a fault of the text it keeps the fault.
 #[derive(Drop)]
 pub struct Feed {
     fed: usize,
@@ -112,9 +112,8 @@ impl Feed {
         Ok(next.tokens)
     }
 
-    /// The tokens of the whole text that no piece completed, none or one, where the text ends here. It
-    /// spends the value, refused or not. The errors are those of `tokens`: the first fault of the whole
-    /// text, with its line, or `NoMemory`.
+    /// Ends the text: the tokens of the whole text that no piece completed, none or one. The errors are
+    /// those of `tokens`: the first fault of the whole text, with its line, or `NoMemory`.
     pub fn end(self, alloc: Global) -> Result<Vec<Token>, LexError>
         ensures tokens { (text : List ℕ) → IsFed text self
             → Returns (λ v. completed text ++ v.items) result (tokens_of text) }

@@ -55,7 +55,7 @@ fn symbol(first: u8, rest: &[u8]) -> Front
     }
 }
 
-/// The symbols of one byte that begin no longer one.
+/// The kind of a symbol of one byte with which no longer symbol begins.
 pub fn single(byte: u8) -> Option<Kind>
     ensures { result ≡ single_of byte }
 {

@@ -46,7 +46,7 @@ pub enum Kind {
     CloseBracket,
 }
 
-/// A keyword's kind, or a name.
+/// The kind of a keyword; of any other text that of a name.
 pub fn kind_of_name(name: &[u8]) -> Kind
     ensures { result ≡ kind_of_name name.now }
 {

@@ -14,7 +14,7 @@ pub fn values_are_small()
     ensures { ValuesAreSmall }
 {}
 
-/// A token has a byte at least, stands within the text, and ends where the next one begins or before.
+/// A token has at least one byte, is within the text, and ends at or before the place where the next one begins.
 pub fn spans_ascend()
     ensures { SpansAscend }
 {}
@@ -39,7 +39,7 @@ pub fn a_text_of_lexemes_is_cut_into_them()
     ensures { CutsLexemes }
 {}
 
-/// What a text has as a name is one: a letter or `_`, then letters, digits and `_`, and no keyword.
+/// Each name of a text is a valid one: a letter or `_`, then letters, digits and `_`, and no keyword.
 pub fn a_name_is_one()
     ensures { NamesAreNames }
 {}

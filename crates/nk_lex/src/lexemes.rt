@@ -43,8 +43,8 @@ use crate::kind::kind_of_name;
 use crate::{Bytes, Kind, LARGEST, LexError, Token};
 use std::alloc::{AllocError, AllocFailed, Global};
 
-/// The value of a number whose front has this value, with these digits behind it. It stops above
-/// `LARGEST`.
+/// The value of a number that begins with digits of this value and goes on with these digits;
+/// `LARGEST` + 1 for every number above `LARGEST`.
 pub fn value_past(front: u64, digits: &[u8]) -> u64
     requires { front ≤ largest + 1 }
     ensures { result ≡ min (value_on front digits.now) (largest + 1) }
@@ -166,7 +166,7 @@ pub fn put(tokens: &mut Vec<Token>, token: Option<Token>) -> Result<(), AllocErr
     }
 }
 
-/// The same, for a text that is read.
+/// The same as `put`, with the error of a text.
 pub fn add(tokens: &mut Vec<Token>, token: Option<Token>) -> Result<(), LexError>
     ensures ok { OnOk result (tokens.new.items ≡ tokens.old.items ++ option_to_list token) }
     ensures err { IfErr result (λ e. e ≡ LexError.NoMemory) }

@@ -207,7 +207,7 @@ fn settle(
     opened(alloc, &bytes[from..], at + from, here, tokens)
 }
 
-/// All of the piece belongs to what is open, or the text has a fault.
+/// Whether all of the piece belongs to what is open, or the text has a fault.
 pub fn goes_on(pending: Pending, held: &[u8], piece: &[u8]) -> bool
     ensures { result ≡ goes_on pending held.now piece.now }
 {

@@ -5,7 +5,7 @@ use crate::LexError;
 /// What the bytes so far leave open at their end, or the text's first fault.
 #[derive(Clone, Copy, Debug, PartialEq, Eq)]
 pub enum Pending {
-    /// The bytes so far end where a lexeme ends that no byte makes longer.
+    /// Nothing: no further byte can make the last lexeme longer.
     Nothing,
     /// A comment.
     Comment,

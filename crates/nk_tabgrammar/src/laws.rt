@@ -1,7 +1,7 @@
-//! What reading token by token has to do with the grammar of table texts.
+//! Laws of reading token by token: it reads the grammar's table texts, and no others.
 ghost use Rattle.nk_tabgrammar.specs.Answer.{AnswersTexts, IsUnique, ReadsTexts};
 
-/// What reading a text's tokens answers is what is written, or the first token with which no text goes on.
+/// Reading a text's tokens answers what is written, or the first token with which no text can continue.
 pub fn texts_are_answered()
     ensures { AnswersTexts }
 {}

@@ -660,7 +660,8 @@ fn with_table(text: WrittenTables, table: WrittenTable) -> Result<WrittenTables,
     Ok(text)
 }
 
-/// What a text's tokens write, or the first fault.
+/// What a text's tokens write, or the first fault, which is `Unexpected`. The only other error is that memory
+/// ran out.
 pub fn read_text(alloc: Global, tokens: &[Token]) -> Result<WrittenTables, ReadError>
     ensures { Returns (λ x. x) result (written_of tokens.now) }
 {

@@ -22,14 +22,14 @@ pub enum Quad {
     ToColon(Number, Number, Number),
 }
 
-/// A token read behind a part of a link.
+/// What one more token makes of a part of a link.
 #[derive(Clone, Copy)]
 pub enum QuadNext {
-    /// No link goes on with it.
+    /// No link can continue with it.
     Refused,
-    /// The link goes on.
+    /// The link isn't complete yet.
     Going(Quad),
-    /// The link is whole.
+    /// The link is complete: switch and port of the source, then of the target.
     Full(Number, Number, Number, Number),
 }
 
@@ -48,14 +48,14 @@ pub enum Place {
     Left(List<Pair>, Way),
 }
 
-/// A token read behind a part of a bucket.
+/// What one more token makes of a part of a bucket.
 #[derive(Drop)]
 pub enum PlaceNext {
-    /// No bucket goes on with it.
+    /// No bucket can continue with it.
     Refused,
-    /// The bucket goes on.
+    /// The bucket isn't complete yet.
     Going(Place),
-    /// The bucket is whole.
+    /// The bucket is complete.
     Full(WrittenBucket),
 }
 

@@ -131,16 +131,18 @@ pub enum ReadError {
         /// The line of the number.
         line: u64,
     },
-    /// No text goes on with this token, or none ends with the last one.
+    /// No text can continue with this token, or the tokens end where no text can end.
     #[error("line {line}: unexpected")]
     Unexpected {
-        /// The line of the token, or of the last token where the tokens end, or 1 without tokens.
+        /// The line of the token; where the tokens end too early, that of the last one, or 1
+        /// without tokens.
         line: u64,
     },
     /// What is written breaks a rule of tables.
     #[error("line {line}: table fault")]
     TableFault {
-        /// The line of the first number or name at fault; of the last token where there is no tag.
+        /// The line of the first number or name at fault; of the last token where no tag is
+        /// declared.
         line: u64,
     },
 }

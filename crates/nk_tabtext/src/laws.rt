@@ -2,22 +2,22 @@
 ghost use Rattle.nk_tabtext.specs.Alike.{DeclaresAlike};
 ghost use Rattle.nk_tabtext.specs.ReadBack.{AnswersPrintable, ReadsPrinted};
 
-/// What is printed of tables is read back as them: of all tables that keep the rules of a text. Their fields, names and
-/// largest values can be declared, a tag among them; each switch has a port and exactly one table, in the order of the
-/// switches; groups ascend by number and have a bucket; matches and assignments ascend by field. A match is of a field but
-/// the switch, with a value in its range; one digit of the value counts or more, at most as many as the field's largest value
-/// has, and the value has zeros behind those.
+/// What is printed of tables is read back as these tables, wherever they keep the rules of a text. Their fields, names
+/// and largest values can be declared, a tag among them; each switch has a port and exactly one table, in the order of
+/// the switches; groups ascend by number and have a bucket; matches and assignments ascend by field. A match is of a
+/// field but the switch, with a value in its range; at least one digit of the value counts, at most as many as the
+/// field's largest value has, and the digits behind those are zeros.
 pub fn printed_tables_are_read()
     ensures { ReadsPrinted }
 {}
 
-/// What is read of any text are such tables.
+/// The tables that are read from any text are such tables.
 pub fn read_tables_are_printable()
     ensures { AnswersPrintable }
 {}
 
-/// A table text's declarations have a fault exactly where the same declarations of any text, and so of a program, have one, at the
-/// same line; without a fault they say the same.
+/// A table text's declarations have a fault exactly where the same declarations of any text, and so of a program, have
+/// one, at the same line; without a fault they mean the same.
 pub fn table_texts_declare_as_programs_do()
     ensures { DeclaresAlike }
 {}

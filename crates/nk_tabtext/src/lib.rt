@@ -1,8 +1,9 @@
 //! The text of tables, and the tables of a text.
 //!
-//! A match is of a field, of a value and of how many of the value's first digits count, of as many as the field's largest value
-//! has. All of them count where no length is written. A match that can be printed and read back is of a field but the switch,
-//! its value is in the field's range, one digit counts or more, and the value has zeros behind those that count.
+//! A match is a field, a value and how many of the value's first binary digits count; the value has as many digits as the
+//! field's largest value. All of them count where no length is written. A match that can be printed and read back is of a
+//! field but the switch, its value is in the field's range, at least one digit counts, and the digits behind those that
+//! count are zeros.
 #![tactic(auto)]
 
 ghost use Rattle.std.specs.Prelude.{◌≡◌, ◌++◌, IfOk, OnOk};

@@ -67,27 +67,24 @@ fn tables_from(alloc: Global, line: u64, text: &WrittenTables) -> Result<Tables,
 }
 
 /// The tables of a text, or its first fault with its line, in this order: a byte that begins no token or a number above
-/// 281,474,976,710,655; the first token with which no text goes on, or the end of what is no text yet; then, in the order
-/// of the text, what breaks a rule, at the line of the number or name at fault; last, where no tag is declared, the line of
-/// the last token.
+/// 281,474,976,710,655; the first token with which no text can continue, or tokens that end too early; then, in the order
+/// of the text, what breaks a rule, at the line of the number or name at fault; last, where no tag is declared, the line
+/// of the last token.
 ///
-/// The number behind `tables` is 1 or 2. Fields have names of their own, at most sixteen; the tag is one of them, declared
-/// above it, once; switches and ports are at most 65,535, a switch is declared once, with each port once; a link leads from
-/// a declared port to a declared one, and no two begin or end at one port. A table's switch is declared, and has no table
-/// before. A group's number is at least 1 and no other group's of the table, and a row's group is one of the table's. A
-/// priority is at most 65,535. Rows match declared fields and `pt`, buckets assign declared fields, each at most once and in
-/// its range, and send to ports of at most 65,535.
+/// The number behind `tables` is 1 or 2. Fields have names of their own, at most sixteen; the tag is one of them,
+/// declared above it, once; switches and ports are at most 65,535, a switch is declared once, with each port once; a link
+/// leads from a declared port to a declared one, and no two begin or end at one port. A table's switch is declared, and
+/// has no table before. A group's number is at least 1 and no other group's of the table, and a row's group is one of the
+/// table's. A priority is at most 65,535. Rows match declared fields and `pt`, buckets assign declared fields, each at
+/// most once and in its range, and send to ports of at most 65,535.
 ///
-/// A match `f=v/len` is of the values of which the first `len` digits are those of `v`, where `f` has as many binary digits
-/// as its largest value. It stands in a text of version 2 alone; `len` is at least 1 and at most all digits, which is the
-/// exact match, and `v` has zeros behind its first `len`. Where `len` is at fault, or the version, it is at the line of
-/// `len`; ones behind `len` are looked at last, and are at the line of `v`.
+/// A match `f=v/len` is of the values of which the first `len` digits are those of `v`, where `f` has as many binary
+/// digits as its largest value. It stands in a text of version 2 alone; `len` is at least 1 and at most all digits, which
+/// is the exact match, and `v` has zeros behind its first `len`. Where `len` is at fault, or the version, it is at the
+/// line of `len`; ones behind `len` are looked at last, and are at the line of `v`.
 ///
 /// Tables stand by switch, a declared switch without a table having an empty one, groups by number, matches and
-/// assignments by field, rows and buckets as in the text.
-///
-/// They are such as can be printed and read back: in each match one digit of the value counts or more, at most all digits of
-/// its field, and the value has zeros behind those.
+/// assignments by field, rows and buckets as in the text. They can all be printed and read back.
 pub fn read_tables(alloc: Global, text: &[u8]) -> Result<Tables, ReadError>
     ensures tables { Returns (λ t. t) result (tables_of text.now) }
     ensures printable { IfOk result IsPrintable }
