@@ -1,8 +1,8 @@
 //! Laws of the rows that are printed for a reduced tree of bucket lists.
 ghost use Rattle.nk_extract.specs.Chosen.{RowsGiveLeaves, RowsDiffer, RowsAreChosen};
 
-/// At each packet with the tag, of the rows that match one alone is highest and has the leaf's buckets, or none
-/// matches and the leaf is empty.
+/// At each packet with the tag, exactly one of the rows that match has the highest priority, and it has the
+/// leaf's buckets; or no row matches, and the leaf is empty.
 pub fn rows_give_leaves()
     ensures { RowsGiveLeaves }
 {}
@@ -12,7 +12,7 @@ pub fn rows_differ()
     ensures { RowsDiffer }
 {}
 
-/// Each printed row is the one chosen for some packet in range.
+/// For each printed row there is a packet in range at which it is the row that acts.
 pub fn rows_are_chosen()
     ensures { RowsAreChosen }
 {}

@@ -1,6 +1,6 @@
-//! The rows of a switch's table for one tag: what the tag's state does with a packet of the switch, they do, with a bucket
-//! for each result. Laws: of the rows that match a packet one alone is highest and has the buckets of the packet's results,
-//! or none matches and there is no result.
+//! The rows of a switch's table for one tag. They do with each packet of the switch what the tag's state does with it,
+//! with one bucket for each result. Laws: of the rows that match a packet exactly one has the highest priority, and it
+//! has the buckets of the packet's results; or no row matches, and there is no result.
 #![tactic(auto)]
 
 mod bucket;

@@ -24,7 +24,7 @@ pub(crate) struct Way {
 }
 
 impl Way {
-    /// The way with one more match.
+    /// The way with one more match. The only error is that memory ran out.
     pub fn with(&self, alloc: Global, at: (Fid, u64, u8), shown: bool) -> Result<Way, AllocError>
         ensures matches { IfOk result (λ w. w.matches ≡ self.now.matches ++ at ∷ []) }
         ensures shown { IfOk result (λ w. w.shown ≡ shown) }

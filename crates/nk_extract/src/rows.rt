@@ -17,7 +17,7 @@ use std::alloc::{AllocError, Global};
 /// the bucket list of the diagram's leaf there. They stand by blocks ascending, the else-child last.
 ///
 /// The store has a tag, and at each packet of the switch each act of the leaf assigns what it changes, neither the
-/// switch nor the tag; the leaf is the same whatever the tag. Fails where memory runs out.
+/// switch nor the tag; the leaf is the same whatever the tag. The only error is that memory ran out.
 pub fn rows_of(
     alloc: Global,
     st: &Store,

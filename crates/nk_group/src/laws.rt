@@ -11,7 +11,7 @@ pub fn groups_differ()
     ensures { GroupsDiffer }
 {}
 
-/// At each packet the rows with their groups choose what the plain rows do.
+/// At each packet the rows with groups choose the same buckets as the plain rows.
 pub fn groups_keep_the_choice()
     ensures { GroupsKeepTheChoice }
 {}

@@ -33,13 +33,13 @@ pub enum FaultKind {
     UnknownName,
     /// No field above has the name.
     UnknownField,
-    /// A number above the largest one of its field, or of switches and ports.
+    /// A number is above the largest value of its field, or above 65,535 for switches and ports.
     ValueOutOfRange,
-    /// A `~` over what is no predicate.
+    /// A `~` stands over what is no predicate.
     NotAPredicate,
-    /// A policy that is more than 256 deep when its names are written out.
+    /// A policy is more than 256 deep when its names are written out.
     TooDeep,
-    /// A policy of more than 1,048,576 elements when its names are written out.
+    /// A policy has more than 1,048,576 elements when its names are written out.
     TooLarge,
 }
 

@@ -53,7 +53,7 @@ impl Model for Program {
 }
 
 impl Program {
-    /// The policy with the name.
+    /// The policy with the name, if there is one.
     pub fn find(&self, name: &str) -> Option<&Pol>
         ensures found { option_map (λ q. tree_of q.now) result ≡ policy_named self.now name.now }
         ensures is { IsProgram self.now.fields self.now.topo self.now.lets }

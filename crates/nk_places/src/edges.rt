@@ -35,7 +35,8 @@ fn at_links(st: &mut Store, topo: &Topo) -> Result<Id, AllocError>
     at_places(st, places.as_slice())
 }
 
-/// The packets that are at no edge port.
+/// The packets that are at no edge port: at a port where a link begins, or at none that is
+/// declared. The only error is that memory ran out.
 pub fn off_edges(st: &mut Store, topo: &Topo) -> Result<Id, AllocError>
     requires switch { 65535 ≤ slice_index st.old.maxes 0 }
     requires port { 65535 ≤ slice_index st.old.maxes 1 }
@@ -50,7 +51,7 @@ pub fn off_edges(st: &mut Store, topo: &Topo) -> Result<Id, AllocError>
     outside(st, edges)
 }
 
-/// The located packets with tag 0.
+/// The packets with tag 0 at a declared port. The only error is that memory ran out.
 pub fn starts(st: &mut Store, topo: &Topo, tag: Fid) -> Result<Id, AllocError>
     requires switch { 65535 ≤ slice_index st.old.maxes 0 }
     requires port { 65535 ≤ slice_index st.old.maxes 1 }

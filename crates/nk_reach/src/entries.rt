@@ -14,14 +14,14 @@ use nk_sets::minus;
 use nk_store::{Id, Store};
 use std::alloc::{AllocError, Global};
 
-/// The packets under a set.
+/// The packets under a set, if it has an entry.
 pub fn under(pairs: &IndexMap<SetId, Id>, t: SetId) -> Option<Id>
     ensures { result ≡ lookup (eqb t) pairs.now.entries }
 {
     pairs.get(&t).copied()
 }
 
-/// More packets under a set. The only error is that memory ran out.
+/// Adds packets under a set. The only error is that memory ran out.
 pub fn add(
     st: &mut Store,
     pairs: &mut IndexMap<SetId, Id>,
@@ -78,7 +78,7 @@ pub(crate) fn unmet(
     }
 }
 
-/// The packets met, with those of one level more. The only error is that memory ran out.
+/// Adds the packets of one more level to those met so far. The only error is that memory ran out.
 pub fn merge(
     st: &mut Store,
     met: &mut IndexMap<SetId, Id>,

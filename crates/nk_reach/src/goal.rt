@@ -12,8 +12,8 @@ use nk_sets::{at_packets, is_empty};
 use nk_store::{Id, Store};
 use std::alloc::AllocError;
 
-/// Finals of a set state that must not be: for each set of labels and each packet some outs, which are decided by the
-/// members of the set alone. The target of each is 0 where there is one side or it is the left side's, and 1 where it is the
+/// The finals that a set state must not have: for each set of labels and each packet some outs, which the members of the
+/// set alone decide. The target of each is 0 where there is one side or it is the left side's, and 1 where it is the
 /// right side's.
 pub trait Goal {
     /// The goal is for this store; it stays so while the store grows.

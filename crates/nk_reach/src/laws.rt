@@ -1,12 +1,13 @@
 //! Laws of least histories, without code.
 ghost use Rattle.nk_reach.specs.Laws.{LeadingStandInLevels, GreedyIsLeast, LevelsStay};
 
-/// What leads to something bad in the steps that are left stands in its level.
+/// What is met at a level, and leads to something bad in exactly the steps that are left, is among
+/// the packets of that level.
 pub fn leading_stand_in_levels()
     ensures { LeadingStandInLevels }
 {}
 
-/// Least packets one after another make the least history.
+/// Taking the least packet at each step makes the least history.
 pub fn greedy_is_least()
     ensures { GreedyIsLeast }
 {}

@@ -14,7 +14,8 @@ use nk_sets::is_empty;
 use nk_store::{Id, Store};
 use std::alloc::AllocError;
 
-/// What the last level leads to and was not met. The only error is that memory ran out.
+/// The next level: what the last one leads to and no level has met. The only error is that memory
+/// ran out.
 pub fn next_level(
     st: &mut Store,
     ss: &mut Sets,

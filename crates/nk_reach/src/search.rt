@@ -15,7 +15,9 @@ use nk_field::List;
 use nk_store::{Id, Store};
 use std::alloc::{AllocError, Global};
 
-/// The levels of states, from a set state at the packets given.
+/// The levels of an automaton's states, from the set state `s` at the packets `start`, up to the
+/// first level with a bad final of the goal, or until a level meets nothing new. The only error is
+/// that memory ran out.
 pub fn levels<G: Goal>(
     st: &mut Store,
     ss: &mut Sets,

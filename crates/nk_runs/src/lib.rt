@@ -1,4 +1,4 @@
-//! What the levels of an automaton's states are in the words of its policy: laws, and no code.
+//! Laws, and no code: what the levels of an automaton's states say of its policy.
 #![tactic(auto)]
 
 pub mod laws;

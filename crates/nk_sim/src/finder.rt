@@ -14,8 +14,8 @@ pub struct Finder {
 }
 
 impl Finder {
-    /// The finder of these tables: it takes a few bytes for each number up to the greatest switch. The only error is that
-    /// memory ran out.
+    /// The finder of these tables. It takes a few bytes for each number up to that of the greatest switch with a table.
+    /// The only error is that memory ran out.
     pub fn new(alloc: Global, t: &Tables) -> Result<Finder, AllocError>
         ensures { IfOk result (λ finder. Finds finder t.now.tables) }
     {

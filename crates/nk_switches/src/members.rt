@@ -6,7 +6,8 @@ use nk_determ::{SetId, Sets};
 use nk_field::List;
 use std::alloc::{AllocError, Global};
 
-/// The places of a tag's states: that of the start for tag 0, else the one behind each label of its set.
+/// The places of a tag's states: for tag 0 that of the start, for another tag the one behind each label of its
+/// set. The only error is that memory ran out.
 pub fn members(
     alloc: Global,
     ss: &Sets,
@@ -48,7 +49,8 @@ fn behind(alloc: Global, ss: &Sets, s: SetId, count: usize) -> Result<List<u64>,
     Ok(ls)
 }
 
-/// The tag of each target: 0 for 0, t + 1 for 1 + the number of the set of that tag, and none for another set.
+/// The tag of each target, by place: 0 for target 0; tag t + 1 for the target of the set at place t of `tags`;
+/// none for a set without a tag. The only error is that memory ran out.
 pub fn tag_table(alloc: Global, ss: &Sets, tags: &[SetId]) -> Result<List<Option<u64>>, AllocError>
     requires known { All (λ s. s < length ss.now) tags.now }
     requires once { (i j : ℕ) → i < length tags.now → j < length tags.now → slice_index tags.now i ≡ slice_index tags.now j → i ≡ j }

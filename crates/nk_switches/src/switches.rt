@@ -16,12 +16,12 @@ use nk_store::{Id, Store};
 use nk_table::Table;
 use std::alloc::AllocError;
 
-/// The table of each switch: for each of its tags the rows of the reduced tree of the bucket lists of where the tag's states
-/// lead, and at what they lead to the tag of the set of all labels there; what has no tag is left out. Groups are numbered
-/// at each switch.
+/// The table of each switch. Its rows do for each of its tags what the tag's states do together at the switch. A copy at
+/// which they end leaves with tag 0; one that they record next leaves with the tag of the set of all labels that record
+/// it, and is left out where that set has no tag. Equal bucket lists of a switch are one group.
 ///
-/// `states` are an automaton's diagrams, `tags` the numbers of the tags' sets of labels in order. The only error is that
-/// memory ran out.
+/// `states` are the diagrams of an automaton, `tags` the numbers of the tags' sets of labels in order. The only error is
+/// that memory ran out.
 pub fn switch_tables(
     st: &mut Store,
     ss: &mut Sets,

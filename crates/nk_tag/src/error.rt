@@ -11,10 +11,10 @@ pub enum NumberError {
     /// Memory ran out.
     #[error("no memory")]
     NoMemory,
-    /// There are more sets at odd levels than may be.
+    /// There are more sets at odd levels than are allowed.
     #[error("too many tags, found {found}")]
     TooManyTags {
-        /// How many sets were found: one more than may be, whatever their true number.
+        /// One more than are allowed, however many sets there are.
         found: u64,
     },
 }

@@ -21,7 +21,7 @@ pub struct Tags {
 }
 
 /// The sets at odd levels, each once: by the first odd level that names them, inside a level by their members in
-/// dictionary order; there are at most `max`. Where there are more, the error tells one more than that.
+/// dictionary order. Where there are more than `max`, the error is `TooManyTags` with `max` + 1.
 pub fn number(ss: &Sets, lv: &Levels, max: u64) -> Result<Tags, NumberError>
     requires not_broken { lv.now.broken ≡ false }
     requires entries { AreEntries ss.now lv.now.levels }
