@@ -6,10 +6,9 @@ use nk_cert::{Compared, compare_policies};
 use nk_names::Program;
 use std::alloc::Global;
 
-/// Whether two named policies give the same histories on every packet in range, located or not, the tag a field like any
-/// other; where they do, with the printed certificate, and where they don't, with the least history that one of them alone
-/// has. Names that are no policy's are refused; the
-/// only other error is that memory ran out.
+/// Whether two named policies give the same histories on every packet in range, located or not, the tag being a field
+/// like any other. Where they do, the answer is the printed certificate; where they don't, it is the least history that
+/// one of them alone has. A name that is no policy's is refused; the only other error is that memory ran out.
 pub fn compare(
     alloc: Global,
     program: &Program,

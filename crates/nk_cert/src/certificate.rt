@@ -23,7 +23,8 @@ pub enum CertPart {
     Start,
     /// From each packet of the row both policies end at the same packets without a record.
     Finals,
-    /// Whatever is recorded next from a packet of the row, some row has exactly the numbers with which it is, and it.
+    /// Whatever packet is recorded next from a packet of the row, some row has exactly the numbers of the dups that
+    /// record it, and has that packet.
     Hop,
 }
 

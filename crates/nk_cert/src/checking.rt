@@ -24,9 +24,10 @@ use nk_reach::{OneSide, merge};
 use nk_store::{Id, Store};
 use std::alloc::{AllocError, Global};
 
-/// What is found of a certificate of two policies: that each row meets its four parts, or the first row that fails, and the
-/// first part in which it does. The left policy's dups are numbered from 1 on in text order and the right one's go on from
-/// there. The rows are looked at as sets: positions need not ascend, and several rows may have one set. The only error is that memory ran out.
+/// What is found of a certificate of two policies: that each row meets its four parts, or the first row that fails, and
+/// the first part in which it does. The left policy's dups are numbered from 1 on in text order and the right one's go on
+/// from there. The rows are looked at as sets: positions need not ascend, and several rows may have one set. The only
+/// error is that memory ran out.
 pub fn check_policies(
     alloc: Global,
     fields: &Fields,

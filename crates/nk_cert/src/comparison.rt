@@ -19,11 +19,12 @@ use nk_reach::least_history;
 use nk_store::Store;
 use std::alloc::{AllocError, Global};
 
-/// Whether two policies give the same histories on every packet in range, located or not, the tag a field like any other; where
-/// they do, with the printed certificate, and where they don't, with the least history that one of them alone has (two automata
-/// followed together: Foster et al., POPL 2015). The left policy's dups are numbered from 1 on in text order; the right one's may
-/// have any numbers, and are numbered on from the left one's. Each complement is of a predicate, tests, ranges and assignments
-/// are of the fields and their values; how deep a policy is doesn't matter. The only error is that memory ran out.
+/// Whether two policies give the same histories on every packet in range, located or not, the tag being a field like any
+/// other. Where they do, the answer is the printed certificate; where they don't, it is the least history that one of
+/// them alone has (two automata followed together: Foster et al., POPL 2015). The left policy's dups are numbered from 1
+/// on in text order; the right one's may have any numbers, and are numbered on from the left one's. Each complement is of
+/// a predicate; tests, ranges and assignments are of the fields and their values; a policy may have any depth. The only
+/// error is that memory ran out.
 pub fn compare_policies(
     alloc: Global,
     fields: &Fields,

@@ -11,7 +11,7 @@ pub enum CheckError {
     /// Memory ran out.
     #[error("no memory")]
     NoMemory,
-    /// A name is no policy's.
+    /// One of the names is no policy's.
     #[error("no policy")]
     NoPolicy,
 }

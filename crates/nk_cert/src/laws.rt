@@ -30,7 +30,7 @@ ghost use Rattle.nk_cert.specs.FromLevels.{IsCertificateOf};
 ghost use Rattle.nk_cert.specs.Worked.{left_policy, right_policy, small, short};
 ghost use Rattle.nk_cert.specs.Checked.{IsSetAt, HasNoBad, StepsLeadToRows};
 
-/// Whoever made it, a certificate shows that both policies give the same histories on every packet in range.
+/// A certificate shows that both policies give the same histories on every packet in range, whoever made it.
 pub fn a_certificate_shows_equality()
     ensures sides { (fields : FieldTable) (p q : Policy) → AreSides p q
         → IsInRange p fields → IsInRange q fields
@@ -41,7 +41,7 @@ pub fn a_certificate_shows_equality()
         → (c : CertificateValue) → IsCertificate fields p q c → AreSame fields p q }
 {}
 
-/// Where both policies give the same histories, the printed certificate is one.
+/// Where both policies give the same histories, the printed certificate is a certificate.
 pub fn the_printed_certificate_is_one()
     ensures { (fields : FieldTable) (p q : Policy) → AreSides p q
         → IsInRange p fields → IsInRange q fields → AreSame fields p q
@@ -54,16 +54,16 @@ pub fn one_certificate_is_printed()
         → (c d : CertificateValue) → IsPrinted fields p q c → IsPrinted fields p q d → c ≡ d }
 {}
 
-/// So the printed certificate of two policies is one exactly where they give the same histories.
+/// So the printed certificate of two policies is a certificate exactly where they give the same histories.
 pub fn the_printed_certificate_tells()
     ensures { (fields : FieldTable) (p q : Policy) → AreSides p q
         → IsInRange p fields → IsInRange q fields
         → (c : CertificateValue) → IsPrinted fields p q c → IsCertificate fields p q c ↔ AreSame fields p q }
 {}
 
-/// At most one thing is found of a certificate: that it is one, or that one row fails first, in one part. That nothing is
-/// found is refuted; and where each row's parts are decided, something is found. They are where an automaton of both policies is
-/// there and the rows have predicates.
+/// At most one thing is found of a certificate: that it is one, or that a certain row fails first, in a certain part. It
+/// is contradictory that nothing is found; and where each row's parts are decidable, something is found. They are
+/// decidable where there is an automaton of both policies and the rows have predicates.
 pub fn one_thing_is_found()
     ensures at_most { (fields : FieldTable) (p q : Policy) (c : CertificateValue) (v w : Finding)
         → IsFinding fields p q c v → IsFinding fields p q c w → v ≡ w }
@@ -77,7 +77,8 @@ pub fn one_thing_is_found()
         → (c : CertificateValue) → HasPredicates c → (v : Finding) × IsFinding fields p q c v }
 {}
 
-/// A small certificate, with its positions out of order, is one; and the start row alone fails first in its hop.
+/// A small certificate with its positions out of order is a certificate; with the start row alone it fails in that row's
+/// hop.
 pub fn worked_certificates()
     ensures is_one { (fields : FieldTable) → IsCertificate fields left_policy right_policy small }
     ensures fails { (fields : FieldTable) (pk : Packet) → IsPacketOf fields pk

@@ -1,4 +1,4 @@
-//! What reading a certificate's rows has to do with the grammar and with printing.
+//! Laws of reading the rows of a certificate: they are read by the grammar, and what is printed is read back.
 ghost use Rattle.nk_certtext.specs.Printed.{PrintsPredicates, PrintsPrintable, ReadsPrintedFor};
 ghost use Rattle.nk_certtext.specs.ReadBack.{HaveStartRows, IsMetBySmall, ReadsPrinted};
 
@@ -8,10 +8,10 @@ use nk_grammar::{
 };
 use nk_names::laws::{declared_fields_are_writable, printed_predicates_are_read_back};
 
-/// What is printed of a certificate, behind the text of any program and a line feed, is read as that program's declarations and
-/// as rows that make that certificate. So it is of each certificate over the program's fields whose predicates are in range, at
-/// most 256 deep, without a sum or sequence of exactly one part and of any size, and whose later rows have strictly ascending
-/// positions, at least one and each row others.
+/// What is printed of a certificate, behind the text of any program and a line feed, is read as that program's
+/// declarations and as rows that make that certificate. This holds for each certificate over the program's fields whose
+/// predicates have values in range, are at most 256 deep and have no sum or sequence of exactly one part, of any size;
+/// its later rows have at least one position, strictly ascending ones, and no two rows the same.
 pub fn printed_certificates_are_read()
     ensures { ReadsPrinted }
 {
@@ -34,7 +34,7 @@ pub fn certificates_of_policies_are_read()
     printed_certificates_are_read();
 }
 
-/// What that asks can be met: a small certificate over the switch and the port, with its text.
+/// The premises of that law can hold: a small certificate over the switch and the port, with its text.
 pub fn a_small_certificate_is_printable()
     ensures { IsMetBySmall }
 {}

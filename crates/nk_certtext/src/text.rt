@@ -12,8 +12,9 @@ use nk_names::Program;
 use nk_policy::{Pol, pol_text};
 use std::alloc::{AllocError, Global};
 
-/// The text of a certificate: `certificate`, then `row start : ` and its predicate, then `row N N .. : ` and the predicate
-/// of each later row, one per line. Fields have their names in the program, and positions stand as they are held.
+/// The text of a certificate: `certificate`, then `row start : ` and its predicate, then `row N N .. : ` and the
+/// predicate of each later row, one per line. Fields have their names in the program, and positions stand in the order of
+/// the row. The only error is that memory ran out.
 pub fn cert_text(alloc: Global, program: &Program, c: &Certificate) -> Result<Vec<u8>, AllocError>
     ensures { IfOk result (λ text. text.items ≡ cert_bytes program.now.fields (certificate_value c.now)) }
 {

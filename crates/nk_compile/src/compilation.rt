@@ -21,8 +21,8 @@ pub fn compile(alloc: Global, program: &Program, name: &str) -> Result<Tables, C
     }
 }
 
-/// The number of a named policy's tag sets: how many set states it needs behind links. It is refused as by `compile`, whose work it
-/// takes.
+/// The number of a named policy's tag sets: how many set states it needs behind links. It does the work of `compile` and
+/// is refused in the same way.
 pub fn tag_count(alloc: Global, program: &Program, name: &str) -> Result<u64, CompileError>
     ensures { IsCountAnswer program.now name.now result }
 {
@@ -32,7 +32,7 @@ pub fn tag_count(alloc: Global, program: &Program, name: &str) -> Result<u64, Co
     }
 }
 
-/// The printed tables of a named policy, and the number of its tag sets. It is refused as by `compile`.
+/// The printed tables of a named policy, and the number of its tag sets. It is refused in the same way as by `compile`.
 pub fn compile_counted(
     alloc: Global,
     program: &Program,

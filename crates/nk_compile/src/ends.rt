@@ -9,7 +9,8 @@ use nk_field::List;
 use nk_policy::Pol;
 use std::alloc::{AllocError, Global};
 
-/// For each number below the count the switch where the link literal with this mark ends, if there is one.
+/// For each number below `count` the switch where the link literal with this mark ends, if there is one.
+/// The only error is that memory ran out.
 pub fn link_ends(alloc: Global, p: &Pol, count: usize) -> Result<List<Option<u16>>, AllocError>
     ensures len { IfOk result (λ ends. length ends ≡ count) }
     ensures each { IfOk result (λ ends. (l : ℕ) → l < count → slice_index_or ends l None ≡ link_end (tree_of p.now) l) }

@@ -28,7 +28,7 @@ pub fn the_printed_table_carries()
         → Carries program p t }
 {}
 
-/// What the law asks can be met: the smallest table is printed for its policy.
+/// The law's premises can hold: the smallest table is printed for its policy.
 pub fn the_smallest_table_is_printed()
     ensures { MeetsAll }
 {}

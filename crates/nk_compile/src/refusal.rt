@@ -6,10 +6,10 @@ use nk_field::{History, Packet};
 use std::alloc::AllocError;
 use thiserror::Error;
 
-/// The reasons for which no table is made, the first one in this order.
+/// The reasons for which no tables are made. The first that holds, in this order, is answered.
 #[derive(Debug, Drop, Error)]
 pub enum Refusal {
-    /// The name is no policy's.
+    /// No policy has the name.
     #[error("no policy")]
     NoPolicy,
     /// No tag is declared.

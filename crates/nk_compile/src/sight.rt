@@ -1,4 +1,4 @@
-//! What is seen of a policy without running it.
+//! What a policy's text shows without running it.
 ghost use Rattle.std.specs.Prelude.{◌≡◌, ◌==◌, ◌&&◌, ◌||◌, Bool, Some};
 ghost use Rattle.nk_policy.specs.Tree.{tree_of, trees_of};
 ghost use Rattle.std.specs.List.{list_any};
@@ -27,7 +27,7 @@ pub enum Sought {
     LinkOutside,
 }
 
-/// The first reason not to compile a policy that is seen of it, where the tag is declared.
+/// The first reason not to compile a policy that its text shows. The tag is declared.
 pub fn seen(p: &Pol, topo: &Topo, tag: Fid) -> Option<Refusal>
     ensures { result ≡ seen_with tag topo.now (tree_of p.now) }
 {

@@ -15,14 +15,14 @@ use nk_store::{Id, Store};
 use std::alloc::{AllocError, Global};
 use std::collections::HashMap;
 
-/// For each state of an automaton the ends that are not to be: those in a set of packets.
+/// For each state of an automaton the ends that it must not have: those at packets of a set.
 #[derive(Drop)]
 pub struct WrongEnds {
     /// The states.
     pub states: List<Id>,
     /// The set of packets.
     pub set: Id,
-    /// The diagrams of these ends, by the places of the states.
+    /// The diagrams of those ends, at the places of their states.
     pub ends: List<Id>,
 }
 
@@ -65,7 +65,7 @@ fn end_at(ends: &[Id], place: u64) -> Id
     ends[place as usize]
 }
 
-/// For each of the states its ends in the set.
+/// For each of the states its ends at packets of the set. The only error is that memory ran out.
 pub fn wrong_ends(st: &mut Store, states: &[Id], set: Id) -> Result<WrongEnds, AllocError>
     requires states { AreIds st.old states.now }
     requires set { IsSet st.old set }

@@ -14,11 +14,11 @@ use nk_names::Program;
 use nk_policy::{Pol, Pols};
 use std::alloc::{AllocError, Global};
 
-/// Whether a history of a policy from a packet in range, located or not, breaks a query: where none does, with the printed
-/// certificate that the question and `drop` give the same histories, else with the least history that breaks it (fewer records
-/// first, then the lesser start, then the records in turn, then the last packet). A waypoint is passed where a history has it as
-/// its start packet, among its records or as its last packet (Anderson et al., POPL 2014).
-/// It is refused as `question` refuses; the only other error is that memory ran out.
+/// Whether a history of a policy, from any packet in range, located or not, breaks a query. Where none does, the answer
+/// is the printed certificate that the question and `drop` give the same histories; else it is the least history that
+/// breaks it (fewer records first, then the lesser start, then the records in turn, then the last packet). A waypoint is
+/// passed where a history has it as its start packet, among its records or as its last packet (Anderson et al., POPL
+/// 2014). It is refused as `question` refuses; the only other error is that memory ran out.
 pub fn ask(alloc: Global, program: &Program, query: &Query) -> Result<Answer, QueryError>
     ensures { IsAsked program.now (asked_of query.now) result }
 {

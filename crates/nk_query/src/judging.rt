@@ -16,12 +16,12 @@ use nk_names::Program;
 use nk_policy::Pol;
 use std::alloc::{AllocError, Global};
 
-/// What is found of a certificate that the question of a query and `drop` give the same histories, whoever made it: that each row
-/// meets its four parts, so that no history from a packet in range breaks the query, or the first row that fails and the first
-/// part in which it does (a certificate is a bisimulation of two automata, row by row: Foster et al., POPL 2015). Positions are
-/// the numbers of the question's dups, from 1 in text order; `drop` has none. The rows are looked at as sets: positions need not
-/// ascend, and several rows may have one set.
-/// It is refused as `question` refuses; the only other error is that memory ran out.
+/// What is found of a certificate that the question of a query and `drop` give the same histories, whoever made it: that
+/// each row meets its four parts, so that no history from a packet in range breaks the query; or the first row that fails
+/// and the first part in which it does (a certificate is a bisimulation of two automata, row by row: Foster et al., POPL
+/// 2015). Positions are the numbers of the question's dups, from 1 in text order; `drop` has none. The rows are looked at
+/// as sets: positions need not ascend, and several rows may have one set. It is refused as `question` refuses; the only
+/// other error is that memory ran out.
 pub fn check_query(
     alloc: Global,
     program: &Program,

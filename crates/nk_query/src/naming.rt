@@ -11,12 +11,12 @@ use nk_names::Program;
 use nk_policy::Pol;
 use std::alloc::Global;
 
-/// The question of a query: the policy whose histories are exactly those that break the query, its dups numbered from 1 in text
-/// order. For `apart` it is the sequence of `from`, the policy and `target`; for `waypoint` that of `from`, the complement of
-/// `middle`, the policy with each link literal written out and the complement before each dup, the complement once more, and
-/// `target` (reachability and waypoints by one policy: Anderson et al., POPL 2014). It may be more than 256 deep.
-/// A name that is no policy's is refused, then a policy that has to be a predicate and is none, then a question with more than
-/// 1,048,576 elements; the only other error is that memory ran out.
+/// The question of a query: the policy whose histories are exactly those that break the query, its dups numbered from 1
+/// in text order. For `apart` it is the sequence of `from`, the policy and `target`; for `waypoint` that of `from`, the
+/// complement of `middle`, the policy with each link literal written out and the complement before each dup, the
+/// complement once more, and `target` (reachability and waypoints by one policy: Anderson et al., POPL 2014). It may be
+/// more than 256 deep. The first of these is refused: a name that is no policy's; a policy that has to be a predicate and
+/// isn't one; a question with more than 1,048,576 elements. The only other error is that memory ran out.
 pub fn question(alloc: Global, program: &Program, query: &Query) -> Result<Pol, QueryError>
     ensures is { IsQuestion program.now (asked_of query.now) result }
     ensures fit { IfOk result (λ q. IsFitFor program.now.fields (tree_of q)) }

@@ -10,9 +10,9 @@ pub enum Query<'a> {
     Apart {
         /// The policy's name.
         name: &'a str,
-        /// That of the packets that histories start from.
+        /// The name of the predicate of the packets that histories start from.
         from: &'a str,
-        /// That of the packets that they may not end at.
+        /// The name of the predicate of the packets that they may not end at.
         target: &'a str,
     },
     /// Each history that starts at a packet of `from` and ends at one of `target` has a packet of `middle`: the first one, one
@@ -20,11 +20,11 @@ pub enum Query<'a> {
     Waypoint {
         /// The policy's name.
         name: &'a str,
-        /// That of the packets that histories start from.
+        /// The name of the predicate of the packets that histories start from.
         from: &'a str,
-        /// That of the packets of which each history has one.
+        /// The name of the predicate of the packets of which each history has one.
         middle: &'a str,
-        /// That of the packets that histories end at.
+        /// The name of the predicate of the packets that histories end at.
         target: &'a str,
     },
 }
@@ -32,8 +32,9 @@ pub enum Query<'a> {
 /// Whether a history breaks a query.
 #[derive(Drop)]
 pub enum Answer {
-    /// None does: the printed certificate that the question does the same as `drop`, which shows it.
+    /// No history does: the printed certificate that the question does the same as `drop`, which shows it.
     Holds(Certificate),
-    /// The least history that does, with the packet that it starts from. Its side is the left one, the question's.
+    /// The least history that breaks the query, with the packet that it starts from. Its side is the left one, the
+    /// question's.
     Breaks(Found),
 }
