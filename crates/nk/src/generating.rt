@@ -30,7 +30,7 @@ use std::alloc::{AllocError, Global};
 pub enum Step {
     /// The step is done: the line of what is counted.
     Line(Vec<u8>),
-    /// It is not: the answer of its command.
+    /// The step isn't done, and the job ends with this answer of its command.
     Ends(Said),
 }
 

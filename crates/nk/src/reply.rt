@@ -1,4 +1,4 @@
-//! What a run means to say, and how it is sent.
+//! What a run answers, and how the answer is written.
 ghost use Rattle.std.specs.Prelude.{◌≡◌};
 ghost use Rattle.nk.specs.Use.{use_of};
 ghost use Rattle.nk.specs.Ends.{Delivers, LeavesAlone};
@@ -7,24 +7,25 @@ ghost use Rattle.nk.specs.Reply.{answer_in, IsDelivered};
 use crate::Status;
 use nk_io::{Sink, write_all};
 
-/// What a command answers, whole, before its first byte is written. Each line of a text ends with a
-/// line feed.
+/// The whole answer of a command, made before its first byte is written. Each line of a text ends
+/// with a line feed.
 #[derive(Drop)]
 pub enum Said {
-    /// It is done: the answer.
+    /// The command is done: its answer.
     Done(Vec<u8>),
-    /// What was compared differs, what was checked isn't valid or what was asked is broken: how.
+    /// What was compared differs, what was checked isn't valid, or what was asked is broken: the
+    /// text that says how.
     Differs(Vec<u8>),
-    /// The text of the input is refused: the message.
+    /// The text of the input has a fault: the message.
     Text(Vec<u8>),
-    /// The policy is refused: the message.
+    /// The policy, the packet or the query is refused: the message.
     Refused(Vec<u8>),
 }
 
-/// What a run means to say.
+/// What a run answers.
 #[derive(Drop)]
 pub enum Reply {
-    /// What the command answers.
+    /// The command's own answer.
     Said(Said),
     /// The words are not those of a command.
     Usage,
@@ -36,7 +37,8 @@ pub enum Reply {
     TooLong,
 }
 
-/// Sends the answer to its sink, and leaves the other as it is. It takes no memory.
+/// Writes the answer to its sink and makes no call on the other. Where a call of the sink fails
+/// nothing more is written, and the status is `WriteFault`. It takes no memory.
 pub fn deliver<O: Sink, E: Sink>(reply: &Reply, out: &mut O, err: &mut E) -> Status
     ensures delivered { Delivers (answer_in reply.now)
         (use_of O.taken O.faults out.old out.new)

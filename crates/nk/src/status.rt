@@ -7,13 +7,13 @@ ghost use Rattle.nk.specs.Status.{code_of};
 pub enum Status {
     /// The command's answer is on `out`.
     Done,
-    /// What was compared differs, what was checked isn't valid or what was asked is broken, and `out` says how.
+    /// What was compared differs, what was checked isn't valid, or what was asked is broken; `out` says how.
     Differs,
     /// The words are not those of a command.
     Usage,
     /// The text of the input has a fault.
     Text,
-    /// The policy is refused.
+    /// The policy, the packet or the query is refused.
     Refused,
     /// A call of the source failed.
     ReadFault,

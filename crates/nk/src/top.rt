@@ -25,10 +25,11 @@ use std::alloc::{AllocError, Global};
 /// How many bytes an input has at most.
 const LIMIT: u64 = 16_777_216;
 
-/// Does what the words ask for, which are those after the program's name. Words that are no command
-/// are told before anything is read, and a command that reads nothing is done at once; else the source
-/// is read to its end. The whole answer is built before its first byte is written: on `out` for the statuses `Done` and `Differs`, and on `err` for
-/// the others. After a write that fails nothing more is written.
+/// Does what the words behind the program's name ask for. Words that are no command are refused before anything is read,
+/// and `gen` and `job` read nothing; for every other command the source is read to its end, which fails where a call of
+/// the source fails or it has more than 16,777,216 bytes. The whole answer is built before its first byte is written: on
+/// `out` for the statuses `Done` and `Differs`, on `err` for the others. After a write that fails nothing more is
+/// written.
 pub fn run<S: Source, O: Sink, E: Sink>(
     alloc: Global,
     words: &[String],
@@ -36,7 +37,7 @@ pub fn run<S: Source, O: Sink, E: Sink>(
     out: &mut O,
     err: &mut E,
 ) -> Status
-    // An answer was meant for a cause, and then sent, or its sink failed at it.
+    // One answer was decided on, for a stated reason, and then written completely, or its sink failed.
     ensures ends { Ends (texts words.now)
         (use_of S.left S.faults source.old source.new)
         (use_of O.taken O.faults out.old out.new)
@@ -46,23 +47,23 @@ pub fn run<S: Source, O: Sink, E: Sink>(
         (use_of S.left S.faults source.old source.new)
         (use_of O.taken O.faults out.old out.new)
         (use_of E.taken E.faults err.old err.new) result }
-    // Where nothing failed, the answer that is fixed went out, or memory ran out.
+    // Where nothing failed, the one right answer was written completely, or memory ran out.
     ensures complete { IsComplete (texts words.now)
         (use_of S.left S.faults source.old source.new)
         (use_of O.taken O.faults out.old out.new)
         (use_of E.taken E.faults err.old err.new) result }
-    // Where nothing failed, it ends with `Done` exactly where the bytes are such that the command is done, and with `Differs` exactly
-    // where they are such that it differs, or for want of memory.
+    // Where nothing failed and memory sufficed, it ends with `Done` exactly where the bytes are such that the command is done, and
+    // with `Differs` exactly where they are such that it differs.
     ensures succeeds { Succeeds (texts words.now)
         (use_of S.left S.faults source.old source.new)
         (use_of O.taken O.faults out.old out.new)
         (use_of E.taken E.faults err.old err.new) result }
-    // What failed is told.
+    // The status tells what failed.
     ensures faults { TellsFaults
         (use_of S.left S.faults source.old source.new)
         (use_of O.taken O.faults out.old out.new)
         (use_of E.taken E.faults err.old err.new) result }
-    // Only words that are no command are told as such.
+    // The status `Usage` comes only for words that are no command.
     ensures usage { result ≡ Status.Usage → command_of (texts words.now) ≡ None }
     // No call was made on the source where the words are no command, or one that doesn't read.
     ensures unread { asks_for_input (command_of (texts words.now)) ≡ false → source.new ≡ source.old }

@@ -1,4 +1,4 @@
-//! What a run means to say, and how it is sent.
+//! What a run answers, and how the answer is written.
 ghost use Rattle.std.specs.Prelude.{◌≡◌};
 ghost use Rattle.nk_picture.specs.Answer.{answer_in};
 ghost use Rattle.nk_picture.specs.Ends.{Delivers, IsDelivered, LeavesAlone, state_of};
@@ -6,7 +6,7 @@ ghost use Rattle.nk_picture.specs.Ends.{Delivers, IsDelivered, LeavesAlone, stat
 use crate::Status;
 use nk_io::{Sink, write_all};
 
-/// What a run means to say, whole, before its first byte is written.
+/// The whole answer of a run, made before its first byte is written.
 #[derive(Drop)]
 pub enum Reply {
     /// The drawing.
