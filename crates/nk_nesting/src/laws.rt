@@ -34,13 +34,15 @@ pub fn the_257th_is_refused()
     ensures certificates { RefusesTheCertified257th }
 {}
 
-/// A text of any number of declarations and rows, behind none of whose tokens more than 256 are open, gives them.
+/// A text of any number of declarations and rows, in which never more than 256 are open, gives these declarations and
+/// rows.
 pub fn within_the_limit_is_read()
     ensures texts { ReadsWithinTheLimit }
     ensures certificates { ReadsCertifiedWithinTheLimit }
 {}
 
-/// What is refused as too deep is a `(` or `~` that is the first to open the 257th, in each text that the tokens begin.
+/// What is refused as too deep is a `(` or `~` that is the first to be open as the 257th, in every text that begins with
+/// these tokens.
 pub fn only_the_257th_is_too_deep()
     ensures texts { RefusesOnlyThe257th }
     ensures certificates { RefusesOnlyTheCertified257th }

@@ -11,8 +11,8 @@ use nk_names::laws::declared_fields_are_writable;
 use nk_sim::laws::a_packet_has_one_trace;
 use nk_uniqueness::laws::switches_have_packets;
 
-/// At most one answer, its status and all of its text, is right for a command and bytes, whichever command it is, and so for words
-/// and bytes. So two runs of the same words over sources with the same bytes left have one answer fixed.
+/// For a command and the bytes that it reads at most one answer is right, with its status and all of its text; and so for
+/// words and bytes. So two runs with the same words, over sources with the same bytes left, have one answer fixed.
 pub fn there_is_one_answer()
     ensures command { (c : Option Command) (bytes : List ℕ) (a b : Answer) → IsAnswerTo c bytes a → IsAnswerTo c bytes b → a ≡ b }
     ensures words { (words : List (List ℕ)) (bytes : List ℕ) (a b : Answer)

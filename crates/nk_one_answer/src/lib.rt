@@ -1,4 +1,4 @@
-//! That there is one answer: a law, and no code.
+//! A law, and no code: there is one answer.
 #![tactic(auto)]
 
 pub mod laws;

@@ -1,4 +1,4 @@
-//! That what compiling prints is read back: a law, and no code.
+//! Laws, and no code: what compiling prints is read back.
 #![tactic(auto)]
 
 pub mod laws;

@@ -40,7 +40,8 @@ use nk_cert::laws::{one_certificate_is_printed, one_thing_is_found};
 use nk_compile::laws::the_smallest_table_is_printed;
 use nk_names::laws::{declared_fields_are_writable, declared_topologies_are_declarable};
 
-/// An accepted policy has no reason to be refused. So a name that one program accepts is refused by none that says the same.
+/// There is no reason to refuse an accepted policy. So a name that one program accepts is refused by no program that says
+/// the same.
 pub fn accepted_policies_have_no_reason()
     ensures policy { (program : Program) (p : Policy) (r : Refusal)
         → IsAccepted program p → IsReason program.fields program.topo p r → ⊥ }
@@ -67,8 +68,8 @@ pub fn one_table_is_printed()
         → IsCompiled program name t → IsCompiled other name u → t ≡ u }
 {}
 
-/// Compiling a name has one answer, but for want of memory: where the name is accepted, its tables, and where it is refused, the
-/// reason.
+/// Compiling a name has one answer, unless memory runs out: where the name is accepted, its tables, and where it is
+/// refused, the reason.
 pub fn compiling_has_one_answer()
     ensures accepted { (program other : Program) (name : List ℕ) (a : Result Tables CompileError) → said_by program ≡ said_by other
         → IsAcceptedByName program name → IsAnswer other name a
@@ -90,7 +91,8 @@ pub fn switches_have_packets()
     declared_topologies_are_declarable();
 }
 
-/// The least history that one of two policies alone has is one, and so is its side; policies that give the same histories have none.
+/// Two policies have at most one least history that one of them alone has, and it is of one side; policies that give the
+/// same histories have none.
 pub fn one_difference_is_least()
     ensures one { (fields : FieldTable) (p q : Policy) (s t : Side) (f g : Found)
         → IsLeastDifference fields p q s f → IsLeastDifference fields p q t g → (s ≡ t) × (f ≡ g) }
@@ -125,8 +127,8 @@ pub fn one_finding_is_told()
     one_thing_is_found();
 }
 
-/// The question of a query's names is one, in programs that say the same. One that can be made is kept from being asked by nothing but
-/// want of memory, and beside that at most one cause keeps a query from being asked.
+/// The names of a query have at most one question, in programs that say the same. Where it can be made, the only error is
+/// that memory ran out; and beside that a query has at most one error.
 pub fn one_question_is_asked()
     ensures question { (program other : Program) (asked : Asked) (x y : Question) → said_by program ≡ said_by other
         → NamesQuestion program asked x → NamesQuestion other asked y → x ≡ y }
@@ -153,9 +155,9 @@ pub fn one_thing_is_told_of_a_query()
     one_thing_is_found();
 }
 
-/// Small instances. What the laws ask can be met: of the smallest table's program, whose policy is accepted and has that table
-/// alone; without a tag the same policy is refused; and two small policies have a least difference. A switch of number 65,536, at
-/// which no packet can be, has two printed tables, so the premise is needed.
+/// Small instances. The premises of the laws can hold: of the smallest table's program, whose policy is accepted and has
+/// that table alone; without a tag the same policy is refused; and two small policies have a least difference. A switch
+/// of number 65,536, at which no packet can be, has two printed tables, so the premise is needed.
 pub fn worked_answers()
     ensures met { AreMetBySmallPolicy }
     ensures smallest { (u : Tables) → IsTableOf tag_alone one_port (IsStart tag_alone one_port) id_policy u → u ≡ one_row }

@@ -1,4 +1,4 @@
-//! That answers are fixed: laws, and no code.
+//! Laws, and no code: answers are fixed.
 #![tactic(auto)]
 
 pub mod laws;

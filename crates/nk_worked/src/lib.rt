@@ -1,4 +1,4 @@
-//! Worked examples of what the laws ask: laws, and no code.
+//! Laws, and no code: worked examples in which the premises of other laws hold.
 #![tactic(auto)]
 
 pub mod laws;
