@@ -4,9 +4,10 @@ use Rattle.std.specs.List.{flat_map}
 use Rattle.std.proofs.lemmas.List.Concat.{flat_map_single}
 use Rattle.nk_store.specs.declared.node.Out.{Out}
 use Rattle.nk_store.specs.Leaves.{Every, Strict, AreOrdered}
-use Rattle.nk_algebra.specs.Leaves.{gathered, out_to, aimed}
+use Rattle.nk_algebra.specs.Leaves.{merged, gathered, out_to, aimed}
 use Rattle.nk_algebra.specs.Seqs.{prefixed, out_after}
-use Rattle.nk_algebra.proofs.Members.{Has, has_contains, contains_has, every_has, every_from, strict_same, gathered_strict, gathered_has, has_gathered, prefixed_is}
+use Rattle.nk_algebra.proofs.Sorted.{merged_strict}
+use Rattle.nk_algebra.proofs.Members.{Has, merged_left, merged_right, merged_has, has_contains, contains_has, every_has, every_from, strict_same, gathered_strict, gathered_has, has_gathered, prefixed_is}
 
 -- outs in order, each once, are one list
 pub same_order : (outs r s : List Out) → AreOrdered outs r → AreOrdered outs s → r ≡ s
@@ -35,6 +36,24 @@ has_either : (xs ys : List Out) (o : Out) → Has (xs ++ ys) o → Has xs o ⊎ 
 has_either [] ys o h = inr h
 has_either (x ∷ xs) ys o (inl e) = inl (inl e)
 has_either (x ∷ xs) ys o (inr h) = elim (has_either xs ys o h) [ inl k ↦ inl (inr k) | inr k ↦ inr k ]
+
+-- outs that ascend in front of others come in order to the leaf with both
+pub ordered_more : (xs outs r : List Out) → Strict xs → AreOrdered outs r → AreOrdered (xs ++ outs) (merged xs r)
+ordered_more xs outs r s a = record {
+  sorted = merged_strict xs r s a.sorted;
+  members = λ o. (
+    λ c. has_contains (xs ++ outs) o (there o (merged_has o xs r (contains_has (merged xs r) o c))),
+    λ c. has_contains (merged xs r) o (back o (has_either xs outs o (contains_has (xs ++ outs) o c))),
+  );
+}
+  where
+    there : (o : Out) → Has xs o ⊎ Has r o → Has (xs ++ outs) o
+    there o (inl h) = has_front xs outs o h
+    there o (inr h) = has_back xs outs o (contains_has outs o ((a.members o).0 (has_contains r o h)))
+
+    back : (o : Out) → Has xs o ⊎ Has outs o → Has (merged xs r) o
+    back o (inl h) = merged_left o xs r h
+    back o (inr h) = merged_right o xs r (contains_has r o ((a.members o).1 (has_contains outs o h)))
 
 -- what F makes of a member is there
 flat_has : (F : Out → List Out) (os : List Out) (p o : Out) → Has os p → Has (F p) o → Has (flat_map F os) o

@@ -20,3 +20,5 @@ pub mod Shorts
 pub mod PartSums
 pub mod Halved
 pub mod Splits
+pub mod AtOnce
+pub mod Intervals

@@ -74,7 +74,7 @@ both_all old st f e xs ys ps built g ax ay is = record {
 }
 
 -- what is made of places is the same where it is the same at each
-places_same : (F G : ℕ → List Out) (from n : ℕ) → ((k : ℕ) → from ≤ k → k < from + n → F k ≡ G k) →
+pub places_same : (F G : ℕ → List Out) (from n : ℕ) → ((k : ℕ) → from ≤ k → k < from + n → F k ≡ G k) →
     over_places F from n ≡ over_places G from n
 places_same F G from zero h = refl
 places_same F G from (suc n) h =
@@ -86,14 +86,14 @@ abbrev pub AreNodes : Held → Type 0
 AreNodes st = (d : ℕ) → IsId st d → IsNodeOf st d (node_of st d)
 
 -- each of the diagrams splits by the field
-from_split : (st : Held) (f : ℕ) (ds : List ℕ) (k : ℕ) → AreNodes st → AreIds st ds → AreFrom st f ds → f < 18 →
+pub from_split : (st : Held) (f : ℕ) (ds : List ℕ) (k : ℕ) → AreNodes st → AreIds st ds → AreFrom st f ds → f < 18 →
     k < length ds → IsSplit st f (get_or ds k 0)
 from_split st f ds k nodes ids from h l =
     let d = get_or ds k 0 in
     split_at st f d (node_of st d) (ids k l) refl (nodes d (ids k l)) (from k l) h
 
 -- a leaf at a value stays in a store that grew
-leaf_grows : (old new : Held) (f : ℕ) (ds : List ℕ) (v : ℕ) (pk : List ℕ) (k : ℕ) → Grows old new →
+pub leaf_grows : (old new : Held) (f : ℕ) (ds : List ℕ) (v : ℕ) (pk : List ℕ) (k : ℕ) → Grows old new →
     IsId old (get_or ds k 0) → IsSplit old f (get_or ds k 0) → leaf_at new f ds v pk k ≡ leaf_at old f ds v pk k
 leaf_grows old new f ds v pk k g i s =
     let d = get_or ds k 0 in

@@ -1,10 +1,10 @@
 -- Many diagrams together, by halves.
-use Rattle.std.proofs.Common.{◌≡◌, ℕ, zero, suc, ◌+◌, ◌-◌, ◌<◌, ◌≤◌, List, length, refl, sym, ◌∙◌, ap, subst, arith, get_or, inl, inr}
+use Rattle.std.proofs.Common.{◌≡◌, ℕ, zero, suc, ◌+◌, ◌-◌, ◌<◌, ◌≤◌, min, List, length, refl, sym, ◌∙◌, ap, subst, arith, get_or, inl, inr}
 use Rattle.nk_store.specs.declared.node.Out.{Out}
 use Rattle.nk_store.specs.Leaves.{Strict}
-use Rattle.nk_store.specs.Held.{Held, IsId, look, Grows, HasLeaves, AreTidy}
+use Rattle.nk_store.specs.Held.{Held, IsId, look, top, Grows, HasLeaves, AreTidy}
 use Rattle.nk_algebra.specs.Leaves.{merged}
-use Rattle.nk_algebra.specs.Unions.{AreIds, unions}
+use Rattle.nk_algebra.specs.Unions.{AreIds, AreFrom, unions}
 use Rattle.nk_algebra.proofs.Sorted.{merged_strict}
 use Rattle.nk_algebra.proofs.Members.{Has, merged_left, merged_right, merged_has, strict_same}
 use Rattle.nk_algebra.proofs.Weaves.{merged-nil}
@@ -81,3 +81,18 @@ one_has_leaves st ds from n d is e l ids = record {
   id = subst (IsId st) (sym e) (ids from l);
   leaf = λ pk w. ap (λ k. look st k pk) e ∙ sym (merged-nil (look st (get_or ds from 0) pk)) ∙ ap (λ m. unions st ds from m pk) (sym is);
 }
+
+-- a single diagram tests no field before those of all
+pub one_later : (st : Held) (ds : List ℕ) (from d p : ℕ) → d ≡ get_or ds from 0 → from < length ds → AreFrom st p ds →
+    p ≤ top st d
+one_later st ds from d p e l first = subst (λ k. p ≤ top st k) (sym e) (first from l)
+
+-- both halves together test no field before those of all
+pub halves_later : (old s1 s2 s3 : Held) (ds : List ℕ) (left right new p : ℕ) → Grows old s1 → Grows s1 s2 →
+    AreIds old ds → AreFrom old p ds → IsId s1 left → p ≤ top s1 left →
+    (AreFrom s1 p ds → p ≤ top s2 right) → min (top s2 left) (top s2 right) ≤ top s3 new → p ≤ top s3 new
+halves_later old s1 s2 s3 ds left right new p g h ids first id a b u =
+    let grown : AreFrom s1 p ds = λ k l. subst (λ t. p ≤ t) (sym (g.tops (get_or ds k 0) (ids k l))) (first k l) in
+    let below = b grown in
+    let same : top s2 left ≡ top s1 left = h.tops left id in
+    omega (arith, u, a, below, same)

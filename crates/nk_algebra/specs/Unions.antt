@@ -1,9 +1,11 @@
 -- Many diagrams together.
-use Rattle.std.specs.Prelude.{◌≡◌, ℕ, zero, suc, ◌+◌, ◌<◌, ◌≤◌, List, [], length, slice_index}
+use Rattle.std.specs.Prelude.{◌≡◌, ℕ, zero, suc, ◌+◌, ◌<◌, ◌≤◌, List, [], length, map, slice_index}
+use Rattle.std.specs.List.{flat_map}
 use Rattle.nk_store.specs.declared.node.Out.{Out}
 use Rattle.nk_store.specs.Nodes.{child_at}
 use Rattle.nk_store.specs.Held.{Held, IsId, IsWhole, look, top, AreParts}
 use Rattle.nk_algebra.specs.Leaves.{merged}
+use Rattle.nk_algebra.specs.Seqs.{outs_of}
 use Rattle.nk_algebra.specs.Subs.{sub}
 
 -- each is a number of the store
@@ -14,6 +16,10 @@ AreIds st ds = (k : ℕ) → k < length ds → IsId st (slice_index ds k)
 abbrev pub unions : Held → List ℕ → ℕ → ℕ → List ℕ → List Out
 unions st ds from zero pk = []
 unions st ds from (suc n) pk = merged (look st (slice_index ds from) pk) (unions st ds (from + 1) n pk)
+
+-- the outs of all these leaves, one leaf's behind the other's
+abbrev pub outs_in_turn : Held → List ℕ → List Out
+outs_in_turn st ds = flat_map (outs_of st) ds
 
 -- what F makes of n places from one on, as one ascending list
 abbrev pub over_places : (ℕ → List Out) → ℕ → ℕ → List Out
@@ -27,6 +33,15 @@ AreFrom st f ds = (k : ℕ) → k < length ds → f ≤ top st (slice_index ds k
 -- the leaf of the diagram at place k, at the value v of f
 abbrev pub leaf_at : Held → ℕ → List ℕ → ℕ → List ℕ → ℕ → List Out
 leaf_at st f ds v pk k = look st (sub st f v (slice_index ds k)) pk
+
+-- what each of the diagrams is at the value v of f
+abbrev pub subs : Held → ℕ → ℕ → List ℕ → List ℕ
+subs st f v ds = map (sub st f v) ds
+
+-- each of the diagrams is at the values of f from v to e what it is at v
+abbrev pub AreSteady : Held → ℕ → List ℕ → ℕ → ℕ → Type 0
+AreSteady st f ds v e = (k w : ℕ) → k < length ds → v ≤ w → w ≤ e →
+    sub st f w (slice_index ds k) ≡ sub st f v (slice_index ds k)
 
 -- parts by f that have at each value v the leaf R v
 pub record HaveParts (st : Held) (f : ℕ) (R : ℕ → List ℕ → List Out) (ps : List (ℕ × ℕ)) : Type 0 where

@@ -1,41 +1,17 @@
 //! Many diagrams together, as parts by the first field of all: one node is made of them in the end, and none before.
-ghost use Rattle.std.specs.Prelude.{◌≡◌, ◌<◌, ◌≤◌, ◌-◌, IfOk, length};
+ghost use Rattle.std.specs.Prelude.{◌<◌, ◌≤◌, ◌-◌, IfOk, length};
 ghost use Rattle.nk_store.specs.Nodes.{child_at};
 ghost use Rattle.nk_store.specs.Held.{IsId, look, top, Grows, HasLeaves, IsChild, AreParts};
 ghost use Rattle.nk_algebra.specs.Leaves.{merged};
 ghost use Rattle.nk_algebra.specs.Subs.{sub};
 ghost use Rattle.nk_algebra.specs.Unions.{AreIds, AreFrom, HaveParts, leaf_at, over_places, unions};
 
+use crate::few::{are_few, few_parts};
 use crate::leaves::union_later;
-use crate::part::{found_near, tested};
-use nk_field::{Fid, List, PLACES};
+use crate::part::found_near;
+use nk_field::{Fid, List};
 use nk_store::{Id, Node, Store};
 use std::alloc::AllocError;
-
-/// The place of the field that a diagram tests first, behind all fields for a leaf.
-fn first_place(st: &Store, d: Id) -> usize
-    requires { IsId st.now d }
-    ensures is { result ≡ top st.now d }
-    ensures few { result ≤ 18 }
-{
-    match tested(st, d) {
-        Some(f) => f.place(),
-        None => PLACES,
-    }
-}
-
-/// The least of these places.
-pub(crate) fn least_place(st: &Store, ds: &[Id]) -> usize
-    requires { AreIds st.now ds.now }
-    ensures few { result ≤ 18 }
-    ensures least { AreFrom st.now result ds.now }
-{
-    let mut least = PLACES;
-    for i in 0..ds.len() {
-        least = least.min(first_place(st, ds[i]));
-    }
-    least
-}
 
 /// All leaves together, of diagrams that test no field before this one.
 pub(crate) fn union_at(st: &mut Store, f: Fid, ds: &[Id]) -> Result<Id, AllocError>
@@ -47,8 +23,23 @@ pub(crate) fn union_at(st: &mut Store, f: Fid, ds: &[Id]) -> Result<Id, AllocErr
     ensures ok { IfOk result (λ r. HasLeaves st.new r (λ pk. unions st.old ds.now 0 (length ds.now) pk)) }
 {
     st.laws();
-    let parts = sum_parts(st, f, ds, 0, ds.len())?;
+    let parts = all_parts(st, f, ds)?;
     st.case(f, parts)
+}
+
+/// The parts by the field of all these diagrams together: interval by interval where there are few, else by halves.
+fn all_parts(st: &mut Store, f: Fid, ds: &[Id]) -> Result<List<(u64, Id)>, AllocError>
+    requires field { f < 18 }
+    requires ids { AreIds st.old ds.now }
+    requires first { AreFrom st.old f ds.now }
+    requires some { 0 < length ds.now }
+    ensures grows { Grows st.old st.new }
+    ensures ok { IfOk result (HaveParts st.new f (λ v pk. over_places (leaf_at st.old f ds.now v pk) 0 (length ds.now))) }
+{
+    if are_few(st, f, ds) {
+        return few_parts(st, f, ds);
+    }
+    sum_parts(st, f, ds, 0, ds.len())
 }
 
 /// The parts by the field of some of the diagrams together, by halves.

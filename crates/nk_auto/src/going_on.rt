@@ -12,7 +12,7 @@ use crate::silence::{
 };
 use nk_algebra::{aim, empty, identity, seq, union, union_all};
 use nk_field::{Fid, List};
-use nk_policy::{Pol, dups, is_predicate};
+use nk_policy::{Pol, is_predicate, may_record};
 use nk_sets::at_packets;
 use nk_store::{Id, Store};
 use std::alloc::AllocError;
@@ -186,7 +186,7 @@ pub fn continued_star(st: &mut Store, q: &Pol, next: Id) -> Result<Id, AllocErro
     ensures grows { Grows st.old st.new }
     ensures ok { IfOk result (λ d. IsContinued st.new d (star_of (tree_of q.now)) next) }
 {
-    if dups(q) == 0 {
+    if !may_record(q) {
         return star_without_dup(st, q, next);
     }
     let nothing = empty(st)?;

@@ -13,7 +13,7 @@ use crate::going_on::{
 use crate::guards::{Behind, guard_of, guarded_by, put_together, unguarded};
 use nk_algebra::union_all;
 use nk_field::List;
-use nk_policy::{Pol, dups};
+use nk_policy::{Pol, may_record};
 use nk_store::{Id, Store};
 use std::alloc::AllocError;
 
@@ -93,7 +93,7 @@ fn write_states(
     ensures grows { Grows st.old st.new }
     ensures written { OnOk result (AreWritten st.new states.old states.new base (tree_of p.now) next) }
 {
-    if dups(p) == 0 {
+    if !may_record(p) {
         return Ok(());
     }
     match p {
@@ -180,7 +180,7 @@ fn write_first(
         IsGuarded st.old behind.guard behind.rest (seq_of ps) k → AreWritten st.old before states.old base (seq_of ps) k →
         AreWritten st.new before states.new base (seq_of (part (tree_of p.now) ps)) k) }
 {
-    if dups(p) == 0 {
+    if !may_record(p) {
         return Ok(());
     }
     let next = put_together(st, behind)?;

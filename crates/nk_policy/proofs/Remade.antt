@@ -342,3 +342,23 @@ mutual
       ap (λ d. part (marked_from (marked_from p m) n) (all_marked_from (all_marked_from ps (m + dups_of p)) (n + d))) (marked_dups p m)
       ∙ ap (λ q. part q (all_marked_from (all_marked_from ps (m + dups_of p)) (n + dups_of p))) (marked_again p m n)
       ∙ ap (part (marked_from p n)) (all_marked_again ps (m + dups_of p) (n + dups_of p))
+
+mutual
+  -- a policy that has no dup stays as it is
+  pub dupless_marked : (p : Policy) (n : ℕ) → dups_of p ≡ 0 → marked_from p n ≡ p
+  dupless_marked (test g k) n none = refl
+  dupless_marked (range g lo hi) n none = refl
+  dupless_marked (assign g k) n none = refl
+  dupless_marked (sum_of ps) n none = ap sum_of (all_dupless_marked ps n none)
+  dupless_marked (seq_of ps) n none = ap seq_of (all_dupless_marked ps n none)
+  dupless_marked (not_of p) n none = ap not_of (dupless_marked p n none)
+  dupless_marked (star_of p) n none = ap star_of (dupless_marked p n none)
+  dupless_marked (dup l) n none = absurd (omega (arith, none))
+  dupless_marked (link a j b k l) n none = absurd (omega (arith, none))
+
+  -- its parts
+  all_dupless_marked : (ps : Policies) (n : ℕ) → dups_of_all ps ≡ 0 → all_marked_from ps n ≡ ps
+  all_dupless_marked no_part n none = refl
+  all_dupless_marked (part p ps) n none =
+      ap (λ q. part q (all_marked_from ps (n + dups_of p))) (dupless_marked p n (omega (arith, none)))
+      ∙ ap (part p) (all_dupless_marked ps (n + dups_of p) (omega (arith, none)))

@@ -217,7 +217,7 @@ pub fn numbered_dups_differ()
 {}
 
 /// A policy that is numbered anew gives the same histories and has the same shape; to number it once more changes
-/// nothing.
+/// nothing, and neither does numbering a policy that has no dup.
 pub fn numbering_keeps()
     ensures meaning { (p : Policy) (n : ℕ) (pk : Packet) (w : List Packet) (y : Packet)
         → Gives (marked_from p n) pk w y ↔ Gives p pk w y }
@@ -226,6 +226,7 @@ pub fn numbering_keeps()
     ensures dups { (p : Policy) (n : ℕ) → dups_of (marked_from p n) ≡ dups_of p }
     ensures predicate { (p : Policy) (n : ℕ) → is_predicate (marked_from p n) ≡ is_predicate p }
     ensures again { (p : Policy) (m n : ℕ) → marked_from (marked_from p m) n ≡ marked_from p n }
+    ensures dupless { (p : Policy) (n : ℕ) → dups_of p ≡ 0 → marked_from p n ≡ p }
 {}
 
 /// A policy with its link literals written out gives the same histories, has the same runs, complete and so far, and

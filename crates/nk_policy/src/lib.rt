@@ -9,7 +9,7 @@ mod rebuild;
 mod text;
 
 pub use all_histories::histories;
-pub use measure::{depth, dups, is_predicate, size};
+pub use measure::{depth, dups, is_predicate, may_record, size};
 pub use policy::{Pol, Pols};
 pub use rebuild::{expand_links, marked};
 pub use text::pol_text;

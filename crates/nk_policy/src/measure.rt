@@ -1,5 +1,5 @@
 //! What is read off a policy's tree.
-ghost use Rattle.std.specs.Prelude.{◌≡◌, min};
+ghost use Rattle.std.specs.Prelude.{◌≡◌, ◌<◌, true, false, min};
 ghost use Rattle.nk_policy.specs.Policy.{size_of, sizes_of, depth_of, depths_of, dups_of, dups_of_all, is_predicate as is_predicate_tree, are_predicates};
 ghost use Rattle.nk_policy.specs.Tree.{tree_of, trees_of};
 
@@ -84,6 +84,36 @@ fn dups_all(ps: &[Pol]) -> u64
         total = total.saturating_add(dups(q));
     }
     total
+}
+
+/// Whether it has a dup. Parts are asked from the last on, as links stand behind what is done at a switch.
+#[cycle(may_record)]
+#[tactic(auto, using(crate::proofs::Trees::tree_of_sum, crate::proofs::Trees::tree_of_seq))]
+pub fn may_record(p: &Pol) -> bool
+    ensures some { result ≡ true → 0 < dups_of (tree_of p.now) }
+    ensures none { result ≡ false → dups_of (tree_of p.now) ≡ 0 }
+{
+    match p {
+        Pol::Test(_, _) | Pol::Range(_, _, _) | Pol::Set(_, _) => false,
+        Pol::Dup(_) | Pol::Link(_, _, _, _, _) => true,
+        Pol::Sum(ps) | Pol::Seq(ps) => some_may_record(ps.as_slice()),
+        Pol::Not(q) | Pol::Star(q) => may_record(q),
+    }
+}
+
+#[cycle(may_record)]
+fn some_may_record(ps: &[Pol]) -> bool
+    ensures some { result ≡ true → 0 < dups_of_all (trees_of ps.now) }
+    ensures none { result ≡ false → dups_of_all (trees_of ps.now) ≡ 0 }
+{
+    let mut i = ps.len();
+    while i > 0 {
+        i -= 1;
+        if may_record(&ps[i]) {
+            return true;
+        }
+    }
+    false
 }
 
 /// Whether it is a predicate: made of tests, ranges, sums, sequences and complements of predicates

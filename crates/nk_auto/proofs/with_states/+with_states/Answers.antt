@@ -79,9 +79,9 @@ part_with_states-returns-clause-written t c =
     written_grow c.continued_with_states.new.st c.unguarded.new.st before c.continued_with_states.new.states c.args.base (seq_of (part p ps)) k c.unguarded.ensures.grows
     (seq_written c.put_together.new.st c.continued_with_states.new.st before c.args.states.now c.continued_with_states.new.states c.args.base c.in_ok-next.next k p ps c.continued_with_states.ensures.grows grown (c.in_ok-next.ensures.ok (seq_of ps) k here) c.in_ok-rest.ensures.written))
 
-pub write_first-returns-then-dups-eq0-clause-written : goal.write_first-returns-then-dups-eq0-clause-written
-write_first-returns-then-dups-eq0-clause-written t c = λ before ps k behind w.
-    behind_written c.args.st.now c.args.st.now before c.args.states.now c.args.base k (tree_of c.args.p.now) ps (grows_same c.args.st.now) (counted_none (tree_of c.args.p.now) (omega (arith, c.dups.ensures, c.if-dups-eq0.true))) w
+pub write_first-returns-then-not-may_record-clause-written : goal.write_first-returns-then-not-may_record-clause-written
+write_first-returns-then-not-may_record-clause-written t c = λ before ps k behind w.
+    behind_written c.args.st.now c.args.st.now before c.args.states.now c.args.base k (tree_of c.args.p.now) ps (grows_same c.args.st.now) (counted_none (tree_of c.args.p.now) (c.may_record.ensures.none c.if-not-may_record.true)) w
 
 pub write_first-returns-clause-written : goal.write_first-returns-clause-written
 write_first-returns-clause-written t c =
@@ -204,9 +204,9 @@ write_all-returns-clause-written t c =
     let zero_is : c.loop-i.i ≡ 0 = omega (arith, c.loop-i-test.false, c.if-i-eq1.false) in
     subst (λ n. AreWritten c.loop-i.st c.args.states.now c.loop-i.states c.args.base (seq_of (trees_of (drop n c.args.ps.now))) c.args.next) zero_is c.loop-i.invariant.written
 
-pub write_states-returns-then-dups-eq0-clause-written : goal.write_states-returns-then-dups-eq0-clause-written
-write_states-returns-then-dups-eq0-clause-written t c =
-    dupless_written c.args.st.now c.args.states.now c.args.base (tree_of c.args.p.now) c.args.next (omega (arith, c.dups.ensures, c.if-dups-eq0.true))
+pub write_states-returns-then-not-may_record-clause-written : goal.write_states-returns-then-not-may_record-clause-written
+write_states-returns-then-not-may_record-clause-written t c =
+    dupless_written c.args.st.now c.args.states.now c.args.base (tree_of c.args.p.now) c.args.next (c.may_record.ensures.none c.if-not-may_record.true)
 
 pub write_states-returns-in-Not-clause-written : goal.write_states-returns-in-Not-clause-written
 write_states-returns-in-Not-clause-written t c =

@@ -1,7 +1,7 @@
 use Rattle.std.proofs.Common.{sym, subst}
 use Rattle.nk_field.specs.declared.packet.Packet.{Packet}
 use Rattle.nk_policy.specs.Meaning.{Way}
-use Rattle.nk_policy.proofs.Remade.{marked_ways, marked_depth, marked_size, marked_dups, marked_predicate, marked_again}
+use Rattle.nk_policy.proofs.Remade.{marked_ways, marked_depth, marked_size, marked_dups, marked_predicate, marked_again, dupless_marked}
 use Rattle.nk_policy.proofs.laws.numbering_keeps.Goals as goal
 
 pub returns-clause-meaning : goal.returns-clause-meaning
@@ -24,3 +24,6 @@ returns-clause-predicate c = λ p n. marked_predicate p n
 
 pub returns-clause-again : goal.returns-clause-again
 returns-clause-again c = λ p m n. marked_again p m n
+
+pub returns-clause-dupless : goal.returns-clause-dupless
+returns-clause-dupless c = λ p n none. dupless_marked p n none
