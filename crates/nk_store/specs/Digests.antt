@@ -1,5 +1,6 @@
 -- The number that a node, or what an answer is found by, is hashed by.
-use Rattle.std.specs.Prelude.{ℕ, ◌+◌, ◌*◌, ◌%◌, ◌^◌, List, [], ◌∷◌}
+use Rattle.std.specs.Prelude.{ℕ, ◌+◌, ◌*◌, ◌/◌, ◌%◌, ◌^◌, List, [], ◌∷◌, length, nat_eq, if◌then◌else◌}
+use Rattle.std.specs.Int.{w64, from_le_bytes}
 use Rattle.nk_store.specs.declared.node.Node.{Node}
 use Rattle.nk_store.specs.declared.node.Node.TheVariants.{Leaf, Case}
 use Rattle.nk_store.specs.declared.node.Out.{Out}
@@ -7,24 +8,36 @@ use Rattle.nk_store.specs.declared.operation.Operation.{Operation}
 use Rattle.nk_store.specs.declared.operation.Operation.TheVariants.{Union, Both, Negate, Missing, Seq, Split}
 use Rattle.nk_store.specs.declared.operation.Key.{Key}
 
--- one number mixed into another
-abbrev pub mixed : ℕ → ℕ → ℕ
-mixed n m = (((n + m) % 2 ^ 64) * 11400714819323198485) % 2 ^ 64
+-- what a number is multiplied by, made of two others
+abbrev pub factor : ℕ → ℕ → ℕ
+factor a b = (((b * 0x9e37_79b9_7f4a_7c15) % 2 ^ 64 + a) % 2 ^ 64 + 0x243f_6a88_85a3_08d3) % 2 ^ 64
+
+-- two halves of a product as one: h + l + 2 * h * l
+abbrev pub halves_mixed : ℕ → ℕ → ℕ
+halves_mixed h l = ((h * (((l * 2) % 2 ^ 64 + 1) % 2 ^ 64)) % 2 ^ 64 + l) % 2 ^ 64
+
+-- the halves of the product of two numbers as one, with the second number added
+abbrev pub folded : ℕ → ℕ → ℕ
+folded x y = (halves_mixed (x * y / 2 ^ 64) ((x * y) % 2 ^ 64) + y) % 2 ^ 64
+
+-- two numbers mixed into another
+abbrev pub mixed : ℕ → ℕ → ℕ → ℕ
+mixed n a b = folded (((n + a) % 2 ^ 64 + b) % 2 ^ 64) (factor a b)
 
 -- assignments mixed into a number
 abbrev pub sets_mixed : ℕ → List (ℕ × ℕ) → ℕ
 sets_mixed n [] = n
-sets_mixed n (s ∷ sets) = sets_mixed (mixed (mixed n s.0) s.1) sets
+sets_mixed n (s ∷ sets) = sets_mixed (mixed n s.0 s.1) sets
 
 -- parts mixed into a number
 abbrev pub parts_mixed : ℕ → List (ℕ × ℕ) → ℕ
 parts_mixed n [] = n
-parts_mixed n (p ∷ parts) = parts_mixed (mixed (mixed n p.0) p.1) parts
+parts_mixed n (p ∷ parts) = parts_mixed (mixed n p.0 p.1) parts
 
 -- outs mixed into a number
 abbrev pub outs_mixed : ℕ → List Out → ℕ
 outs_mixed n [] = n
-outs_mixed n (o ∷ outs) = outs_mixed (mixed (sets_mixed n o.act) o.target) outs
+outs_mixed n (o ∷ outs) = outs_mixed (mixed (sets_mixed n o.act) o.target 0) outs
 
 -- a node as a number
 abbrev pub digest : Node → ℕ
@@ -42,4 +55,8 @@ operation_number Split = 5
 
 -- an operation and its diagrams as a number
 abbrev pub key_mixed : Key → ℕ
-key_mixed k = mixed (mixed (mixed 0 (operation_number k.operation)) k.left) k.right
+key_mixed k = mixed (operation_number k.operation) k.left k.right
+
+-- eight bytes as a number, the lowest first; other writes leave the number before
+abbrev pub number_given : ℕ → List ℕ → ℕ
+number_given before bytes = if nat_eq (length bytes) 8 then from_le_bytes w64 bytes else before

@@ -4,16 +4,18 @@ ghost use Rattle.std.specs.Map.{lookup};
 ghost use Rattle.nk_store.specs.declared.operation.Key.{Key};
 ghost use Rattle.nk_store.specs.KeptAnswers.{key_of, key_eq, with_answer};
 
+use crate::identity_hasher::IdentityHasher;
 use crate::node::Id;
 use crate::operation::{Key, Operation};
 use indexmap::IndexMap;
 use std::alloc::{AllocError, Global};
+use std::hash::BuildHasherDefault;
 use std::marker::Model;
 
 /// Answers, each found by its operation and its diagrams. An operation on one diagram has it twice.
 #[derive(Drop)]
 pub(crate) struct Answers {
-    answers: IndexMap<Key, Id>,
+    answers: IndexMap<Key, Id, BuildHasherDefault<IdentityHasher>>,
 }
 
 impl Model for Answers {
@@ -31,7 +33,7 @@ impl Answers {
         ensures { result ≡ [] }
     {
         Answers {
-            answers: IndexMap::new(alloc),
+            answers: IndexMap::with_hasher(alloc, BuildHasherDefault::new()),
         }
     }
 

@@ -2,7 +2,7 @@
 ghost use Rattle.std.specs.Prelude.{◌≡◌};
 ghost use Rattle.std.specs.Hash as fed;
 ghost use Rattle.std.proofs.Common.{ap};
-ghost use Rattle.nk_store.specs.Digests.{mixed, sets_mixed, parts_mixed, outs_mixed, digest, operation_number, key_mixed};
+ghost use Rattle.nk_store.specs.Digests.{factor, halves_mixed, folded, mixed, sets_mixed, parts_mixed, outs_mixed, digest, operation_number, key_mixed};
 ghost use Rattle.nk_store.specs.Equal.{node_same, key_same};
 
 use crate::node::{Id, Node, Out};
@@ -36,7 +36,7 @@ fn outs_mixed(n: u64, outs: &[Out]) -> u64
 {
     let mut all = n;
     for o in outs {
-        all = mixed(sets_mixed(all, o.act.as_slice()), o.target);
+        all = mixed(sets_mixed(all, o.act.as_slice()), o.target, 0);
     }
     all
 }
@@ -47,7 +47,7 @@ fn sets_mixed(n: u64, sets: &[(Fid, u64)]) -> u64
 {
     let mut all = n;
     for (f, v) in sets {
-        all = mixed(mixed(all, f.place() as u64), *v);
+        all = mixed(all, f.place() as u64, *v);
     }
     all
 }
@@ -58,16 +58,43 @@ fn parts_mixed(n: u64, parts: &[(u64, Id)]) -> u64
 {
     let mut all = n;
     for (end, c) in parts {
-        all = mixed(mixed(all, *end), c.place() as u64);
+        all = mixed(all, *end, c.place() as u64);
     }
     all
 }
 
-/// One number mixed into another.
-fn mixed(n: u64, m: u64) -> u64
-    ensures { result ≡ mixed n m }
+/// Two numbers mixed into another. By sums and products with constants alone numbers that collide could be written down, and so
+/// they could by the sum of a product's halves, which is the product modulo 2^64 - 1.
+fn mixed(n: u64, a: u64, b: u64) -> u64
+    ensures { result ≡ mixed n a b }
 {
-    n.wrapping_add(m).wrapping_mul(0x9e37_79b9_7f4a_7c15)
+    folded(n.wrapping_add(a).wrapping_add(b), factor(a, b))
+}
+
+/// What a number is multiplied by, made of two others.
+fn factor(a: u64, b: u64) -> u64
+    ensures { result ≡ factor a b }
+{
+    b.wrapping_mul(0x9e37_79b9_7f4a_7c15)
+        .wrapping_add(a)
+        .wrapping_add(0x243f_6a88_85a3_08d3)
+}
+
+/// The halves of the product of two numbers as one, with the second number added.
+fn folded(x: u64, y: u64) -> u64
+    ensures { result ≡ folded x y }
+{
+    let product = x as u128 * y as u128;
+    let low = (product % 0x1_0000_0000_0000_0000) as u64;
+    halves_mixed((product >> 64) as u64, low).wrapping_add(y)
+}
+
+/// Two halves of a product as one. Neither half alone decides it, and it is not linear in both.
+fn halves_mixed(high: u64, low: u64) -> u64
+    ensures { result ≡ halves_mixed high low }
+{
+    high.wrapping_mul(low.wrapping_mul(2).wrapping_add(1))
+        .wrapping_add(low)
 }
 
 impl Hash for Key {
@@ -76,8 +103,11 @@ impl Hash for Key {
     ghost respects_eq = { λ k q h. ap (λ x. fed.u64 (key_mixed x)) (key_same k q h) };
 
     fn hash<H: Hasher>(&self, state: &mut H) {
-        let first = mixed(mixed(0, number(self.operation)), self.left.place() as u64);
-        state.write_u64(mixed(first, self.right.place() as u64));
+        state.write_u64(mixed(
+            number(self.operation),
+            self.left.place() as u64,
+            self.right.place() as u64,
+        ));
     }
 }
 

@@ -4,17 +4,19 @@ ghost use Rattle.nk_store.specs.Nodes.{child_at, is_empty_leaf, Fits, Sound};
 ghost use Rattle.nk_store.specs.Leaves.{Strict, Every, Suits};
 ghost use Rattle.nk_store.specs.Held.{IsId, node_of, look, top, Grows, HasLeaves, AreParts, IsNodeOf, IsStill, IsReduced, AreTidy, Agree, IsCanonical, IsOver, HasFields};
 
+use crate::identity_hasher::IdentityHasher;
 use crate::node::{Id, Node, Out};
 use crate::parts::{in_whole, part_child};
 use indexmap::IndexSet;
 use nk_field::{Fid, Fields, List, PLACES, Packet};
 use std::alloc::{AllocError, Global};
+use std::hash::BuildHasherDefault;
 use std::marker::Model;
 
 /// The nodes, each once, in the order in which they were made, and what is kept of the fields.
 #[derive(Drop)]
 pub(crate) struct NodeTable {
-    nodes: IndexSet<Node>,
+    nodes: IndexSet<Node, BuildHasherDefault<IdentityHasher>>,
     maxes: [u64; 18],
     width: usize,
     tag: Option<Fid>,
@@ -43,7 +45,7 @@ impl NodeTable {
     {
         let _few = fields.declared();
         Ok(NodeTable {
-            nodes: IndexSet::new(alloc),
+            nodes: IndexSet::with_hasher(alloc, BuildHasherDefault::new()),
             maxes: maxima(fields),
             width: fields.len(),
             tag: fields.tag(),
