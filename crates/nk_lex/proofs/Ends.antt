@@ -16,7 +16,7 @@ use Rattle.nk_lex.specs.Lex.{Returns, Scanned, after, answer, cut, front_of, go_
 use Rattle.nk_lex.proofs.Cuts.{IsLeft, finished, resumed, settle_after, is_left, scan_finish, settle_more}
 use Rattle.nk_lex.specs.Kept.{FeedState, IsFed, IsKept}
 use Rattle.nk_lex.specs.NextPiece.{alone, end_answer, ended, goes_on, held_answer, held_past, number_answer, pending_past, wanted_past}
-use Rattle.nk_lex.specs.Pieces.{IsQuiet, Left, Rest, Settled, completed, held_in, is_open, left_by, settle}
+use Rattle.nk_lex.specs.Pieces.{CompletesNothing, Left, Rest, Settled, completed, held_in, is_open, left_by, settle}
 use Rattle.nk_lex.proofs.Cutting.{digit_front}
 use Rattle.nk_lex.proofs.Arms.{number_kept}
 use Rattle.nk_lex.proofs.Held.{Goes, HasAll, IsOpened, ends, goes, open_all, open_white, opened, scan_passed}
@@ -188,7 +188,7 @@ no_want l fed line (pending.Fault e) held r i none a b h = omega (arith, a, b, h
 
 -- where no name and no symbol is open, and a piece completes no token and leaves none open
 pub fed_quiet : (text piece : List ℕ) (s : FeedState) → IsFed text s → goes_on s.pending s.held piece ≡ false → s.held ≡ []
-    → IsQuiet text piece → 0 < wanted_past s.pending (ended s.pending s.held s.fed s.line piece) → ⊥
+    → CompletesNothing text piece → 0 < wanted_past s.pending (ended s.pending s.held s.fed s.line piece) → ⊥
 fed_quiet text piece s f g none q h =
     let r : Settled = ended s.pending s.held s.fed s.line piece in
     let is = fed_ended text piece s f g in

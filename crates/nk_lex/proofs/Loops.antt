@@ -11,7 +11,7 @@ use Rattle.nk_lex.specs.declared.settling.Next.{Next}
 use Rattle.nk_lex.specs.declared.unfinished.Pending.TheVariants as pending
 use Rattle.nk_lex.specs.Lex.{Fails, cut, cut_front, front_of, line_after, HasToken, IsFault}
 use Rattle.nk_lex.proofs.Cuts.{settle_after, front_settles, whole_opens}
-use Rattle.nk_lex.specs.Kept.{IsKept, IsWithin, pending_of}
+use Rattle.nk_lex.specs.Kept.{IsKept, IsPendingWithin, pending_of}
 use Rattle.nk_lex.specs.NextPiece.{Fits, IsNext, has_whole, wanted}
 use Rattle.nk_lex.specs.Pieces.{Left, Rest, Fault, Settled, held_in, held_of, is_open, settle, settle_on}
 use Rattle.nk_lex.proofs.Steps.{lines_most}
@@ -152,7 +152,7 @@ pub stop_fits : {E : Type 0} (r : Result Next E) (line fed : ℕ) (e : LexError)
 stop_fits (Ok n) line fed e most i p h = record {
   line = rw (h, i) (omega (arith, most));
   held = rw h (omega arith);
-  pending = subst (λ q. IsWithin q fed) (sym p) tt;
+  pending = subst (λ q. IsPendingWithin q fed) (sym p) tt;
 }
 stop_fits (Err x) line fed e most i p h = tt
 

@@ -36,6 +36,6 @@ pub record IsFed (text : List ℕ) (s : FeedState) : Type 0 where
   pub kept : IsKept (left_by text) s.line s.pending s.held
 
 -- the place and the value of an open number are those of some bytes so far
-abbrev pub IsWithin : Pending → ℕ → Type 0
-IsWithin (pending.Number at value) fed = (at ≤ fed) × (value ≤ largest + 1)
-IsWithin p fed = ⊤
+abbrev pub IsPendingWithin : Pending → ℕ → Type 0
+IsPendingWithin (pending.Number at value) fed = (at ≤ fed) × (value ≤ largest + 1)
+IsPendingWithin p fed = ⊤

@@ -11,7 +11,7 @@ use Rattle.nk_lex.specs.declared.unfinished.Pending.TheVariants as pending
 use Rattle.nk_lex.specs.declared.settling.Next.{Next}
 use Rattle.nk_lex.specs.Classes.{is_digit, is_name_byte, is_name_start, not_line_feed}
 use Rattle.nk_lex.specs.Lex.{cut_front, largest, token}
-use Rattle.nk_lex.specs.Kept.{value_on, IsKept, IsWithin}
+use Rattle.nk_lex.specs.Kept.{value_on, IsKept, IsPendingWithin}
 use Rattle.nk_lex.specs.Pieces.{is_empty, is_open, Settled, settle_on, settle, held_in, Fault}
 
 -- a lexeme that is complete stands at the front
@@ -102,4 +102,4 @@ pub record IsNext (before : List Token) (r : Settled) (n : Next) : Type 0 where
 pub record Fits (fed : ℕ) (n : Next) : Type 0 where
   pub line : n.line + length n.held.items ≤ fed + 1
   pub held : length n.held.items ≤ fed
-  pub pending : IsWithin n.pending fed
+  pub pending : IsPendingWithin n.pending fed

@@ -75,12 +75,12 @@ abbrev pub open_in : List ℕ → List ℕ
 open_in text = held_in (left_by text)
 
 -- a lexeme that these bytes complete has this fault, and none before it has one
-abbrev pub HasFault : List ℕ → LexError → Type 0
-HasFault text e = left_by text ≡ Fault e
+abbrev pub HasLexicalFault : List ℕ → LexError → Type 0
+HasLexicalFault text e = left_by text ≡ Fault e
 
 -- the piece completes no token behind the text, and leaves no name and no symbol open
-abbrev pub IsQuiet : List ℕ → List ℕ → Type 0
-IsQuiet text piece = (completed (text ++ piece) ≡ completed text) × (open_in (text ++ piece) ≡ [])
+abbrev pub CompletesNothing : List ℕ → List ℕ → Type 0
+CompletesNothing text piece = (completed (text ++ piece) ≡ completed text) × (open_in (text ++ piece) ≡ [])
 
 -- one list begins with the other
 abbrev pub Begins : List Token → List Token → Type 0
@@ -96,5 +96,5 @@ CompletedStay = (text : List ℕ) → Stay text (completed text) × ((ts : List 
 
 -- whatever bytes come behind a fault, no token is completed, and the fault is the first one of the whole text
 abbrev pub FaultsStay : Type 0
-FaultsStay = (text : List ℕ) (e : LexError) → HasFault text e → (more : List ℕ)
-    → HasFault (text ++ more) e × (completed (text ++ more) ≡ completed text) × (tokens_of (text ++ more) ≡ Err e)
+FaultsStay = (text : List ℕ) (e : LexError) → HasLexicalFault text e → (more : List ℕ)
+    → HasLexicalFault (text ++ more) e × (completed (text ++ more) ≡ completed text) × (tokens_of (text ++ more) ≡ Err e)

@@ -23,7 +23,7 @@ ghost use Rattle.nk_lex.specs.declared.token.LexError.{LexError};
 ghost use Rattle.nk_lex.specs.declared.unfinished.Pending.TheVariants.{Fault};
 ghost use Rattle.nk_lex.specs.Lex.{largest, tokens_of, Returns};
 ghost use Rattle.nk_lex.specs.Kept.{IsFed};
-ghost use Rattle.nk_lex.specs.Pieces.{completed, open_in, HasFault, IsQuiet};
+ghost use Rattle.nk_lex.specs.Pieces.{completed, open_in, HasLexicalFault, CompletesNothing};
 
 use crate::settling::{cut_on, ending, goes_on, hold, pending_past};
 use crate::unfinished::Pending;
@@ -44,7 +44,7 @@ pub struct Feed {
 
 impl Model for Feed {
     ghost use Rattle.std.specs.Prelude.{◌≤◌, ◌+◌, length};
-    ghost use Rattle.nk_lex.specs.Kept.{FeedState, IsWithin};
+    ghost use Rattle.nk_lex.specs.Kept.{FeedState, IsPendingWithin};
 
     ghost Value = { FeedState };
 
@@ -56,7 +56,7 @@ impl Model for Feed {
     } };
 
     ghost invariant = { λ s. (s.line + length s.held.items ≤ s.fed + 1) × (length s.held.items ≤ s.fed)
-        × IsWithin s.pending s.fed };
+        × IsPendingWithin s.pending s.fed };
 }
 
 impl Feed {
@@ -92,8 +92,8 @@ impl Feed {
         ensures texts { (text : List ℕ) → IsFed text self.old → IfOk result (λ v.
             All (λ t. IsUtf8 t.text) v.items) }
         ensures quiet { (text : List ℕ) → IsFed text self.old → self.old.held ≡ []
-            → IsQuiet text piece.now → IsOk result }
-        ensures fault { (text : List ℕ) (e : LexError) → IsFed text self.old → HasFault text e
+            → CompletesNothing text piece.now → IsOk result }
+        ensures fault { (text : List ℕ) (e : LexError) → IsFed text self.old → HasLexicalFault text e
             → IsOk result × IfOk result (λ v. v.items ≡ []) × (self.new.pending ≡ Fault e) }
         ensures err { OnErr result (self.new ≡ self.old) }
     {

@@ -21,7 +21,7 @@ ghost use Rattle.nk_lex.specs.declared.unfinished.Pending.TheVariants.{Fault, He
 ghost use Rattle.std.specs.List.{list_all};
 ghost use Rattle.nk_lex.specs.Classes.{is_digit, is_name_byte, not_line_feed};
 ghost use Rattle.nk_lex.specs.Lex.{largest, IsFault, Returns};
-ghost use Rattle.nk_lex.specs.Kept.{pending_of, IsWithin};
+ghost use Rattle.nk_lex.specs.Kept.{pending_of, IsPendingWithin};
 ghost use Rattle.nk_lex.specs.NextPiece.{
   end_answer,
   ended,
@@ -244,7 +244,7 @@ pub fn hold(held: &mut Vec<u8>, pending: Pending, piece: &[u8]) -> Result<(), Al
 
 /// What is open where all of the piece belongs to it.
 pub fn pending_past(pending: Pending, piece: &[u8]) -> Pending
-    requires { (fed : ℕ) × IsWithin pending fed }
+    requires { (fed : ℕ) × IsPendingWithin pending fed }
     ensures { result ≡ pending_past pending piece.now }
 {
     match pending {
@@ -277,7 +277,7 @@ pub fn cut_on(
     requires room { fed + length piece.now < 2 ^ 64 - 1 }
     requires lines { line + length held.now ≤ fed + 1 }
     requires held { length held.now ≤ fed }
-    requires within { IsWithin pending fed }
+    requires within { IsPendingWithin pending fed }
     requires ends { goes_on pending held.now piece.now ≡ false }
     ensures next { IfOk result (IsNext [] (ended pending held.now fed line piece.now)) }
     ensures fits { IfOk result (Fits (fed + length piece.now)) }
@@ -336,7 +336,7 @@ pub fn ending(
     line: u64,
 ) -> Result<Vec<Token>, LexError>
     requires held { length held.now ≤ fed }
-    requires within { IsWithin pending fed }
+    requires within { IsPendingWithin pending fed }
     ensures { Returns (λ v. v.items) result (end_answer pending held.now fed line) }
 {
     match pending {
