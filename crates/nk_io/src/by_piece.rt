@@ -1,5 +1,6 @@
 //! An input piece by piece, with a count of its bytes so far.
 ghost use Rattle.std.specs.Prelude.{◌≡◌, ◌<◌, ◌≤◌, length, IfOk, IfErr, OnOk};
+ghost use Rattle.std.specs.Io.KnownBytes.{IsAtEnd};
 ghost use Rattle.nk_io.specs.Piece.{longest, GivesPiece, IsNoneAtEnd, IsPieceCause};
 
 use crate::Source;
@@ -62,6 +63,7 @@ pub fn next_piece<S: Source>(
     ensures piece { IfOk result (GivesPiece (S.left source.old) (S.left source.new)
         taken.old taken.new into.new) }
     ensures end { IfOk result (IsNoneAtEnd (S.left source.old)) }
+    ensures ended { IfOk result (λ n. n ≡ 0 → IsAtEnd (S.left source.new)) }
     ensures within { OnOk result (taken.new ≤ longest) }
     ensures same { OnOk result (S.faults source.new ≡ S.faults source.old) }
     ensures cause { IfErr result (IsPieceCause (S.left source.old) (S.left source.new)
