@@ -17,11 +17,11 @@ pub fn compare(
 ) -> Result<Compared, CompareError>
     ensures { IsCompared program.now left.now right.now result }
 {
-    let Some(p) = program.find(left) else {
+    let Some(p) = program.find(alloc, left)? else {
         return Err(CompareError::NoPolicy);
     };
-    let Some(q) = program.find(right) else {
+    let Some(q) = program.find(alloc, right)? else {
         return Err(CompareError::NoPolicy);
     };
-    Ok(compare_policies(alloc, &program.fields, p, q)?)
+    Ok(compare_policies(alloc, &program.fields, &p, &q)?)
 }

@@ -1,49 +1,17 @@
 -- Named policies of a program: what holds of them, and that they fit a store over the program's fields.
 use Rattle.std.proofs.Common.{◌≡◌, ℕ, ◌+◌, ◌<◌, ◌≤◌, Bool, true, false, List, [], ◌∷◌, inl, inr, refl, sym, subst, arith, Some, None}
-use Rattle.std.specs.Prelude.{if◌then◌else◌}
-use Rattle.std.specs.Str.{bytes_eq}
 use Rattle.nk_field.specs.Packet.{FieldTable}
-use Rattle.nk_field.proofs.Lists.{In}
-use Rattle.nk_field.proofs.Ascending.{members_from_all}
 use Rattle.nk_policy.specs.Policy.{Policy, Policies, test, range, assign, sum_of, seq_of, not_of, star_of, dup, link, no_part, part, dups_of}
 use Rattle.nk_policy.specs.Ranges.{IsInRange, AssignsOnly, AllAssignOnly}
-use Rattle.nk_policy.specs.Tree.{tree_of}
-use Rattle.nk_policy.specs.declared.policy.Pol.{Pol}
 use Rattle.nk_names.specs.Complements.{NegatesPredicates, AllNegatePredicates}
 use Rattle.nk_names.specs.declared.Program.{Program}
-use Rattle.nk_names.specs.Named.{named_among, policy_named}
-use Rattle.nk_names.specs.ProgramValue.{IsProgram, IsLet}
+use Rattle.nk_names.specs.ProgramValue.{IsLet}
 use Rattle.nk_names.proofs.Good.{few_dups}
+pub use Rattle.nk_names.proofs.Named.{let_named}
 use Rattle.nk_store.specs.Held.{Held, IsOver}
 use Rattle.nk_store.proofs.InRange.{same_value}
 use Rattle.nk_auto.specs.Complements.{NegatesPredicates as IsOverPredicates, AllNegatePredicates as AreOverPredicates}
 use Rattle.nk_auto.specs.Continued.{IsFit}
-
-some_is : {A : Type 0} (a b : A) → Some a ≡ Some b → a ≡ b
-some_is a b e = cc
-
-none_is_none : {A : Type 0} (a : A) → None ≡ Some a → ⊥
-none_is_none a e = cc
-
--- a named policy is a let's
-named_in : (lets : List (List ℕ × Pol)) (name : List ℕ) (p : Policy) → named_among lets name ≡ Some p
-    → (l : List ℕ × Pol) × In lets l × (tree_of l.1 ≡ p)
-named_in [] name p e = absurd (none_is_none p e)
-named_in (l ∷ ls) name p e = by (bytes_eq l.0 name) (λ h. named_in ls name p h) e
-  where
-    by :
-        (b : Bool) → (named_among ls name ≡ Some p → (k : List ℕ × Pol) × In ls k × (tree_of k.1 ≡ p))
-        → (if b then Some (tree_of l.1) else named_among ls name) ≡ Some p
-        → (k : List ℕ × Pol) × In (l ∷ ls) k × (tree_of k.1 ≡ p)
-    by true h e = (l, inl refl, some_is (tree_of l.1) p e)
-    by false h e = let r = h e in (r.0, inr r.1, r.2)
-
--- what holds of a program's policies holds of one that a name has
-pub let_named : (program : Program) (name : List ℕ) (p : Policy) → IsProgram program.fields program.topo program.lets
-    → policy_named program name ≡ Some p → IsLet program.fields p
-let_named program name p ok named =
-    let l = named_in program.lets name p named in
-    subst (IsLet program.fields) l.2 (members_from_all (λ (k : List ℕ × Pol). IsLet program.fields (tree_of k.1)) program.lets ok.policies l.0 l.1)
 
 -- two policies of a program have few dups
 pub few_of_both : (fields : FieldTable) (p q : Policy) → IsLet fields p → IsLet fields q → 1 + dups_of p + dups_of q < 4294967296

@@ -30,13 +30,13 @@ pub fn check(
     requires { HasPredicates (certificate_value certificate.now) }
     ensures { IsChecked program.now left.now right.now (certificate_value certificate.now) result }
 {
-    let Some(p) = program.find(left) else {
+    let Some(p) = program.find(alloc, left)? else {
         return Err(CheckError::NoPolicy);
     };
-    let Some(q) = program.find(right) else {
+    let Some(q) = program.find(alloc, right)? else {
         return Err(CheckError::NoPolicy);
     };
-    Ok(check_both(alloc, &program.fields, p, q, certificate)?)
+    Ok(check_both(alloc, &program.fields, &p, &q, certificate)?)
 }
 
 /// What is found of a certificate of two policies, the right one's dups numbered on from the left one's.

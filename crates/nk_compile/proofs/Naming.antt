@@ -3,10 +3,8 @@ use Rattle.std.proofs.Common.{◌≡◌, ℕ, zero, suc, ◌+◌, ◌<◌, ◌�
 use Rattle.std.specs.Prelude.{Result, Ok, Err, IfOk, IfErr, All}
 use Rattle.nk_field.specs.Packet.{FieldTable}
 use Rattle.nk_names.proofs.Good.{few_dups}
-use Rattle.nk_field.proofs.Ascending.{members_from_all}
+pub use Rattle.nk_names.proofs.Named.{let_named}
 use Rattle.nk_policy.specs.Policy.{Policy, dups_of}
-use Rattle.nk_policy.specs.Tree.{tree_of}
-use Rattle.nk_policy.specs.declared.policy.Pol.{Pol}
 use Rattle.nk_names.specs.declared.Program.{Program}
 use Rattle.nk_names.specs.Named.{policy_named}
 use Rattle.nk_names.specs.ProgramValue.{IsProgram, IsLet}
@@ -20,14 +18,7 @@ use Rattle.nk_compile.specs.declared.refusal.Refusal.TheVariants.{NoPolicy, NoTa
 use Rattle.nk_compile.specs.declared.refusal.CompileError.{CompileError}
 use Rattle.nk_compile.specs.declared.refusal.CompileError.TheVariants.{NoMemory, Refused}
 use Rattle.nk_compile.proofs.Making.{seen_named}
-use Rattle.nk_compile.proofs.Printed.{named_in, accepted_carries}
-
--- what holds of a program's policies holds of one that a name has
-pub let_named : (program : Program) (name : List ℕ) (p : Policy) → IsProgram program.fields program.topo program.lets →
-    policy_named program name ≡ Some p → IsLet program.fields p
-let_named program name p ok named =
-    let l = named_in program.lets name p named in
-    subst (IsLet program.fields) l.2 (members_from_all (λ (k : List ℕ × Pol). IsLet program.fields (tree_of k.1)) program.lets ok.policies l.0 l.1)
+use Rattle.nk_compile.proofs.Printed.{accepted_carries}
 
 -- the reason for the policy is that for its name
 reason_named : (program : Program) (name : List ℕ) (p : Policy) → policy_named program name ≡ Some p →

@@ -1,14 +1,9 @@
 -- The printed table of a compilable policy carries it.
 use Rattle.std.proofs.Common.{◌≡◌, ℕ, ◌*◌, Bool, true, false, inl, inr, Some, None, List, [], ◌∷◌, length, refl, subst}
 use Rattle.std.specs.Prelude.{◌↔◌, All, Contains, if◌then◌else◌, map}
-use Rattle.std.specs.Str.{bytes_eq}
 use Rattle.nk_field.specs.Packet.{FieldTable, IsFieldTable, IsUntagged}
-use Rattle.nk_field.proofs.Lists.{In}
-use Rattle.nk_field.proofs.Ascending.{members_from_all}
 use Rattle.nk_topo.specs.Topology.{Topology, AreLinks}
 use Rattle.nk_policy.specs.Policy.{Policy}
-use Rattle.nk_policy.specs.Tree.{tree_of}
-use Rattle.nk_policy.specs.declared.policy.Pol.{Pol}
 use Rattle.nk_policy.specs.Meaning.{Gives}
 use Rattle.nk_policy.specs.Distinct.{HasDistinct}
 use Rattle.nk_policy.specs.Ranges.{IsInRange}
@@ -16,8 +11,9 @@ use Rattle.nk_policy.specs.Labels.{IsWithoutDoubles}
 use Rattle.nk_policy.proofs.Numbering.{numbered_distinct}
 use Rattle.nk_names.specs.declared.Program.{Program}
 use Rattle.nk_names.specs.Accepted.{IsStart, IsCompilable, IsAccepted}
-use Rattle.nk_names.specs.Named.{named_among, policy_named}
+use Rattle.nk_names.specs.Named.{policy_named}
 use Rattle.nk_names.specs.ProgramValue.{IsLet, IsProgram}
+use Rattle.nk_names.proofs.Named.{let_named}
 use Rattle.nk_table.specs.declared.Tables.{Tables}
 use Rattle.nk_table.specs.Hops.{left_after}
 use Rattle.nk_compile.specs.WholeTable.{IsTableOf}
@@ -89,34 +85,11 @@ printed_carries program p t fields_ok links_ok distinct in_range compilable tabl
       untagged = h.leave_untagged;
     }
 
--- equal options have equal values
-some_is : {A : Type 0} (a b : A) → Some a ≡ Some b → a ≡ b
-some_is a b e = cc
-
--- none is not some
-none_is_none : {A : Type 0} (a : A) → None ≡ Some a → ⊥
-none_is_none a e = cc
-
--- a named policy is a let's
-pub named_in :
-    (lets : List (List ℕ × Pol)) (name : List ℕ) (p : Policy) → named_among lets name ≡ Some p
-    → (l : List ℕ × Pol) × In lets l × (tree_of l.1 ≡ p)
-named_in [] name p e = absurd (none_is_none p e)
-named_in (l ∷ ls) name p e = by (bytes_eq l.0 name) (λ h. named_in ls name p h) e
-  where
-    by :
-        (b : Bool) → (named_among ls name ≡ Some p → (k : List ℕ × Pol) × In ls k × (tree_of k.1 ≡ p))
-        → (if b then Some (tree_of l.1) else named_among ls name) ≡ Some p
-        → (k : List ℕ × Pol) × In (l ∷ ls) k × (tree_of k.1 ≡ p)
-    by true h e = (l, inl refl, some_is (tree_of l.1) p e)
-    by false h e = let r = h e in (r.0, inr r.1, r.2)
-
 -- of a program's policy that is accepted
 pub accepted_carries :
     (program : Program) (name : List ℕ) (p : Policy) (t : Tables)
     → IsProgram program.fields program.topo program.lets → policy_named program name ≡ Some p → IsAccepted program p
     → IsTableOf program.fields program.topo (IsStart program.fields program.topo) p t → Carries program p t
 accepted_carries program name p t ok named accepted table =
-    let l = named_in program.lets name p named in
-    let is : IsLet program.fields (tree_of l.0.1) = members_from_all (λ (k : List ℕ × Pol). IsLet program.fields (tree_of k.1)) program.lets ok.policies l.0 l.1 in
-    printed_carries program p t ok.table ok.topology.links (subst (λ q. HasDistinct q) l.2 (numbered_distinct (tree_of l.0.1) 1 is.numbered)) (subst (λ q. IsInRange q program.fields) l.2 is.in_range) accepted.0 table
+    let is : IsLet program.fields p = let_named program name p ok named in
+    printed_carries program p t ok.table ok.topology.links (numbered_distinct p 1 is.numbered) is.in_range accepted.0 table

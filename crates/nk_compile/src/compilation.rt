@@ -40,8 +40,8 @@ pub fn compile_counted(
 ) -> Result<Counted, CompileError>
     ensures { IsCountedAnswer program.now name.now result }
 {
-    let Some(p) = program.find(name) else {
+    let Some(p) = program.find(alloc, name)? else {
         return Err(CompileError::Refused(Refusal::NoPolicy));
     };
-    policy_tables(alloc, &program.fields, &program.topo, p)
+    policy_tables(alloc, &program.fields, &program.topo, &p)
 }

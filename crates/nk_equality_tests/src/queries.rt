@@ -163,10 +163,10 @@ fn agrees(alloc: Global, program: &Program, query: &Query, asked: Asked) -> Resu
 fn both_agree(alloc: Global, text: &[u8]) -> Result<bool, Fail> {
     let program = declared(alloc, text)?;
     let (Some(policy), Some(from), Some(middle), Some(target)) = (
-        program.find("p"),
-        program.find("a"),
-        program.find("w"),
-        program.find("z"),
+        program.find(alloc, "p")?,
+        program.find(alloc, "a")?,
+        program.find(alloc, "w")?,
+        program.find(alloc, "z")?,
     ) else {
         return Ok(false);
     };
@@ -182,16 +182,16 @@ fn both_agree(alloc: Global, text: &[u8]) -> Result<bool, Fail> {
         target: "z",
     };
     let asked = Asked {
-        policy,
-        from,
+        policy: &policy,
+        from: &from,
         middle: None,
-        target,
+        target: &target,
     };
     let passing = Asked {
-        policy,
-        from,
-        middle: Some(middle),
-        target,
+        policy: &policy,
+        from: &from,
+        middle: Some(&middle),
+        target: &target,
     };
     Ok(agrees(alloc, &program, &apart, asked)? && agrees(alloc, &program, &waypoint, passing)?)
 }

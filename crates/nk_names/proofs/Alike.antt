@@ -3,8 +3,8 @@ use Rattle.std.proofs.Common.{◌≡◌, ℕ, Bool, true, false, List, [], ◌�
 use Rattle.std.specs.Prelude.{Some, if◌then◌else◌}
 use Rattle.std.specs.Str.{bytes_eq}
 use Rattle.nk_policy.specs.Policy.{Policy}
-use Rattle.nk_policy.specs.Tree.{tree_of}
-use Rattle.nk_policy.specs.declared.policy.Pol.{Pol}
+use Rattle.nk_names.specs.Body.{policy_of}
+use Rattle.nk_names.specs.declared.body.Shared.{Shared}
 use Rattle.nk_names.specs.declared.Program.{Program}
 use Rattle.nk_names.specs.Named.{named_among, policy_named}
 use Rattle.nk_names.specs.Meant.{lets_of, policy_among}
@@ -14,12 +14,12 @@ policy_is : (p q : Policy) → Some p ≡ Some q → p ≡ q
 policy_is p q e = cc
 
 -- a name's policy by what is said
-named_said : (lets : List (List ℕ × Pol)) (name : List ℕ) → named_among lets name ≡ policy_among (lets_of lets) name
+named_said : (lets : List (List ℕ × Shared)) (name : List ℕ) → named_among lets name ≡ policy_among (lets_of lets) name
 named_said [] name = refl
 named_said (l ∷ ls) name = by (bytes_eq l.0 name) (named_said ls name)
   where
     by : (b : Bool) → named_among ls name ≡ policy_among (lets_of ls) name
-        → (if b then Some (tree_of l.1) else named_among ls name) ≡ (if b then Some (tree_of l.1) else policy_among (lets_of ls) name)
+        → (if b then Some (policy_of l.1) else named_among ls name) ≡ (if b then Some (policy_of l.1) else policy_among (lets_of ls) name)
     by true e = refl
     by false e = e
 

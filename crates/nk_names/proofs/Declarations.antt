@@ -1,8 +1,8 @@
 -- What the checks of a declaration leave known.
-use Rattle.std.proofs.Common.{◌≡◌, ℕ, ◌<◌, ◌≤◌, Bool, true, false, None, refl, arith}
+use Rattle.std.proofs.Common.{◌≡◌, ℕ, ◌≤◌, Bool, true, false, None, refl, arith}
 use Rattle.std.specs.Prelude.{nat_lt}
 use Rattle.nk_field.specs.Packet.{FieldTable}
-use Rattle.nk_policy.specs.Policy.{depth_of, size_of, dups_of}
+use Rattle.nk_policy.specs.Policy.{depth_of, size_of}
 use Rattle.nk_lex.specs.declared.word.Word.{Word}
 use Rattle.nk_lex.specs.declared.word.Number.{Number}
 use Rattle.nk_declare.proofs.Checks.{none_both}
@@ -11,7 +11,6 @@ use Rattle.nk_names.specs.declared.fault.FaultKind.{FaultKind}
 use Rattle.nk_names.specs.declared.fault.FaultKind.TheVariants as kind
 use Rattle.nk_names.specs.Meant.{Lets, text_fault_if, value_above, policy_for, unknown_in, misplaced_in}
 use Rattle.nk_names.specs.ProgramOf.{let_fault}
-use Rattle.nk_names.proofs.Good.{few_dups}
 
 -- a fault that isn't there is no fault
 pub not_wrong : (b : Bool) (k : FaultKind) (line : ℕ) → text_fault_if b k line ≡ None → b ≡ false
@@ -46,10 +45,3 @@ faultless fields lets w t line h =
       shallow = at_most 256 (depth_of (policy_for fields lets t)) (not_wrong _ kind.TooDeep line r4.0);
       small = at_most 1048576 (size_of (policy_for fields lets t)) (not_wrong _ kind.TooLarge line r4.1);
     }
-
--- its dups have numbers
-pub dups_fit : (fields : FieldTable) (lets : Lets) (w : Word) (t : Tree) (line : ℕ)
-    → let_fault fields lets w t line ≡ None → dups_of (policy_for fields lets t) < 4294967295
-dups_fit fields lets w t line h =
-    let s = (faultless fields lets w t line h).small in
-    omega (arith, s, few_dups (policy_for fields lets t))

@@ -6,14 +6,14 @@ use Rattle.std.proofs.lemmas.List.{get_or_append_left}
 use Rattle.std.proofs.lemmas.List.Elements.{All-push}
 use Rattle.nk_field.specs.Packet.{FieldTable, IsFieldTable, IsValue, field_named, with_field}
 use Rattle.nk_policy.specs.Policy.{Policy, marked_from}
-use Rattle.nk_policy.specs.Tree.{tree_of}
-use Rattle.nk_policy.specs.declared.policy.Pol.{Pol}
 use Rattle.nk_lex.specs.declared.word.Word.{Word}
 use Rattle.nk_lex.specs.Faults.{and_then}
 use Rattle.nk_grammar.specs.declared.decl.Decl.{Decl}
 use Rattle.nk_grammar.specs.Tree.{Tree}
 use Rattle.nk_grammar.specs.File.{Declaration, field, tag, switch, declared_link, definition, declaration_of, IsWritten}
 use Rattle.nk_names.specs.declared.fault.NamesError.{NamesError}
+use Rattle.nk_names.specs.Body.{policy_of}
+use Rattle.nk_names.specs.declared.body.Shared.{Shared}
 use Rattle.nk_names.specs.Meant.{Lets, lets_of, policy_for}
 use Rattle.nk_names.specs.ProgramOf.{Said, declared_part, said_with, said_after, let_fault}
 use Rattle.nk_names.specs.ProgramValue.{IsLet}
@@ -133,10 +133,10 @@ lets_kept s t (definition w p line) table written h good =
     })
 
 -- what holds of the policies that are said holds of those in memory
-pub lets_in_memory : (fields : FieldTable) (ls : List (List ℕ × Pol)) → All (λ l. IsLet fields l.1) (lets_of ls) → All (λ l. IsLet fields (tree_of l.1)) ls
+pub lets_in_memory : (fields : FieldTable) (ls : List (List ℕ × Shared)) → All (λ l. IsLet fields l.1) (lets_of ls) → All (λ l. IsLet fields (policy_of l.1)) ls
 lets_in_memory fields [] h = λ k d lt. absurd (omega (arith, lt))
 lets_in_memory fields (l ∷ ls) h = λ k d lt. at k d lt (all_head (λ m. IsLet fields m.1) _ (lets_of ls) h) (lets_in_memory fields ls (all_tail (λ m. IsLet fields m.1) _ (lets_of ls) h))
   where
-    at : (k : ℕ) (d : List ℕ × Pol) → k < length (l ∷ ls) → IsLet fields (tree_of l.1) → All (λ l. IsLet fields (tree_of l.1)) ls → IsLet fields (tree_of (get_or (l ∷ ls) k d).1)
+    at : (k : ℕ) (d : List ℕ × Shared) → k < length (l ∷ ls) → IsLet fields (policy_of l.1) → All (λ l. IsLet fields (policy_of l.1)) ls → IsLet fields (policy_of (get_or (l ∷ ls) k d).1)
     at zero d lt first rest = first
     at (suc k) d lt first rest = rest k d (omega (arith, lt))

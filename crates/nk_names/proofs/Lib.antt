@@ -1,4 +1,5 @@
 pub mod Beside
+pub mod Bodies
 pub mod Building
 pub mod Declarations
 pub mod Declared
@@ -7,6 +8,7 @@ pub mod Good
 pub mod Keys
 pub mod Meanings
 pub mod Misplaced
+pub mod Named
 pub mod Places
 pub mod Printed
 pub mod ReadingBack

@@ -1,4 +1,5 @@
 pub mod Alike
+pub mod Body
 pub mod Accepted
 pub mod Complements
 pub mod Meant

@@ -5,13 +5,13 @@ use Rattle.std.specs.Str.{bytes_eq}
 use Rattle.nk_field.specs.Packet.{FieldTable, field_named}
 use Rattle.nk_policy.specs.Policy.{Policy, Policies, is_predicate}
 use Rattle.nk_policy.specs.Policy as policy
-use Rattle.nk_policy.specs.Tree.{tree_of}
-use Rattle.nk_policy.specs.declared.policy.Pol.{Pol}
 use Rattle.nk_lex.specs.declared.word.Word.{Word}
 use Rattle.nk_lex.specs.declared.word.Number.{Number}
 use Rattle.nk_lex.specs.Faults.{first_of}
 pub use Rattle.nk_declare.specs.Declarations.{place_in, most_in}
 use Rattle.nk_grammar.specs.Tree.{Tree, Trees, name_of, test, range, assign, sum_of, seq_of, not_of, star_of, dup, link, no_part, part}
+use Rattle.nk_names.specs.Body.{policy_of}
+use Rattle.nk_names.specs.declared.body.Shared.{Shared}
 use Rattle.nk_names.specs.declared.fault.FaultKind.{FaultKind}
 use Rattle.nk_names.specs.declared.fault.FaultKind.TheVariants as kind
 use Rattle.nk_names.specs.declared.fault.NamesError.{NamesError}
@@ -22,8 +22,8 @@ abbrev pub Lets : Type 0
 Lets = List (List ℕ × Policy)
 
 -- the policies that a program holds
-abbrev pub lets_of : List (List ℕ × Pol) → Lets
-lets_of ls = map (λ l. (l.0, tree_of l.1)) ls
+abbrev pub lets_of : List (List ℕ × Shared) → Lets
+lets_of ls = map (λ l. (l.0, policy_of l.1)) ls
 
 -- the policy of a name
 abbrev pub policy_among : Lets → List ℕ → Option Policy

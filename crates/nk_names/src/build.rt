@@ -1,29 +1,20 @@
-//! Policies with the names in them written out and their dups numbered.
-ghost use Rattle.std.specs.Prelude.{◌≡◌, ◌+◌, ◌<◌, min, IfOk, OnOk};
-ghost use Rattle.nk_policy.specs.Policy.{dups_of, dups_of_all, marked_from, all_marked_from};
-ghost use Rattle.nk_policy.specs.Tree.{tree_of, trees_of};
+//! Policies as their `let` has them, from what is written.
+ghost use Rattle.std.specs.Prelude.{◌≡◌, ◌<◌, min, IfOk};
+ghost use Rattle.nk_policy.specs.Policy.{dups_of, marked_from};
+ghost use Rattle.nk_policy.specs.Tree.{tree_of};
 ghost use Rattle.nk_grammar.specs.Tree.{tree_of as written_of, trees_of as all_written_of};
+ghost use Rattle.nk_names.specs.Body.{policy_in, policies_in, policy_of};
 ghost use Rattle.nk_names.specs.Meant.{lets_of, place_in, policy_for, policies_for};
 
+use crate::body::{Bodies, Body, Shared, written};
 use crate::check::LARGEST_PLACE;
 use crate::lets::Lets;
 use nk_declare::field_with;
 use nk_field::{Fid, Fields};
 use nk_grammar::Ast;
 use nk_lex::{Number, Word};
-use nk_policy::{Pol, Pols, dups, marked};
+use nk_policy::Pol;
 use std::alloc::{AllocError, Global};
-
-/// The same policy, its dups numbered on after those that stand before.
-fn numbered_on(alloc: Global, p: &Pol, before: &mut u64) -> Result<Pol, AllocError>
-    requires fit { before.old + dups_of (tree_of p.now) < 4294967295 }
-    ensures tree { IfOk result (λ q. tree_of q ≡ marked_from (tree_of p.now) (before.old + 1)) }
-    ensures before { OnOk result (before.new ≡ before.old + dups_of (tree_of p.now)) }
-{
-    let numbered = marked(alloc, p, (*before + 1) as u32)?;
-    *before += dups(p);
-    Ok(numbered)
-}
 
 /// The field with the name; the switch, where there is none.
 fn field_of(fields: &Fields, w: &Word) -> Fid
@@ -42,78 +33,69 @@ fn place_of(n: Number) -> u16
     n.value.min(LARGEST_PLACE) as u16
 }
 
-/// The policy that the tree stands for, its dups numbered on after those that stand before.
+/// The body of the tree.
 #[cycle(build)]
-#[tactic(auto, using(nk_grammar::proofs::Trees::tree_of_sum, nk_grammar::proofs::Trees::tree_of_seq, nk_policy::proofs::Trees::tree_of_sum, nk_policy::proofs::Trees::tree_of_seq))]
-fn built(
-    alloc: Global,
-    fields: &Fields,
-    lets: &Lets,
-    ast: &Ast,
-    before: &mut u64,
-) -> Result<Pol, AllocError>
-    requires fit { before.old + dups_of (policy_for fields.now (lets_of lets.now.entries.items) (written_of ast.now)) < 4294967295 }
-    ensures tree { IfOk result (λ q. tree_of q ≡ marked_from (policy_for fields.now (lets_of lets.now.entries.items) (written_of ast.now)) (before.old + 1)) }
-    ensures before { OnOk result (before.new ≡ before.old + dups_of (policy_for fields.now (lets_of lets.now.entries.items) (written_of ast.now))) }
+#[tactic(auto, using(nk_grammar::proofs::Trees::tree_of_sum, nk_grammar::proofs::Trees::tree_of_seq, crate::proofs::Bodies::policy_in_sum, crate::proofs::Bodies::policy_in_seq, crate::proofs::Bodies::policy_in_name))]
+fn built(alloc: Global, fields: &Fields, lets: &Lets, ast: &Ast) -> Result<Body, AllocError>
+    ensures { IfOk result (λ b. policy_in b ≡ policy_for fields.now (lets_of lets.now.entries.items) (written_of ast.now)) }
 {
     match ast {
         Ast::Name(w) => match lets.policy(w.text.as_slice()) {
-            Some(p) => numbered_on(alloc, p, before),
-            None => Ok(Pol::Sum(Pols::new(Vec::new(alloc)))),
+            Some(policy) => Ok(Body::Name(policy.again()?)),
+            None => Ok(Body::Sum(Bodies::new(Vec::new(alloc)))),
         },
-        Ast::Test(w, n) => Ok(Pol::Test(field_of(fields, w), n.value)),
-        Ast::Range(w, low, high) => Ok(Pol::Range(field_of(fields, w), low.value, high.value)),
-        Ast::Set(w, n) => Ok(Pol::Set(field_of(fields, w), n.value)),
-        Ast::Sum(ps) => Ok(Pol::Sum(Pols::new(all_built(
-            alloc,
-            fields,
-            lets,
-            ps.as_slice(),
-            before,
-        )?))),
-        Ast::Seq(ps) => Ok(Pol::Seq(Pols::new(all_built(
-            alloc,
-            fields,
-            lets,
-            ps.as_slice(),
-            before,
-        )?))),
-        Ast::Not(q, _) => Ok(Pol::Not(Box::new(alloc, built(alloc, fields, lets, q, before)?)?)),
-        Ast::Star(q) => Ok(Pol::Star(Box::new(alloc, built(alloc, fields, lets, q, before)?)?)),
-        Ast::Dup => {
-            *before += 1;
-            Ok(Pol::Dup(*before as u32))
-        }
-        Ast::Link(a, m, b, n) => {
-            let mark = (*before + 1) as u32;
-            *before += 2;
-            Ok(Pol::Link(place_of(*a), place_of(*m), place_of(*b), place_of(*n), mark))
-        }
+        Ast::Test(w, n) => Ok(Body::Test(field_of(fields, w), n.value)),
+        Ast::Range(w, low, high) => Ok(Body::Range(field_of(fields, w), low.value, high.value)),
+        Ast::Set(w, n) => Ok(Body::Set(field_of(fields, w), n.value)),
+        Ast::Sum(ps) => Ok(Body::Sum(Bodies::new(all_built(alloc, fields, lets, ps.as_slice())?))),
+        Ast::Seq(ps) => Ok(Body::Seq(Bodies::new(all_built(alloc, fields, lets, ps.as_slice())?))),
+        Ast::Not(q, _) => Ok(Body::Not(Box::new(alloc, built(alloc, fields, lets, q)?)?)),
+        Ast::Star(q) => Ok(Body::Star(Box::new(alloc, built(alloc, fields, lets, q)?)?)),
+        Ast::Dup => Ok(Body::Dup),
+        Ast::Link(a, m, b, n) => Ok(Body::Link(
+            place_of(*a),
+            place_of(*m),
+            place_of(*b),
+            place_of(*n),
+        )),
     }
 }
 
-/// The policies that the parts stand for.
+/// The bodies of the parts.
 #[cycle(build)]
-#[tactic(auto, using(nk_policy::proofs::Trees::joined_push, nk_policy::proofs::Trees::joined_none))]
+#[tactic(auto, using(crate::proofs::Bodies::in_push, nk_policy::proofs::Trees::joined_none))]
 fn all_built(
     alloc: Global,
     fields: &Fields,
     lets: &Lets,
     parts: &[Ast],
-    before: &mut u64,
-) -> Result<Vec<Pol>, AllocError>
-    requires fit { before.old + dups_of_all (policies_for fields.now (lets_of lets.now.entries.items) (all_written_of parts.now)) < 4294967295 }
-    ensures trees { IfOk result (λ qs. trees_of qs.items ≡ all_marked_from (policies_for fields.now (lets_of lets.now.entries.items) (all_written_of parts.now)) (before.old + 1)) }
-    ensures before { OnOk result (before.new ≡ before.old + dups_of_all (policies_for fields.now (lets_of lets.now.entries.items) (all_written_of parts.now))) }
+) -> Result<Vec<Body>, AllocError>
+    ensures { IfOk result (λ bs. policies_in bs.items ≡ policies_for fields.now (lets_of lets.now.entries.items) (all_written_of parts.now)) }
 {
     let mut out = Vec::new(alloc);
     for q in parts {
-        out.push(built(alloc, fields, lets, q, before)?)?;
+        out.push(built(alloc, fields, lets, q)?)?;
     }
     Ok(out)
 }
 
-/// The policy that the tree stands for, its dups numbered from 1.
+/// The policy of a name that stands for the tree, its dups numbered from 1. A name alone has the policy of the other name, not one
+/// more: so a name in a body stands for a body that is no name, and what is written out is at least as deep as names are followed.
+pub(crate) fn shared_of(
+    alloc: Global,
+    fields: &Fields,
+    lets: &Lets,
+    ast: &Ast,
+) -> Result<Shared, AllocError>
+    ensures { IfOk result (λ s. policy_of s ≡ marked_from (policy_for fields.now (lets_of lets.now.entries.items) (written_of ast.now)) 1) }
+{
+    match built(alloc, fields, lets, ast)? {
+        Body::Name(policy) => Ok(policy),
+        body => Shared::new(alloc, body),
+    }
+}
+
+/// The policy that the tree stands for, all names written out, its dups numbered from 1.
 pub(crate) fn policy_of(
     alloc: Global,
     fields: &Fields,
@@ -123,6 +105,6 @@ pub(crate) fn policy_of(
     requires { dups_of (policy_for fields.now (lets_of lets.now.entries.items) (written_of ast.now)) < 4294967295 }
     ensures { IfOk result (λ q. tree_of q ≡ marked_from (policy_for fields.now (lets_of lets.now.entries.items) (written_of ast.now)) 1) }
 {
-    let mut before = 0;
-    built(alloc, fields, lets, ast, &mut before)
+    let body = built(alloc, fields, lets, ast)?;
+    written(alloc, &body)
 }

@@ -5,11 +5,12 @@ ghost use Rattle.nk_grammar.specs.Tree.{tree_of};
 ghost use Rattle.nk_names.specs.Meant.{lets_of};
 ghost use Rattle.nk_names.specs.ProgramOf.{Returns, kind_of, text_fault_of, said_in, said_with, nothing_said, let_fault};
 
-use crate::build::policy_of;
+use crate::build::shared_of;
 use crate::check::{depth, fault_if, first_misplaced, first_unknown, size};
 use crate::fault::{FaultKind, NamesError};
 use crate::lets::Lets;
 use crate::names::Names;
+use crate::shape::Shape;
 use nk_declare::{DeclareError, DeclareFault, Declared};
 use nk_grammar::{Ast, Decl};
 use nk_lex::{Number, Word};
@@ -153,9 +154,10 @@ fn with_let(
     ensures { Returns said_in result (said_with (said_in names) (definition w.now (tree_of ast.now) line)) }
 {
     check_let(&names, w, ast, line)?;
-    let policy = policy_of(alloc, &names.declared.fields, &names.lets, ast)?;
+    let shape = Shape::of(&names.declared.fields, &names.lets, ast);
+    let policy = shared_of(alloc, &names.declared.fields, &names.lets, ast)?;
     let Names { declared, lets } = names;
-    let lets = lets.with(alloc, w.text.as_slice(), policy)?;
+    let lets = lets.with(alloc, w.text.as_slice(), policy, shape)?;
     Ok(Names { declared, lets })
 }
 

@@ -5,23 +5,23 @@ ghost use Rattle.std.specs.Bool.{nat_eq};
 ghost use Rattle.std.specs.HashMap.{get_by};
 ghost use Rattle.std.specs.List.{position_from};
 ghost use Rattle.std.specs.Str.{bytes_eq};
-ghost use Rattle.nk_policy.specs.Tree.{tree_of};
+ghost use Rattle.nk_names.specs.Body.{policy_of};
 ghost use Rattle.nk_names.specs.Meant.{lets_of, policy_among};
 ghost use Rattle.nk_names.specs.Shape.{shape_of};
 
+use crate::body::Shared;
 use crate::shape::Shape;
 use nk_field::List;
-use nk_policy::Pol;
 use std::alloc::{AllocError, Global};
 use std::collections::HashMap;
 
 /// Policies in the order of the text, each with its name, what is known of it, and its place by its name.
 #[derive(Drop)]
 pub(crate) struct Lets {
-    pub(crate) entries: Vec<(List<u8>, Pol)>,
+    pub(crate) entries: Vec<(List<u8>, Shared)>,
     shapes: Vec<Shape>,
     places: HashMap<Vec<u8>, usize>,
-    ghost shaped: { shapes.items ≡ map (λ e. shape_of (tree_of e.1)) entries.items },
+    ghost shaped: { shapes.items ≡ map (λ e. shape_of (policy_of e.1)) entries.items },
     ghost placed: { (q : Items ℕ) → get_by (λ k. pointwise nat_eq q k.items) places
         ≡ position_from (λ e. bytes_eq e.0 q) 0 entries.items },
 }
@@ -47,8 +47,8 @@ impl Lets {
     }
 
     /// The policy with the name.
-    pub(crate) fn policy(&self, name: &[u8]) -> Option<&Pol>
-        ensures { option_map (λ p. tree_of p.now) result
+    pub(crate) fn policy(&self, name: &[u8]) -> Option<&Shared>
+        ensures { option_map (λ p. policy_of p.now) result
             ≡ policy_among (lets_of self.now.entries.items) name.now }
     {
         match self.place(name) {
@@ -68,7 +68,7 @@ impl Lets {
     }
 
     /// The names with their policies, in the order of the text.
-    pub(crate) fn into_list(self) -> List<(List<u8>, Pol)>
+    pub(crate) fn into_list(self) -> List<(List<u8>, Shared)>
         ensures { result ≡ self.entries.items }
     {
         let Lets {
@@ -80,10 +80,17 @@ impl Lets {
     }
 
     /// One more policy, with a new name, behind the others.
-    pub(crate) fn with(self, alloc: Global, name: &[u8], policy: Pol) -> Result<Lets, AllocError>
+    pub(crate) fn with(
+        self,
+        alloc: Global,
+        name: &[u8],
+        policy: Shared,
+        shape: Shape,
+    ) -> Result<Lets, AllocError>
         requires new { policy_among (lets_of self.entries.items) name.now ≡ None }
+        requires shape { shape ≡ shape_of (policy_of policy) }
         ensures { IfOk result (λ l. lets_of l.entries.items
-            ≡ lets_of self.entries.items ++ (name.now, tree_of policy) ∷ []) }
+            ≡ lets_of self.entries.items ++ (name.now, policy_of policy) ∷ []) }
     {
         let Lets {
             entries,
@@ -94,7 +101,7 @@ impl Lets {
         let mut shapes = shapes;
         let mut places = places;
         places.insert(Vec::from_slice(alloc, name)?, entries.len())?;
-        shapes.push(Shape::of(&policy))?;
+        shapes.push(shape)?;
         entries.push((List::from_vec(Vec::from_slice(alloc, name)?), policy))?;
         Ok(Lets {
             entries,

@@ -13,8 +13,8 @@ use std::alloc::Global;
 
 /// The program of a text's declarations, or the first fault of the text.
 ///
-/// The declarations are taken in order, and a name means what stands above it. The names in a policy are written out. The
-/// largest values of the text's fields are at most 281,474,976,710,655, as `nk_grammar::file` reads them from the tokens
+/// The declarations are taken in order, and a name means what stands above it. The names in a policy count as written out.
+/// The largest values of the text's fields are at most 281,474,976,710,655, as `nk_grammar::file` reads them from the tokens
 /// of a text.
 pub fn program(alloc: Global, f: &File) -> Result<Program, NamesError>
     requires { All IsWritten (map declaration_of f.now.decls) }

@@ -43,16 +43,16 @@ fn named_apart(
     ensures is { IsQuestion program.now (asks_apart name.now from.now target.now) result }
     ensures fit { IfOk result (λ q. IsFitFor program.now.fields (tree_of q)) }
 {
-    let Some(p) = program.find(name) else {
+    let Some(p) = program.find(alloc, name)? else {
         return Err(QueryError::NoPolicy);
     };
-    let Some(a) = program.find(from) else {
+    let Some(a) = program.find(alloc, from)? else {
         return Err(QueryError::NoPolicy);
     };
-    let Some(b) = program.find(target) else {
+    let Some(b) = program.find(alloc, target)? else {
         return Err(QueryError::NoPolicy);
     };
-    apart(alloc, p, a, b)
+    apart(alloc, &p, &a, &b)
 }
 
 /// The question of `waypoint` for policies of these names.
@@ -67,17 +67,17 @@ fn named_waypoint(
     ensures is { IsQuestion program.now (asks_waypoint name.now from.now middle.now target.now) result }
     ensures fit { IfOk result (λ q. IsFitFor program.now.fields (tree_of q)) }
 {
-    let Some(p) = program.find(name) else {
+    let Some(p) = program.find(alloc, name)? else {
         return Err(QueryError::NoPolicy);
     };
-    let Some(a) = program.find(from) else {
+    let Some(a) = program.find(alloc, from)? else {
         return Err(QueryError::NoPolicy);
     };
-    let Some(m) = program.find(middle) else {
+    let Some(m) = program.find(alloc, middle)? else {
         return Err(QueryError::NoPolicy);
     };
-    let Some(b) = program.find(target) else {
+    let Some(b) = program.find(alloc, target)? else {
         return Err(QueryError::NoPolicy);
     };
-    waypoint(alloc, p, a, m, b)
+    waypoint(alloc, &p, &a, &m, &b)
 }

@@ -10,13 +10,11 @@ use Rattle.nk_lex.specs.Lex.{largest}
 use Rattle.nk_lex.specs.Spelling.{IsName}
 use Rattle.nk_topo.specs.Topology.{Topology, SwitchPorts, IsTopology, numbers_of}
 use Rattle.nk_policy.specs.Policy.{Policy}
-use Rattle.nk_policy.specs.Tree.{tree_of}
-use Rattle.nk_policy.specs.declared.policy.Pol.{Pol}
 use Rattle.nk_policy.specs.Ranges.{IsInRange}
 use Rattle.nk_names.specs.declared.Program.{Program}
 use Rattle.nk_names.specs.Accepted.{IsStart, IsAccepted, most_tags}
 use Rattle.nk_names.specs.Named.{policy_named}
-use Rattle.nk_names.specs.ProgramValue.{IsLet, IsProgram}
+use Rattle.nk_names.specs.ProgramValue.{IsProgram}
 use Rattle.nk_names.specs.ReadBack.{IsWritable}
 use Rattle.nk_names.specs.Topologies.{IsDeclarable}
 use Rattle.nk_table.specs.declared.Group.{Group}
@@ -33,7 +31,7 @@ use Rattle.nk_compile.specs.WholeTable.{HasRowsAt, TagTree, rows_of_trees, IsSwi
 use Rattle.nk_readback.specs.TextTables.{HasFewGroups, CompilesInOrder, CompilesPrintable}
 use Rattle.nk_compile.proofs.FewTags.{tags_fit}
 use Rattle.nk_compile.proofs.Fitting.{fronts}
-use Rattle.nk_compile.proofs.Printed.{named_in}
+use Rattle.nk_names.proofs.Named.{let_named}
 use Rattle.nk_readback.proofs.SoundRows.{IsSoundRow, sound_row}
 use Rattle.nk_tabtext.proofs.InOrder.{buckets_in_order, matches_in_order, targets_in_order}
 use Rattle.nk_readback.proofs.TableGroups.{Below, group_buckets_ok, groups_ok, groups_ascend, rows_ok}
@@ -98,10 +96,7 @@ switch_low topo ts same declarable u i =
 named_in_range :
     (program : Program) (name : List ℕ) (p : Policy) → IsProgram program.fields program.topo program.lets
     → policy_named program name ≡ Some p → IsInRange p program.fields
-named_in_range program name p ok named =
-    let l = named_in program.lets name p named in
-    let good : IsLet program.fields (tree_of l.0.1) = members_from_all (λ (k : List ℕ × Pol). IsLet program.fields (tree_of k.1)) program.lets ok.policies l.0 l.1 in
-    subst (λ q. IsInRange q program.fields) l.2 good.in_range
+named_in_range program name p ok named = (let_named program name p ok named).in_range
 
 -- an accepted policy has no more tags than the tag has values
 tags_few :

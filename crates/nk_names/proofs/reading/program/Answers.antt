@@ -1,6 +1,6 @@
 use Rattle.std.proofs.Common.{◌≡◌, ◌<◌, length, get_or, sym, subst}
 use Rattle.std.specs.Prelude.{All}
-use Rattle.nk_policy.specs.Tree.{tree_of}
+use Rattle.nk_names.specs.Body.{policy_of}
 use Rattle.nk_grammar.specs.File.{declaration_of}
 use Rattle.nk_names.specs.ProgramValue.{IsLet}
 use Rattle.nk_names.specs.ProgramOf.{said_in}
@@ -26,6 +26,6 @@ invariant_of-result c = record {
   maxima = c.loop-decl.invariant.lets.maxima;
   topology = c.switches-switches.ensures.is;
   policies =
-      subst (λ ls. All (λ l. IsLet c.loop-decl.names.declared.fields (tree_of l.1)) ls) (sym c.into_list.ensures)
+      subst (λ ls. All (λ l. IsLet c.loop-decl.names.declared.fields (policy_of l.1)) ls) (sym c.into_list.ensures)
       (lets_in_memory c.loop-decl.names.declared.fields c.loop-decl.names.lets.entries.items c.loop-decl.invariant.lets.policies);
 }

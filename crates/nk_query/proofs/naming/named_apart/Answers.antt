@@ -8,14 +8,14 @@ use Rattle.nk_query.proofs.naming.named_apart.Goals as goal
 pub returns-clause-is : goal.returns-clause-is
 returns-clause-is c =
     named_made c.args.program.now (asks_apart c.args.name.now c.args.from.now c.args.target.now)
-    (apart_of (tree_of c.in-Some.p.now) (tree_of c.in-Some-find.a.now) (tree_of c.in-Some-find-2.b.now))
+    (apart_of (tree_of c.in-Some.p) (tree_of c.in-Some-find.a) (tree_of c.in-Some-find-2.b))
     (sym c.in-Some.ensures.found, sym c.in-Some-find.ensures.found, sym c.in-Some-find-2.ensures.found)
     c.apart.result c.apart.ensures
 
 pub returns-clause-fit : goal.returns-clause-fit
 returns-clause-fit c =
     made_fit c.args.program.now (asks_apart c.args.name.now c.args.from.now c.args.target.now)
-    (apart_of (tree_of c.in-Some.p.now) (tree_of c.in-Some-find.a.now) (tree_of c.in-Some-find-2.b.now))
-    c.find.ensures.is
+    (apart_of (tree_of c.in-Some.p) (tree_of c.in-Some-find.a) (tree_of c.in-Some-find-2.b))
+    c.in_ok-find.ensures.is
     (sym c.in-Some.ensures.found, sym c.in-Some-find.ensures.found, sym c.in-Some-find-2.ensures.found)
     c.apart.result c.apart.ensures

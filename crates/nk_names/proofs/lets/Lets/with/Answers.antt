@@ -5,8 +5,8 @@ use Rattle.std.specs.HashMap.{get_by}
 use Rattle.std.specs.List.{position_from}
 use Rattle.std.specs.Str.{bytes_eq}
 use Rattle.std.proofs.lemmas.List.{map-append}
-use Rattle.nk_policy.specs.Tree.{tree_of}
-use Rattle.nk_policy.specs.declared.policy.Pol.{Pol}
+use Rattle.nk_names.specs.Body.{policy_of}
+use Rattle.nk_names.specs.declared.body.Shared.{Shared}
 use Rattle.nk_names.specs.Meant.{lets_of, policy_among}
 use Rattle.nk_names.specs.Shape.{shape_of}
 use Rattle.nk_names.proofs.Keys.{others_stay}
@@ -15,17 +15,17 @@ use Rattle.nk_names.proofs.lets.Lets.with.Goals as goal
 
 pub invariant_of-result : goal.invariant_of-result
 invariant_of-result c =
-    let y : List ℕ × Pol = (c.from_vec.result, c.args.policy) in
+    let y : List ℕ × Shared = (c.from_vec.result, c.args.policy) in
     let entries : c.push-2.new.self.items ≡ c.args.self.entries.items ++ y ∷ [] = c.in_ok-push-2.ensures.items in
     let key = c.in_ok-from_slice.field-0 in
     let bytes : key.items ≡ c.args.name.now = c.in_ok-from_slice.ensures.items in
     record {
       shaped =
           c.in_ok-push.ensures.items
-          ∙ ap (λ l. l ++ c.of.result ∷ []) c.args.self.shaped
-          ∙ ap (λ s. map (λ e. shape_of (tree_of e.1)) c.args.self.entries.items ++ s ∷ []) c.of.ensures
-          ∙ sym (map-append (λ e. shape_of (tree_of e.1)) c.args.self.entries.items (y ∷ []))
-          ∙ ap (map (λ e. shape_of (tree_of e.1))) (sym entries);
+          ∙ ap (λ l. l ++ c.args.shape ∷ []) c.args.self.shaped
+          ∙ ap (λ s. map (λ e. shape_of (policy_of e.1)) c.args.self.entries.items ++ s ∷ []) c.requires.shape
+          ∙ sym (map-append (λ e. shape_of (policy_of e.1)) c.args.self.entries.items (y ∷ []))
+          ∙ ap (map (λ e. shape_of (policy_of e.1))) (sym entries);
       placed = λ q.
           placed_with key.items c.args.self.entries.items y
           (λ p. get_by (λ k. pointwise nat_eq p k.items) c.args.self.places)
