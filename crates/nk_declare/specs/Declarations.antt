@@ -4,7 +4,7 @@ use Rattle.std.specs.Prelude.{◌≡◌, ℕ, ◌==◌, not, nat_lt, nat_le, Boo
 use Rattle.std.specs.declared.result.Result.{Result}
 use Rattle.std.specs.List.{list_any}
 use Rattle.nk_field.specs.Packet.{FieldTable, built_in, field_named, with_field}
-use Rattle.nk_topo.specs.Topology.{Topology, Link, no_topology, is_switch, is_port, is_target, link_from, with_switch, with_link}
+use Rattle.nk_topo.specs.Topology.{Topology, Link, has_double, no_topology, is_switch, is_port, is_target, link_from, with_switch, with_link}
 use Rattle.nk_lex.specs.declared.word.Word.{Word}
 use Rattle.nk_lex.specs.declared.word.Number.{Number}
 use Rattle.nk_lex.specs.Faults.{and_then, first_of, unless}
@@ -74,20 +74,27 @@ tag_fault fields w =
     (fault_if (is_some fields.tag) fault.TagTwice w.line)
     (fault_if (not (is_from 2 (field_named fields w.text))) fault.TagUnknown w.line)
 
+-- a port behind others of its switch: in range, and none of them
+abbrev pub port_fault : (before : List ℕ) → Number → MaybeFault
+port_fault before p =
+    first_of (above 65535 p) (fault_if (list_any (λ q. p.value == q) before) fault.PortTwice p.line)
+
 -- ports: each in range, and none twice
 abbrev pub ports_fault : (before : List ℕ) → List Number → MaybeFault
 ports_fault before [] = None
-ports_fault before (p ∷ ps) =
-    first_of
-    (first_of (above 65535 p) (fault_if (list_any (λ q. p.value == q) before) fault.PortTwice p.line))
-    (ports_fault (before ++ p.value ∷ []) ps)
+ports_fault before (p ∷ ps) = first_of (port_fault before p) (ports_fault (before ++ p.value ∷ []) ps)
+
+-- these are the numbers, each once
+abbrev pub AreSeen : List ℕ → (seen : List ℕ) → Type 0
+AreSeen numbers seen = (has_double numbers ≡ false) × ((n : ℕ) → list_any (λ q. n == q) numbers ≡ list_any (λ q. n == q) seen)
+
+-- a switch's number: in range and new
+abbrev pub number_fault : Topology → Number → MaybeFault
+number_fault topo n = first_of (above 65535 n) (fault_if (is_switch topo n.value) fault.SwitchTwice n.line)
 
 -- a switch: in range and new, then its ports
 abbrev pub switch_fault : Topology → Number → List Number → MaybeFault
-switch_fault topo n ps =
-    first_of
-    (first_of (above 65535 n) (fault_if (is_switch topo n.value) fault.SwitchTwice n.line))
-    (ports_fault [] ps)
+switch_fault topo n ps = first_of (number_fault topo n) (ports_fault [] ps)
 
 -- a link from port m of switch a to port n of switch b: its numbers are in range, its ends are ports, no other link has
 -- its source, and none has its target

@@ -1,6 +1,7 @@
 //! What is declared after one more declaration.
-ghost use Rattle.std.specs.Prelude.{◌≡◌, IfOk};
-ghost use Rattle.nk_declare.specs.Declarations.{Returns, field, tag, switch, link, declared_with, nothing_declared};
+ghost use Rattle.std.specs.Prelude.{◌≡◌, None, Some, false, IfErr, IfOk, MatchResult, OnErr, OnOk};
+ghost use Rattle.nk_topo.specs.Topology.{has_double, is_switch, with_switch};
+ghost use Rattle.nk_declare.specs.Declarations.{Returns, field, tag, switch, link, declared_with, nothing_declared, number_fault};
 ghost use Rattle.nk_declare.specs.InMemory.{declared_in};
 
 use crate::check::{ends_of, place_of, ports_of, refuse_if};
@@ -13,8 +14,7 @@ use std::alloc::{AllocError, Global};
 
 /// The fields and the topology declared so far.
 ///
-/// Each call takes what is declared and gives it back with one more declaration, or answers the declaration's first
-/// fault. Switches and links may come in any order, each in the time of a search.
+/// Each call puts in one more declaration, or answers the declaration's first fault. Switches and links may come in any order, each in the time of a search.
 #[derive(Drop)]
 pub struct Declared {
     /// The fields, and the tag.
@@ -33,14 +33,15 @@ impl Declared {
         Ok(Declared { fields, topo })
     }
 
-    /// One more field. It is a fault that a field has the name already, or else that sixteen are declared already.
-    pub fn with_field(self, w: &Word, n: Number) -> Result<Declared, DeclareError>
-        ensures { Returns declared_in result (declared_with (declared_in self) (field w.now n)) }
+    /// One more field: its name is new, and there are fewer than sixteen.
+    ///
+    /// An `Err` leaves what is declared as it was, here and below.
+    pub fn add_field(&mut self, w: &Word, n: Number) -> Result<(), DeclareError>
+        ensures answer { Returns (λ _. declared_in self.new) result (declared_with (declared_in self.old) (field w.now n)) }
+        ensures kept { OnErr result (declared_in self.new ≡ declared_in self.old) }
     {
-        let Declared { fields, topo } = self;
-        let mut fields = fields;
-        let kind = match fields.add(w.text.as_str(), n.value) {
-            Ok(_) => return Ok(Declared { fields, topo }),
+        let kind = match self.fields.add(w.text.as_str(), n.value) {
+            Ok(_) => return Ok(()),
             Err(FieldsError::FieldTwice) => DeclareFault::FieldTwice,
             Err(FieldsError::TooManyFields) => DeclareFault::TooManyFields,
             Err(FieldsError::NoMemory) => return Err(DeclareError::NoMemory),
@@ -48,34 +49,30 @@ impl Declared {
         Err(DeclareError::Fault { kind, line: w.line })
     }
 
-    /// The tag. It is a fault that there is a tag already, or else that no declared field has the name.
-    pub fn with_tag(self, w: &Word) -> Result<Declared, DeclareError>
-        ensures { Returns declared_in result (declared_with (declared_in self) (tag w.now)) }
+    /// The tag: there is none so far, and it is a declared field. The name stands on the line. It takes no memory.
+    pub fn add_tag(&mut self, name: &[u8], line: u64) -> Result<(), DeclareError>
+        ensures answer { Returns (λ _. declared_in self.new) result
+            (declared_with (declared_in self.old) (tag (record { text = name.now; line = line }))) }
+        ensures kept { OnErr result (declared_in self.new ≡ declared_in self.old) }
+        ensures memory { IfErr result (λ e. e ≡ DeclareError.NoMemory → ⊥) }
     {
-        refuse_if(self.fields.tag().is_some(), DeclareFault::TagTwice, w.line)?;
-        match field_with(&self.fields, w.text.as_slice()) {
+        refuse_if(self.fields.tag().is_some(), DeclareFault::TagTwice, line)?;
+        match field_with(&self.fields, name) {
             Some(field) if field.place() >= 2 => {
-                let Declared { fields, topo } = self;
-                let mut fields = fields;
-                fields.set_tag(field);
-                Ok(Declared { fields, topo })
+                self.fields.set_tag(field);
+                Ok(())
             }
             _ => Err(DeclareError::Fault {
                 kind: DeclareFault::TagUnknown,
-                line: w.line,
+                line,
             }),
         }
     }
 
-    /// One more switch with its ports. The first of these faults is answered: the switch is above 65,535; it is declared
-    /// already; then, port by port, the port is above 65,535 or stands before.
-    pub fn with_switch(
-        self,
-        alloc: Global,
-        n: Number,
-        ports: &[Number],
-    ) -> Result<Declared, DeclareError>
-        ensures { Returns declared_in result (declared_with (declared_in self) (switch n ports.now)) }
+    /// The number of a switch that is declared next: in range and new.
+    pub fn new_switch(&self, n: Number) -> Result<u16, DeclareError>
+        ensures value { IfOk result (λ v. v ≡ n.value) }
+        ensures fault { MatchResult result (λ _. number_fault self.now.topo n ≡ None) (λ e. number_fault self.now.topo n ≡ Some e) }
     {
         let number = place_of(n)?;
         refuse_if(
@@ -83,12 +80,19 @@ impl Declared {
             DeclareFault::SwitchTwice,
             n.line,
         )?;
-        let ports = ports_of(alloc, ports)?;
-        let Declared { fields, topo } = self;
-        let mut topo = topo;
-        match topo.add_switch(number, ports.as_slice()) {
-            Ok(()) => Ok(Declared { fields, topo }),
-            Err(TopoError::NoMemory) => Err(DeclareError::NoMemory),
+        Ok(number)
+    }
+
+    /// One more switch, which is new, with its ports. The only error is that memory ran out.
+    pub fn add_switch(&mut self, n: u16, ports: &[u16]) -> Result<(), AllocError>
+        requires new { is_switch self.old.topo n ≡ false }
+        requires once { has_double ports.now ≡ false }
+        ensures ok { OnOk result (declared_in self.new ≡ record (declared_in self.old) { topo = with_switch self.old.topo n ports.now }) }
+        ensures kept { OnErr result (declared_in self.new ≡ declared_in self.old) }
+    {
+        match self.topo.add_switch(n, ports) {
+            Ok(()) => Ok(()),
+            Err(TopoError::NoMemory) => Err(AllocError),
             Err(
                 TopoError::SwitchTwice
                 | TopoError::PortTwice
@@ -99,9 +103,70 @@ impl Declared {
         }
     }
 
-    /// One more link, from port `m` of switch `a` to port `n` of switch `b`. The first of these faults is answered: one
-    /// of the four numbers is above 65,535; the source is no declared port; the target is none; a link begins at the
-    /// source already; one ends at the target already.
+    /// One more link, from port `m` of switch `a` to port `n` of switch `b`: the four numbers are in range, both ends are
+    /// declared ports, no link begins at the source and none ends at the target.
+    pub fn add_link(
+        &mut self,
+        a: Number,
+        m: Number,
+        b: Number,
+        n: Number,
+    ) -> Result<(), DeclareError>
+        ensures answer { Returns (λ _. declared_in self.new) result (declared_with (declared_in self.old) (link a m b n)) }
+        ensures kept { OnErr result (declared_in self.new ≡ declared_in self.old) }
+    {
+        let (from_switch, from_port, to_switch, to_port) = ends_of(a, m, b, n)?;
+        let (kind, line) = match self
+            .topo
+            .add_link(from_switch, from_port, to_switch, to_port)
+        {
+            Ok(()) => return Ok(()),
+            Err(TopoError::NoSuchPort(LinkEnd::Source)) => (DeclareFault::NoSuchPort, m.line),
+            Err(TopoError::NoSuchPort(LinkEnd::Target)) => (DeclareFault::NoSuchPort, n.line),
+            Err(TopoError::SourceTwice) => (DeclareFault::SourceTwice, m.line),
+            Err(TopoError::TargetTwice) => (DeclareFault::TargetTwice, n.line),
+            Err(TopoError::NoMemory) => return Err(DeclareError::NoMemory),
+            Err(TopoError::SwitchTwice | TopoError::PortTwice) => unreachable!(),
+        };
+        Err(DeclareError::Fault { kind, line })
+    }
+
+    /// What is declared with one more field.
+    pub fn with_field(self, w: &Word, n: Number) -> Result<Declared, DeclareError>
+        ensures { Returns declared_in result (declared_with (declared_in self) (field w.now n)) }
+    {
+        let mut said = self;
+        said.add_field(w, n)?;
+        Ok(said)
+    }
+
+    /// What is declared with the tag.
+    pub fn with_tag(self, w: &Word) -> Result<Declared, DeclareError>
+        ensures { Returns declared_in result (declared_with (declared_in self) (tag w.now)) }
+    {
+        let mut said = self;
+        said.add_tag(w.text.as_slice(), w.line)?;
+        Ok(said)
+    }
+
+    /// What is declared with one more switch and its ports: the switch is in range and new, then each port is in range and
+    /// stands once.
+    pub fn with_switch(
+        self,
+        alloc: Global,
+        n: Number,
+        ports: &[Number],
+    ) -> Result<Declared, DeclareError>
+        ensures { Returns declared_in result (declared_with (declared_in self) (switch n ports.now)) }
+    {
+        let mut said = self;
+        let number = said.new_switch(n)?;
+        let ports = ports_of(alloc, ports)?;
+        said.add_switch(number, ports.as_slice())?;
+        Ok(said)
+    }
+
+    /// What is declared with one more link, from port `m` of switch `a` to port `n` of switch `b`.
     pub fn with_link(
         self,
         a: Number,
@@ -111,18 +176,8 @@ impl Declared {
     ) -> Result<Declared, DeclareError>
         ensures { Returns declared_in result (declared_with (declared_in self) (link a m b n)) }
     {
-        let (from_switch, from_port, to_switch, to_port) = ends_of(a, m, b, n)?;
-        let Declared { fields, topo } = self;
-        let mut topo = topo;
-        let (kind, line) = match topo.add_link(from_switch, from_port, to_switch, to_port) {
-            Ok(()) => return Ok(Declared { fields, topo }),
-            Err(TopoError::NoSuchPort(LinkEnd::Source)) => (DeclareFault::NoSuchPort, m.line),
-            Err(TopoError::NoSuchPort(LinkEnd::Target)) => (DeclareFault::NoSuchPort, n.line),
-            Err(TopoError::SourceTwice) => (DeclareFault::SourceTwice, m.line),
-            Err(TopoError::TargetTwice) => (DeclareFault::TargetTwice, n.line),
-            Err(TopoError::NoMemory) => return Err(DeclareError::NoMemory),
-            Err(TopoError::SwitchTwice | TopoError::PortTwice) => unreachable!(),
-        };
-        Err(DeclareError::Fault { kind, line })
+        let mut said = self;
+        said.add_link(a, m, b, n)?;
+        Ok(said)
     }
 }

@@ -10,6 +10,7 @@ mod fault;
 mod names;
 mod words;
 
+pub use check::Ports;
 pub use declare::Declared;
 pub use fault::{DeclareError, DeclareFault};
 pub use names::field_with;

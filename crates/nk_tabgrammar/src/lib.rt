@@ -24,10 +24,15 @@ mod laws;
 mod parts;
 mod reader;
 mod stage;
+mod states;
 mod written;
 
-pub use laws::{a_text_has_one_reading, texts_are_answered, texts_are_read};
+pub use laws::{
+    a_text_has_one_reading, states_follow_the_grammar, states_tell_what_is_written,
+    texts_are_answered, texts_are_read,
+};
 pub use reader::read_text;
+pub use states::{BucketState, LinkState, RowState, State, Step, Tells};
 pub use written::{
     Declaration, Pair, ReadError, Way, WrittenBucket, WrittenGroup, WrittenMatch, WrittenRow,
     WrittenTable, WrittenTables, WrittenTarget,
