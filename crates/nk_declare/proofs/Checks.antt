@@ -1,5 +1,5 @@
 -- What the checks of a declaration leave known.
-use Rattle.std.proofs.Common.{◌≡◌, ℕ, ◌≤◌, Bool, true, false, Option, Some, None, Ok, Err, not, List, [], ◌∷◌, ◌++◌, ◌||◌, refl, sym, ap, subst, ◌∙◌, arith}
+use Rattle.std.proofs.Common.{◌≡◌, ℕ, ◌≤◌, Bool, true, false, cond, Option, Some, None, Ok, Err, not, List, [], ◌∷◌, ◌++◌, ◌||◌, refl, sym, ap, subst, ◌∙◌, arith}
 use Rattle.std.specs.declared.result.Result.{Result}
 use Rattle.std.specs.Prelude.{nat_lt, nat_eq, ◌==◌, IsErrAnd, MatchResult}
 use Rattle.std.specs.List.{list_any}
@@ -11,7 +11,7 @@ use Rattle.nk_declare.specs.declared.fault.DeclareFault.{DeclareFault}
 use Rattle.nk_declare.specs.declared.fault.DeclareFault.TheVariants as fault
 use Rattle.nk_declare.specs.declared.fault.DeclareError.{DeclareError}
 use Rattle.nk_declare.specs.declared.fault.DeclareError.TheVariants.{Fault, NoMemory}
-use Rattle.nk_declare.specs.Declarations.{MaybeFault, fault_if, above, ports_fault, IsFirst}
+use Rattle.nk_declare.specs.Declarations.{MaybeFault, fault_if, above, port_fault, ports_fault, IsFirst}
 
 -- of faults that have no first there is none
 pub none_both : {E : Type 0} (a b : Option E) → first_of a b ≡ None → (a ≡ None) × (b ≡ None)
@@ -40,30 +40,49 @@ not_not : (b : Bool) → not (not b) ≡ b
 not_not true = refl
 not_not false = refl
 
--- a port that stands before is the first fault
-pub port_twice : (before : List ℕ) (p : Number) (ps : List Number) (b : Bool) (e : DeclareError)
-    → above 65535 p ≡ None → b ≡ list_any (λ q. p.value == q) before → fault_if b fault.PortTwice p.line ≡ Some e
+-- a port in range is at fault where it stands before
+pub one_refused : (before : List ℕ) (p : Number) (b : Bool) → above 65535 p ≡ None → b ≡ list_any (λ q. p.value == q) before
+    → port_fault before p ≡ fault_if b fault.PortTwice p.line
+one_refused before p b in_range is =
+    ap (λ a. first_of a (fault_if (list_any (λ q. p.value == q) before) fault.PortTwice p.line)) in_range
+    ∙ ap (λ c. fault_if c fault.PortTwice p.line) (sym is)
+
+-- a port at fault is the first fault
+pub port_refused : (before : List ℕ) (p : Number) (ps : List Number) (e : DeclareError) → port_fault before p ≡ Some e
     → ports_fault before (p ∷ ps) ≡ Some e
-port_twice before p ps b e in_range is h =
-    ap (λ a. first_of (first_of a (fault_if (list_any (λ q. p.value == q) before) fault.PortTwice p.line)) (ports_fault (before ++ p.value ∷ []) ps)) in_range
-    ∙ ap (λ c. first_of (fault_if c fault.PortTwice p.line) (ports_fault (before ++ p.value ∷ []) ps)) (sym is)
-    ∙ ap (λ a. first_of a (ports_fault (before ++ p.value ∷ []) ps)) h
+port_refused before p ps e h = ap (λ a. first_of a (ports_fault (before ++ p.value ∷ []) ps)) h
 
 -- after a port without fault the first fault is among the others
-pub port_fits : (before : List ℕ) (p : Number) (ps : List Number) (b : Bool)
-    → above 65535 p ≡ None → b ≡ list_any (λ q. p.value == q) before → fault_if b fault.PortTwice p.line ≡ None
+pub port_fits : (before : List ℕ) (p : Number) (ps : List Number) → port_fault before p ≡ None
     → ports_fault before (p ∷ ps) ≡ ports_fault (before ++ p.value ∷ []) ps
-port_fits before p ps b in_range is h =
-    ap (λ a. first_of (first_of a (fault_if (list_any (λ q. p.value == q) before) fault.PortTwice p.line)) (ports_fault (before ++ p.value ∷ []) ps)) in_range
-    ∙ ap (λ c. first_of (fault_if c fault.PortTwice p.line) (ports_fault (before ++ p.value ∷ []) ps)) (sym is)
-    ∙ ap (λ a. first_of a (ports_fault (before ++ p.value ∷ []) ps)) h
+port_fits before p ps h = ap (λ a. first_of a (ports_fault (before ++ p.value ∷ []) ps)) h
 
 -- whether a port stands before, by what was seen
-pub stands_before : (new : Bool) (v n : ℕ) (seen : ℕ → Bool) (before : List ℕ)
-    → new ≡ not (seen n) → ((q : ℕ) → seen q ≡ list_any (nat_eq q) before) → n ≡ v
+pub stands_before : (new : Bool) (v n : ℕ) (seen before : List ℕ)
+    → new ≡ not (list_any (nat_eq n) seen) → ((q : ℕ) → list_any (λ r. q == r) before ≡ list_any (λ r. q == r) seen) → n ≡ v
     → not new ≡ list_any (λ q. v == q) before
 stands_before new v n seen before added same is =
-    ap not added ∙ not_not (seen n) ∙ same n ∙ ap (λ k. list_any (nat_eq k) before) is
+    ap not added ∙ not_not (list_any (nat_eq n) seen) ∙ sym (same n) ∙ ap (λ k. list_any (λ q. k == q) before) is
+
+-- what was seen with one more number
+pub seen_more : (before seen all : List ℕ) (v n : ℕ) → n ≡ v
+    → ((q : ℕ) → list_any (λ r. q == r) before ≡ list_any (λ r. q == r) seen)
+    → ((q : ℕ) → list_any (nat_eq q) all ≡ cond (nat_eq n q) true (list_any (nat_eq q) seen))
+    → (q : ℕ) → list_any (λ r. q == r) (before ++ v ∷ []) ≡ list_any (λ r. q == r) all
+seen_more before seen all v n is same more q =
+    list_any-append (λ r. q == r) before (v ∷ [])
+    ∙ ap (λ a. a || ((q == v) || false)) (same q)
+    ∙ either (list_any (nat_eq q) seen) (q == v) (n == q) (turned q v ∙ ap (λ k. k == q) (sym is))
+    ∙ sym (more q)
+  where
+    turned : (a b : ℕ) → (a == b) ≡ (b == a)
+    turned a b = grind arith
+
+    either : (a b c : Bool) → b ≡ c → (a || (b || false)) ≡ cond c true a
+    either true true c h = ap (λ d. cond d true true) h
+    either true false c h = ap (λ d. cond d true true) h
+    either false true c h = ap (λ d. cond d true false) h
+    either false false c h = ap (λ d. cond d true false) h
 
 -- one more number that doesn't stand before
 pub once_more : (xs : List ℕ) (p : ℕ) → has_double xs ≡ false → list_any (λ q. p == q) xs ≡ false → has_double (xs ++ p ∷ []) ≡ false
