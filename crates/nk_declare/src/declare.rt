@@ -33,7 +33,7 @@ impl Declared {
         Ok(Declared { fields, topo })
     }
 
-    /// One more field: its name is new, and there are fewer than sixteen.
+    /// One more field. It is a fault that a field has the name already, or else that sixteen are declared already.
     ///
     /// An `Err` leaves what is declared as it was, here and below.
     pub fn add_field(&mut self, w: &Word, n: Number) -> Result<(), DeclareError>
@@ -49,7 +49,8 @@ impl Declared {
         Err(DeclareError::Fault { kind, line: w.line })
     }
 
-    /// The tag: there is none so far, and it is a declared field. The name stands on the line. It takes no memory.
+    /// The tag, whose name stands on the line. It is a fault that there is a tag already, or else that no declared field
+    /// has the name. It takes no memory.
     pub fn add_tag(&mut self, name: &[u8], line: u64) -> Result<(), DeclareError>
         ensures answer { Returns (λ _. declared_in self.new) result
             (declared_with (declared_in self.old) (tag (record { text = name.now; line = line }))) }
@@ -69,7 +70,8 @@ impl Declared {
         }
     }
 
-    /// The number of a switch that is declared next: in range and new.
+    /// The number of a switch that is declared next. It is a fault that it is above 65,535, or else that the switch is
+    /// declared already. It takes no memory.
     pub fn new_switch(&self, n: Number) -> Result<u16, DeclareError>
         ensures value { IfOk result (λ v. v ≡ n.value) }
         ensures fault { MatchResult result (λ _. number_fault self.now.topo n ≡ None) (λ e. number_fault self.now.topo n ≡ Some e) }
@@ -103,8 +105,9 @@ impl Declared {
         }
     }
 
-    /// One more link, from port `m` of switch `a` to port `n` of switch `b`: the four numbers are in range, both ends are
-    /// declared ports, no link begins at the source and none ends at the target.
+    /// One more link, from port `m` of switch `a` to port `n` of switch `b`. The first of these faults is answered: one
+    /// of the four numbers is above 65,535; the source is no declared port; the target is none; a link begins at the
+    /// source already; one ends at the target already.
     pub fn add_link(
         &mut self,
         a: Number,
@@ -149,8 +152,8 @@ impl Declared {
         Ok(said)
     }
 
-    /// What is declared with one more switch and its ports: the switch is in range and new, then each port is in range and
-    /// stands once.
+    /// What is declared with one more switch and its ports. The first of these faults is answered: the switch is above
+    /// 65,535; it is declared already; then, port by port, the port is above 65,535 or stands before.
     pub fn with_switch(
         self,
         alloc: Global,
