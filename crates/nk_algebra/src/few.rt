@@ -1,12 +1,12 @@
 //! The parts of many diagrams together, interval by interval, where these are few.
-ghost use Rattle.std.specs.Prelude.{◌≡◌, ◌<◌, ◌≤◌, IfOk, length, slice_index};
+ghost use Rattle.std.specs.Prelude.{◌≡◌, ◌<◌, ◌≤◌, IfOk, IfSome, length, slice_index};
 ghost use Rattle.nk_store.specs.Held.{top, Grows, HasLeaves};
 ghost use Rattle.nk_algebra.specs.Unions.{AreIds, AreFrom, AreSteady, HaveParts, leaf_at, over_places, subs};
 
 use crate::many::union_many;
 use crate::part::part_at;
 use nk_field::{Fid, List};
-use nk_store::{Id, Store};
+use nk_store::{Id, Node, Store};
 use std::alloc::AllocError;
 
 /// Up to how many intervals are put together one by one.
@@ -14,38 +14,55 @@ const FEW: usize = 4;
 
 /// Whether these diagrams have few intervals of the field's values between them.
 pub(crate) fn are_few(st: &Store, f: Fid, ds: &[Id]) -> bool
-    requires field { f < 18 }
-    requires ids { AreIds st.now ds.now }
-    requires first { AreFrom st.now f ds.now }
+    requires { AreIds st.now ds.now }
 {
-    let max = st.max(f);
-    let mut from = 0;
-    for _ in 0..FEW {
-        let end = first_end(st, f, ds, from);
-        if end >= max {
-            return true;
+    let mut ends = [0; FEW];
+    let mut count = 0;
+    for i in 0..ds.len() {
+        if let Node::Case(g, parts) = st.view(ds[i]) {
+            if *g == f {
+                match with_ends(&mut ends, count, parts.as_slice()) {
+                    Some(more) => count = more,
+                    None => return false,
+                }
+            }
         }
-        from = end + 1;
     }
-    false
+    true
 }
 
-/// Up to which value from this one on none of these diagrams changes.
-fn first_end(st: &Store, f: Fid, ds: &[Id], from: u64) -> u64
-    requires field { f < 18 }
-    requires ids { AreIds st.now ds.now }
-    requires first { AreFrom st.now f ds.now }
-    requires within { from ≤ slice_index st.now.maxes f }
-    ensures from { from ≤ result }
-    ensures within { result ≤ slice_index st.now.maxes f }
-    ensures steady { AreSteady st.now f ds.now from result }
+/// Puts the ends of these parts behind the first so many, each once, and tells how many there are then: none where they are
+/// more than few.
+fn with_ends(ends: &mut [u64; 4], count: usize, parts: &[(u64, Id)]) -> Option<usize>
+    requires { count ≤ 4 }
+    ensures { IfSome result (λ more. more ≤ 4) }
 {
-    let mut end = st.max(f);
-    for i in 0..ds.len() {
-        let (until, _) = part_at(st, ds[i], f, from);
-        end = end.min(until);
+    if parts.len() > FEW {
+        return None;
     }
-    end
+    let mut more = count;
+    for (end, _) in parts {
+        if !is_among(ends, more, *end) {
+            if more == FEW {
+                return None;
+            }
+            ends[more] = *end;
+            more += 1;
+        }
+    }
+    Some(more)
+}
+
+/// Whether an end is among the first so many.
+fn is_among(ends: &[u64; 4], count: usize, end: u64) -> bool
+    requires { count ≤ 4 }
+{
+    for i in 0..count {
+        if ends[i] == end {
+            return true;
+        }
+    }
+    false
 }
 
 /// The parts by the field, at each interval all that these diagrams are there together.
@@ -62,8 +79,8 @@ pub(crate) fn few_parts(st: &mut Store, f: Fid, ds: &[Id]) -> Result<List<(u64, 
     let mut parts = List::new(st.alloc());
     let mut from = 0;
     loop {
-        let end = first_end(st, f, ds, from);
-        let child = union_there(st, f, ds, from)?;
+        let (end, children) = interval_at(st, f, ds, from)?;
+        let child = union_there(st, f, ds, from, children.as_slice())?;
         parts.push((end, child))?;
         if end == max {
             return Ok(parts);
@@ -72,34 +89,38 @@ pub(crate) fn few_parts(st: &mut Store, f: Fid, ds: &[Id]) -> Result<List<(u64, 
     }
 }
 
+/// What these diagrams are at a value of the field, and up to which value from this one on none of them changes.
+fn interval_at(st: &Store, f: Fid, ds: &[Id], v: u64) -> Result<(u64, List<Id>), AllocError>
+    requires field { f < 18 }
+    requires ids { AreIds st.now ds.now }
+    requires first { AreFrom st.now f ds.now }
+    requires within { v ≤ slice_index st.now.maxes f }
+    ensures from { IfOk result (λ p. v ≤ p.0) }
+    ensures within { IfOk result (λ p. p.0 ≤ slice_index st.now.maxes f) }
+    ensures steady { IfOk result (λ p. AreSteady st.now f ds.now v p.0) }
+    ensures children { IfOk result (λ p. p.1 ≡ subs st.now f v ds.now) }
+{
+    let mut end = st.max(f);
+    let mut all = List::with_capacity(st.alloc(), ds.len())?;
+    for i in 0..ds.len() {
+        let (until, child) = part_at(st, ds[i], f, v);
+        end = end.min(until);
+        all.push(child)?;
+    }
+    Ok((end, all))
+}
+
 /// All that these diagrams are at a value of the field together.
-fn union_there(st: &mut Store, f: Fid, ds: &[Id], v: u64) -> Result<Id, AllocError>
+fn union_there(st: &mut Store, f: Fid, ds: &[Id], v: u64, children: &[Id]) -> Result<Id, AllocError>
     requires field { f < 18 }
     requires ids { AreIds st.old ds.now }
     requires first { AreFrom st.old f ds.now }
-    requires within { v ≤ slice_index st.old.maxes f }
     requires some { 0 < length ds.now }
+    requires children { children.now ≡ subs st.old f v ds.now }
     ensures grows { Grows st.old st.new }
     ensures ok { IfOk result (λ r. HasLeaves st.new r (λ pk. over_places (leaf_at st.old f ds.now v pk) 0 (length ds.now))) }
     ensures later { IfOk result (λ r. f < top st.new r) }
 {
     st.laws();
-    let children = children_at(st, f, ds, v)?;
-    union_many(st, children.as_slice())
-}
-
-/// What these diagrams are at a value of the field.
-fn children_at(st: &Store, f: Fid, ds: &[Id], v: u64) -> Result<List<Id>, AllocError>
-    requires field { f < 18 }
-    requires ids { AreIds st.now ds.now }
-    requires first { AreFrom st.now f ds.now }
-    requires within { v ≤ slice_index st.now.maxes f }
-    ensures { IfOk result (λ cs. cs ≡ subs st.now f v ds.now) }
-{
-    let mut all = List::with_capacity(st.alloc(), ds.len())?;
-    for i in 0..ds.len() {
-        let (_, child) = part_at(st, ds[i], f, v);
-        all.push(child)?;
-    }
-    Ok(all)
+    union_many(st, children)
 }
