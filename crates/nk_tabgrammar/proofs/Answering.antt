@@ -99,7 +99,7 @@ pub answers : (ts : List Token) → IsAnswer ts (written_of ts)
 answers ts = rest_answers ts ts [] first_reading refl refl
 
 -- tokens that are taken to the end are read
-rest_reads : (ts : List Token) (r : Reading) (line : ℕ) (x : WrittenTables)
+pub rest_reads : (ts : List Token) (r : Reading) (line : ℕ) (x : WrittenTables)
     → option_and_then written_at_end (read_all (terminals ts) r) ≡ Some x → rest_of_text ts r line ≡ Ok x
 rest_reads [] r line x e = ap (judged line) e
 rest_reads (t ∷ ts) r line x e = by_step (read_one r (terminal_of t)) e (λ s f. rest_reads ts s t.line x f)

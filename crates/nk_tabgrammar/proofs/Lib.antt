@@ -5,3 +5,4 @@ pub mod Loops
 pub mod Marks
 pub mod Passing
 pub mod Spelled
+pub mod Telling

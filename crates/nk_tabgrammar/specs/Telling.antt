@@ -63,8 +63,8 @@ told_bucket ends b = flat_map told_set b.sets ++ told_way b.way ∷ alone ends �
 
 abbrev pub told_group : WrittenGroup → List Telling
 told_group g =
-    by_number tells.Group g.number
-    ∷ (told_bucket tells.GroupBucket g.first ++ (flat_map (told_bucket tells.GroupBucket) g.more ++ alone tells.GroupEnds ∷ []))
+    (by_number tells.Group g.number ∷ (told_bucket tells.GroupBucket g.first ++ flat_map (told_bucket tells.GroupBucket) g.more))
+    ++ alone tells.GroupEnds ∷ []
 
 abbrev pub told_length : Option Number → List Telling
 told_length None = []
