@@ -14,7 +14,8 @@ use std::alloc::{AllocError, Global};
 
 /// The fields and the topology declared so far.
 ///
-/// Each call puts in one more declaration, or answers the declaration's first fault. Switches and links may come in any order, each in the time of a search.
+/// Each call puts in one more declaration, or answers the declaration's first fault. Switches and links may come in any
+/// order, each in the time of a search.
 #[derive(Drop)]
 pub struct Declared {
     /// The fields, and the tag.
