@@ -9,6 +9,7 @@ use Rattle.nk_lex.specs.declared.token.LexError.{LexError}
 use Rattle.nk_lex.specs.declared.token.LexError.TheVariants as error
 use Rattle.nk_lex.specs.declared.settling.Next.{Next}
 use Rattle.nk_lex.specs.declared.unfinished.Pending.TheVariants as pending
+use Rattle.nk_lex.specs.Classes.{is_white}
 use Rattle.nk_lex.specs.Lex.{Fails, cut, cut_front, front_of, line_after, HasToken, IsFault}
 use Rattle.nk_lex.proofs.Cuts.{settle_after, front_settles, whole_opens}
 use Rattle.nk_lex.specs.Kept.{IsKept, IsPendingWithin, pending_of}
@@ -48,6 +49,25 @@ going_on bytes at first before from line ts n t g w some e =
       more = omega (arith, g.more, length-append ts (option_to_list t));
       rest = step ∙ g.rest;
     }
+
+-- a byte of white space is cut off
+blank_cut : (bytes : List ℕ) (line at : ℕ) → has_whole bytes ≡ true → is_white (get_or bytes 0 0) ≡ true
+    → ((0 < 1) × (1 ≤ length bytes)) × (cut_front bytes line at ≡ Ok (1, None))
+blank_cut [] line at w h = absurd cc
+blank_cut (b ∷ rest) line at w h = ((omega arith, omega arith), rw h refl)
+
+-- it is passed
+pub passing_on : (bytes : List ℕ) (at first : ℕ) (before : List Token) (from line : ℕ) (ts : List Token)
+    → Going bytes at first before from line ts
+    → has_whole (take (length bytes - from) (drop from bytes)) ≡ true → is_white (get_or bytes from 0) ≡ true
+    → Going bytes at first before (from + 1) (line_after line (get_or bytes from 0)) ts
+passing_on bytes at first before from line ts g w h =
+    let whole : has_whole (drop from bytes) ≡ true = rw take_rest at w in
+    let byte : get_or (drop from bytes) 0 0 ≡ get_or bytes from 0
+    = get_or-drop from bytes 0 0 ∙ ap (λ i. get_or bytes i 0) (add-zero from) in
+    let blank = blank_cut (drop from bytes) line (at + from) whole (ap is_white byte ∙ h) in
+    subst (λ us. Going bytes at first before (from + 1) (line_after line (get_or bytes from 0)) us) (append-nil ts)
+    (going_on bytes at first before from line ts 1 None g w (rw take_rest blank.0) (rw take_rest blank.1))
 
 -- a lexeme with a token makes a list that isn't empty
 token_some : (bytes : List ℕ) (line at : ℕ) → has_whole bytes ≡ true → HasToken (cut_front bytes line at)

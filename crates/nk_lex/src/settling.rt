@@ -195,13 +195,18 @@ fn settle(
     let mut here = line;
     let mut from = 0;
     'lexemes: while has_whole(&bytes[from..]) {
-        match lexeme(alloc, &bytes[from..], at + from, here) {
-            Ok((len, token)) => {
-                put(&mut tokens, token)?;
-                here = line_past(here, bytes[from]);
-                from += len;
+        if is_white(bytes[from]) {
+            here = line_past(here, bytes[from]);
+            from += 1;
+        } else {
+            match lexeme(alloc, &bytes[from..], at + from, here) {
+                Ok((len, token)) => {
+                    put(&mut tokens, token)?;
+                    here = line_past(here, bytes[from]);
+                    from += len;
+                }
+                Err(error) => return stop(alloc, tokens, here, error),
             }
-            Err(error) => return stop(alloc, tokens, here, error),
         }
     }
     opened(alloc, &bytes[from..], at + from, here, tokens)

@@ -1,6 +1,6 @@
 use Rattle.std.proofs.Common.{◌+◌, length, sym, ◌∙◌, arith}
 use Rattle.nk_lex.specs.Pieces.{settle}
-use Rattle.nk_lex.proofs.Loops.{err_of, fails_is, going_on, left_at_end, left_at_fault, opened_next, opened_wants, some_token, stop_fits, stop_next, stop_wants, token_wants}
+use Rattle.nk_lex.proofs.Loops.{err_of, fails_is, going_on, left_at_end, left_at_fault, opened_next, opened_wants, passing_on, some_token, stop_fits, stop_next, stop_wants, token_wants}
 use Rattle.nk_lex.proofs.settling.settle.Goals as goal
 
 pub returns-in_err-put-in-Ok-clause-quiet : goal.returns-in_err-put-in-Ok-clause-quiet
@@ -11,9 +11,15 @@ returns-in_err-put-in-Ok-clause-quiet c =
 
 pub lexemes-preserved : goal.lexemes-preserved
 lexemes-preserved c =
-    rw (c.in_ok-put-in-Ok.ensures.ok, c.line_past-here.ensures)
+    rw (c.in_ok-put-in-Ok.ensures.ok, c.line_past-here-in-Ok.ensures)
     (going_on c.args.bytes.now c.args.at c.args.line c.args.before.items c.lexemes.from c.lexemes.here c.lexemes.tokens.items
     c.in-Ok.len c.in-Ok.token c.lexemes.invariant (sym c.has_whole.ensures ∙ c.lexemes-test.true) c.in-Ok.ensures.fits c.in-Ok.ensures.cut)
+
+pub lexemes-preserved-then-is_white : goal.lexemes-preserved-then-is_white
+lexemes-preserved-then-is_white c =
+    rw c.line_past-here.ensures
+    (passing_on c.args.bytes.now c.args.at c.args.line c.args.before.items c.lexemes.from c.lexemes.here c.lexemes.tokens.items
+    c.lexemes.invariant (sym c.has_whole.ensures ∙ c.lexemes-test.true) (sym c.is_white.ensures ∙ c.if-is_white.true))
 
 pub returns-in-Err-clause-next : goal.returns-in-Err-clause-next
 returns-in-Err-clause-next c =
