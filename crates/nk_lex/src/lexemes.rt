@@ -152,7 +152,7 @@ pub fn lexeme(
     }
 }
 
-/// Puts a token at the end, where there is one.
+/// Puts a token at the end, where there is one. The only error is that memory ran out.
 pub fn put(tokens: &mut Vec<Token>, token: Option<Token>) -> Result<(), AllocError>
     ensures ok { OnOk result (tokens.new.items ≡ tokens.old.items ++ option_to_list token) }
     ensures some { OnErr result (0 < length (option_to_list token)) }

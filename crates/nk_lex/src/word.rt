@@ -22,7 +22,7 @@ pub struct Number {
     pub line: u64,
 }
 
-/// A token's text with its line.
+/// A token's text with its line. The only error is that memory ran out.
 pub fn word_of(alloc: Global, token: &Token) -> Result<Word, AllocError>
     ensures { IfOk result (λ w. (w.text ≡ token.now.text) × (w.line ≡ token.now.line)) }
 {

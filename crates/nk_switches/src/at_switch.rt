@@ -12,7 +12,8 @@ use nk_field::{Fid, List};
 use nk_store::{Id, Store};
 use std::alloc::AllocError;
 
-/// What the states at these places do together at the packets of a switch, as one diagram.
+/// What the states at these places do together at the packets of a switch, as one diagram. The only
+/// error is that memory ran out.
 pub fn state_at(
     st: &mut Store,
     ss: &mut Sets,

@@ -30,9 +30,9 @@ pub use reading::read_tables;
 use std::alloc::{AllocError, Global};
 
 /// The printed text of tables: `tables 2` where some match is a prefix, else `tables 1`; then a line for each declared
-/// field, for the tag, each switch and each link, and the table of each switch with its groups and rows. Switches, ports and
-/// links ascend, and so do groups, matches and assignments; rows stand in their order. A match whose length isn't all of its
-/// field's digits is a prefix here, and has its length behind a `/`.
+/// field, for the tag, each switch and each link, and the table of each switch with its groups and rows. Switches, ports
+/// and links ascend, and so do groups, matches and assignments; rows stand in their order. A match whose length isn't all
+/// of its field's digits is a prefix here, and has its length behind a `/`. The only error is that memory ran out.
 pub fn table_text(alloc: Global, t: &Tables) -> Result<Vec<u8>, AllocError>
     requires { AreInOrder t.now }
     ensures { IfOk result (λ v. v.items ≡ table_bytes t.now) }
