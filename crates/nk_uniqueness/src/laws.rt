@@ -1,4 +1,5 @@
-//! Laws of what is answered: over the definitions, at most one answer is right.
+//! Laws of what is answered: over the definitions, at most one answer is right. Two programs say the same where they have
+//! the same fields, the same topology and the same policies by the same names (`said_by`).
 ghost use Rattle.std.specs.Prelude.{◌≡◌, ◌⊎◌, ℕ, List, Ok, Err};
 ghost use Rattle.std.specs.declared.result.Result.{Result};
 ghost use Rattle.nk_field.specs.Order.{Found};
@@ -49,8 +50,8 @@ pub fn accepted_policies_have_no_reason()
         → IsAcceptedByName program name → IsRefused other name r → ⊥ }
 {}
 
-/// At most one reason to refuse a policy is the first, with all that is told of it. So it is of a name, in programs that say the
-/// same.
+/// A policy has at most one first reason to be refused, with all that is printed of it; and so has a name, in programs
+/// that say the same.
 pub fn a_policy_has_one_reason()
     ensures policy { (fields : FieldTable) (topo : Topology) (p : Policy) (r s : Refusal)
         → IsReason fields topo p r → IsReason fields topo p s → r ≡ s }
@@ -58,7 +59,7 @@ pub fn a_policy_has_one_reason()
         → IsRefused program name r → IsRefused other name s → r ≡ s }
 {}
 
-/// At most one table is the printed one of a policy, where packets in range can be at each switch. So it is of a name, in programs
+/// A policy has at most one printed table, where packets in range can be at each switch; and so has a name, in programs
 /// that say the same.
 pub fn one_table_is_printed()
     ensures policy { (fields : FieldTable) (topo : Topology) (p : Policy) (t u : Tables) → HavePackets fields topo
@@ -100,8 +101,9 @@ pub fn one_difference_is_least()
         → AreSame fields p q → IsLeastDifference fields p q s f → ⊥ }
 {}
 
-/// At most one thing can be told of two policies: their printed certificate, where both give the same histories, or the least history
-/// that one of them alone has. So it is of two names, in programs that say the same, and nothing is told of a name without a policy.
+/// Of two policies at most one thing can be answered: their printed certificate, where both give the same histories, or
+/// the least history that one of them alone has. So it is of two names, in programs that say the same; of a name without
+/// a policy nothing is answered.
 pub fn one_comparison_is_told()
     ensures policies { (fields : FieldTable) (p q : Policy) (a b : Told) → IsFieldTable fields
         → IsTold fields p q a → IsTold fields p q b → a ≡ b }
@@ -138,9 +140,9 @@ pub fn one_question_is_asked()
         → IsCause program asked a → IsCause other asked b → (a ≡ query.NoMemory) ⊎ ((b ≡ query.NoMemory) ⊎ (a ≡ b)) }
 {}
 
-/// At most one thing can be told of a query's question: the printed certificate of the question and `drop`, where no history breaks
-/// it, or the least history that does. So it is of names, in programs that say the same, and so it is of what is found of a
-/// certificate for them.
+/// Of a query's question at most one thing can be answered: the printed certificate of the question and `drop`, where no
+/// history breaks it, or the least history that does. So it is of names, in programs that say the same, and so it is of
+/// what is found of a certificate for them.
 pub fn one_thing_is_told_of_a_query()
     ensures question { (fields : FieldTable) (x : Question) (a b : Queried) → IsFieldTable fields
         → IsToldOf fields x a → IsToldOf fields x b → a ≡ b }
