@@ -8,13 +8,17 @@ use Rattle.nk_store.specs.declared.operation.Operation.{Operation}
 use Rattle.nk_store.specs.declared.operation.Operation.TheVariants.{Union, Both, Negate, Missing, Seq, Split}
 use Rattle.nk_store.specs.declared.operation.Key.{Key}
 
--- what a number is multiplied by, made of two others
+-- the odd number behind twice another one
+abbrev pub odd : ℕ → ℕ
+odd n = ((n * 2) % 2 ^ 64 + 1) % 2 ^ 64
+
+-- what a number is multiplied by, made of two others: odd, so no two numbers have the same product with it
 abbrev pub factor : ℕ → ℕ → ℕ
-factor a b = (((b * 0x9e37_79b9_7f4a_7c15) % 2 ^ 64 + a) % 2 ^ 64 + 0x243f_6a88_85a3_08d3) % 2 ^ 64
+factor a b = odd ((((b * 0x9e37_79b9_7f4a_7c15) % 2 ^ 64 + a) % 2 ^ 64 + 0x243f_6a88_85a3_08d3) % 2 ^ 64)
 
 -- two halves of a product as one: h + l + 2 * h * l
 abbrev pub halves_mixed : ℕ → ℕ → ℕ
-halves_mixed h l = ((h * (((l * 2) % 2 ^ 64 + 1) % 2 ^ 64)) % 2 ^ 64 + l) % 2 ^ 64
+halves_mixed h l = ((h * odd l) % 2 ^ 64 + l) % 2 ^ 64
 
 -- the halves of the product of two numbers as one, with the second number added
 abbrev pub folded : ℕ → ℕ → ℕ

@@ -2,7 +2,7 @@
 ghost use Rattle.std.specs.Prelude.{◌≡◌};
 ghost use Rattle.std.specs.Hash as fed;
 ghost use Rattle.std.proofs.Common.{ap};
-ghost use Rattle.nk_store.specs.Digests.{factor, halves_mixed, folded, mixed, sets_mixed, parts_mixed, outs_mixed, digest, operation_number, key_mixed};
+ghost use Rattle.nk_store.specs.Digests.{factor, odd, halves_mixed, folded, mixed, sets_mixed, parts_mixed, outs_mixed, digest, operation_number, key_mixed};
 ghost use Rattle.nk_store.specs.Equal.{node_same, key_same};
 
 use crate::node::{Id, Node, Out};
@@ -71,13 +71,22 @@ fn mixed(n: u64, a: u64, b: u64) -> u64
     folded(n.wrapping_add(a).wrapping_add(b), factor(a, b))
 }
 
-/// What a number is multiplied by, made of two others.
+/// What a number is multiplied by, made of two others. It is odd, so no two numbers have the same product with it.
 fn factor(a: u64, b: u64) -> u64
     ensures { result ≡ factor a b }
 {
-    b.wrapping_mul(0x9e37_79b9_7f4a_7c15)
-        .wrapping_add(a)
-        .wrapping_add(0x243f_6a88_85a3_08d3)
+    odd(
+        b.wrapping_mul(0x9e37_79b9_7f4a_7c15)
+            .wrapping_add(a)
+            .wrapping_add(0x243f_6a88_85a3_08d3),
+    )
+}
+
+/// The odd number behind twice another one.
+fn odd(n: u64) -> u64
+    ensures { result ≡ odd n }
+{
+    n.wrapping_mul(2).wrapping_add(1)
 }
 
 /// The halves of the product of two numbers as one, with the second number added.
@@ -93,8 +102,7 @@ fn folded(x: u64, y: u64) -> u64
 fn halves_mixed(high: u64, low: u64) -> u64
     ensures { result ≡ halves_mixed high low }
 {
-    high.wrapping_mul(low.wrapping_mul(2).wrapping_add(1))
-        .wrapping_add(low)
+    high.wrapping_mul(odd(low)).wrapping_add(low)
 }
 
 impl Hash for Key {
