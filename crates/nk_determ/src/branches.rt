@@ -53,7 +53,7 @@ fn next_branch(all: &mut List<Branch>, last: &mut Branch, o: &Out) -> Result<(),
 pub(crate) fn labels_in(alloc: Global, targets: &[u64]) -> Result<List<u64>, AllocError>
     ensures { IfOk result (λ ls. ls ≡ labels targets.now) }
 {
-    let mut all = List::new(alloc);
+    let mut all = List::with_capacity(alloc, targets.len())?;
     for t in targets {
         if *t != 0 {
             all.push(*t)?;

@@ -61,7 +61,7 @@ fn states_at(alloc: Global, states: &[Id], labels: &[u64]) -> Result<List<Id>, A
     requires { All (λ l. l < length states.now) labels.now }
     ensures { IfOk result (λ ds. ds ≡ map (λ l. slice_index states.now l) labels.now) }
 {
-    let mut ds = List::new(alloc);
+    let mut ds = List::with_capacity(alloc, labels.len())?;
     for l in labels {
         ds.push(state_at(states, *l))?;
     }
@@ -139,7 +139,7 @@ fn split_all(st: &mut Store, diagrams: &[Id]) -> Result<List<Id>, AllocError>
     ensures ok { IfOk result (λ ds. HaveEach st.new ds
         (λ k pk. split_leaf st.old.maxes pk (look st.old (slice_index diagrams.now k) pk)) (length ds)) }
 {
-    let mut ds = List::new(st.alloc());
+    let mut ds = List::with_capacity(st.alloc(), diagrams.len())?;
     for whole in diagrams {
         let d = split(st, *whole)?;
         ds.push(d)?;

@@ -210,7 +210,7 @@ fn ends_at(alloc: Global, ends: &[Id], labels: &[u64]) -> Result<List<Id>, Alloc
     requires { HavePlaces (length ends.now) labels.now }
     ensures { IfOk result (λ ds. ds ≡ map (slice_index ends.now) labels.now) }
 {
-    let mut ds = List::new(alloc);
+    let mut ds = List::with_capacity(alloc, labels.len())?;
     for l in labels {
         ds.push(ends[*l as usize])?;
     }
