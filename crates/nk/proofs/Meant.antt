@@ -1,9 +1,10 @@
 -- Why a run means to give its answer.
-use Rattle.std.proofs.Common.{◌≡◌, ◌<◌, ℕ, List, [], ◌++◌, true, false, length, refl, arith, nat_lt, length-append}
+use Rattle.std.proofs.Common.{◌≡◌, ◌<◌, ◌≤◌, ℕ, List, [], ◌++◌, true, false, length, refl, arith, nat_lt, length-append}
 use Rattle.std.proofs.lemmas.Bool.{lt-ltb}
+use Rattle.std.proofs.lemmas.Bool.Decides.{nat_tests}
 use Rattle.std.specs.declared.option.Option.{Option}
 use Rattle.std.specs.Prelude.{Some, None}
-use Rattle.std.specs.Io.KnownBytes.{Keeps}
+use Rattle.std.specs.Io.KnownBytes.{Consumes, IsAtEnd, Keeps}
 use Rattle.nk_io.specs.Reading.{GaveMore, GaveWithin, IsAllOf}
 use Rattle.nk_words.specs.declared.words.Command.{Command}
 use Rattle.nk.specs.Answer.{IsOutcome, answer_of, limit, reads, too_long, usage}
@@ -11,8 +12,8 @@ use Rattle.nk.specs.Outcome.{Outcome, done, differs, text_refused, policy_refuse
 use Rattle.nk.specs.declared.reply.Reply.{Reply}
 use Rattle.nk.specs.declared.reply.Reply.TheVariants as reply
 use Rattle.nk.specs.Reply.{IsReplyTo, answer_in, said}
-use Rattle.nk.specs.Use.{IsQuiet, Use}
-use Rattle.nk.specs.Ends.{IsFixedBy, IsMeantTo}
+use Rattle.nk.specs.Use.{HadLeft, IsQuiet, Use}
+use Rattle.nk.specs.Ends.{IsFixedBy, IsMeantTo, IsReadWhere}
 use Rattle.nk.proofs.Delivery.{Keeps-same}
 
 -- a source has some bytes left, where it tells them
@@ -47,7 +48,7 @@ too_long_meant source c is more quiet =
     record { bytes = all.0; left = all.2; answer = rw (is, over) refl; read = rw is more; quiet = quiet }
 
 -- a source whose bytes stay gave none
-none_given : (old : Option (List ℕ)) → GaveWithin limit old old
+pub none_given : (old : Option (List ℕ)) → GaveWithin limit old old
 none_given None = ([], omega arith, tt)
 none_given (Some left) = ([], omega arith, refl)
 
@@ -72,3 +73,39 @@ unread_meant source c reply.NoMemory is same quiet h =
 unread_meant source c reply.Usage is same quiet h = absurd h
 unread_meant source c reply.ReadFault is same quiet h = absurd h
 unread_meant source c reply.TooLong is same quiet h = absurd h
+
+-- the end of the input is what is read for an outcome
+read_for : (source : Use) (outcome : Outcome) → IsAtEnd source.new → IsReadWhere true source (answer_of outcome).status
+read_for source (done text) end = end
+read_for source (differs text) end = end
+read_for source (text_refused text) end = end
+read_for source (policy_refused text) end = end
+
+-- what a command that reads answers to all of an input is meant
+pub whole_meant : (source : Use) (c : Command) (bytes : List ℕ) (r : Reply) → reads c ≡ true → HadLeft source bytes
+    → length bytes ≤ limit → Consumes source.old source.new bytes → IsAtEnd source.new → IsQuiet source
+    → IsReplyTo c bytes r → IsMeantTo (Some c) source (answer_in r)
+whole_meant source c bytes (reply.Said s) is left fits read end quiet h = outcome_meant (said s) h
+  where
+    within : nat_lt limit (length bytes) ≡ false
+    within = grind (arith, nat_tests, fits)
+
+    fixed : (outcome : Outcome) → IsOutcome c bytes outcome → IsFixedBy (Some c) source (answer_of outcome)
+    fixed outcome o = record {
+      bytes = bytes;
+      left = left;
+      answer = rw (is, within) (outcome, o, refl);
+      read = rw is (read_for source outcome end);
+      quiet = quiet;
+    }
+
+    outcome_meant : (outcome : Outcome) → IsOutcome c bytes outcome → IsMeantTo (Some c) source (answer_of outcome)
+    outcome_meant (done text) o = fixed (done text) o
+    outcome_meant (differs text) o = fixed (differs text) o
+    outcome_meant (text_refused text) o = fixed (text_refused text) o
+    outcome_meant (policy_refused text) o = fixed (policy_refused text) o
+whole_meant source c bytes reply.NoMemory is left fits read end quiet h =
+    record { answer = refl; quiet = quiet; given = (bytes, fits, read) }
+whole_meant source c bytes reply.Usage is left fits read end quiet h = absurd h
+whole_meant source c bytes reply.ReadFault is left fits read end quiet h = absurd h
+whole_meant source c bytes reply.TooLong is left fits read end quiet h = absurd h

@@ -61,6 +61,12 @@ reads (Gen size seed) = false
 reads (Job size seed) = false
 reads c = true
 
+-- whether a command takes the input's tokens as they come, so that no text is kept
+abbrev pub reads_in_pieces : Command → Bool
+reads_in_pieces (Trace hops packet) = true
+reads_in_pieces (Fly seed steps packet) = true
+reads_in_pieces c = false
+
 -- what a command answers to an input within the limit
 abbrev pub IsOutcome : Command → List ℕ → Outcome → Type 0
 IsOutcome (Compile name) bytes outcome = IsCompileAnswer name bytes outcome

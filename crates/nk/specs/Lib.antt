@@ -13,6 +13,7 @@ pub mod JobSteps
 pub mod Judging
 pub mod Messages
 pub mod Outcome
+pub mod Pieces
 pub mod ProgramText
 pub mod ReadCertified
 pub mod ReadText

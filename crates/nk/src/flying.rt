@@ -1,14 +1,18 @@
 //! The answer of `fly SEED STEPS PACKET`.
-ghost use Rattle.std.specs.Prelude.{◌≡◌, ◌++◌, IfOk, OnOk};
+ghost use Rattle.std.specs.Prelude.{◌≡◌, ◌++◌, IfOk, OnOk, Some};
 ghost use Rattle.std.specs.List.{flat_map};
-ghost use Rattle.nk.specs.Reply.{said};
-ghost use Rattle.nk.specs.Flying.{IsFlyAnswer, left_line};
+ghost use Rattle.nk_words.specs.declared.words.Command.TheVariants as command;
+ghost use Rattle.nk.specs.Ends.{IsMeantTo};
+ghost use Rattle.nk.specs.Reply.{answer_in};
+ghost use Rattle.nk.specs.Use.{use_of};
+ghost use Rattle.nk.specs.Flying.{left_line};
 ghost use Rattle.nk.specs.Flying as told;
 
-use crate::Said;
 use crate::following::{Follow, follow_word, push_counts, push_history};
+use crate::{Reply, Said};
 use nk_field::{Fields, Packet};
 use nk_flight::{Flight, Left, fly};
+use nk_io::Source;
 use nk_table::Tables;
 use std::alloc::{AllocError, Global};
 
@@ -31,17 +35,19 @@ impl Follow for Fly {
     }
 }
 
-/// What a flight of one packet answers, over the bytes of a table text. The packet is that of a word as `sw=1,pt=2,dst=3`.
-pub(crate) fn fly_answer(
+/// What a flight of one packet means to say, over a source that gives a table text. The packet is that of a word as
+/// `sw=1,pt=2,dst=3`.
+pub(crate) fn fly_reply<S: Source>(
     alloc: Global,
     seed: u64,
     steps: u64,
     word: &str,
-    bytes: &[u8],
-) -> Result<Said, AllocError>
-    ensures { IfOk result (λ s. IsFlyAnswer seed steps word.now bytes.now (said s)) }
+    source: &mut S,
+) -> Reply
+    ensures { IsMeantTo (Some (command.Fly seed steps word.now))
+        (use_of S.left S.faults source.old source.new) (answer_in result) }
 {
-    follow_word(alloc, &Fly { seed, steps }, word, bytes)
+    follow_word(alloc, &Fly { seed, steps }, word, source)
 }
 
 /// A line for each history that has left, and one with the counts.

@@ -1,17 +1,28 @@
 //! Answers that follow a packet through the tables of a text.
-ghost use Rattle.std.specs.Prelude.{◌≡◌, ◌++◌, IfOk, OnOk, Ok};
+ghost use Rattle.std.specs.Prelude.{◌≡◌, ◌++◌, ℕ, List, true, IfOk, OnOk, Ok, Some};
 ghost use Rattle.nk_field.specs.Texts.{packet_of};
-ghost use Rattle.nk_tabtext.specs.Values.{tables_of};
-ghost use Rattle.nk.specs.Reply.{said};
+ghost use Rattle.nk_lex.specs.declared.token.Token.{Token};
+ghost use Rattle.nk_lex.specs.Lex.{tokens_of};
+ghost use Rattle.nk_tabtext.specs.Progress.{IsTaken};
+ghost use Rattle.nk_tabtext.specs.Values.{tables_of, tables_of_tokens};
+ghost use Rattle.nk_words.specs.declared.words.Command.{Command};
+ghost use Rattle.nk.specs.Answer.{IsOutcome, reads};
+ghost use Rattle.nk.specs.Ends.{IsMeantTo};
+ghost use Rattle.nk.specs.Outcome.{Outcome};
+ghost use Rattle.nk.specs.Pieces.{IsLexedAs};
+ghost use Rattle.nk.specs.Reply.{answer_in, said, IsReplyTo};
+ghost use Rattle.nk.specs.Use.{use_of};
 ghost use Rattle.nk.specs.Following.{ToPacket, ToTables, counts_line, history_line, item_line};
 
-use crate::Said;
 use crate::messages::text_fault;
+use crate::pieces::{Lexed, read_pieces};
+use crate::{Reply, Said};
 use itoa::Buffer;
 use nk_field::{Fields, History, Packet, PacketError, history_text, read_packet};
+use nk_io::Source;
 use nk_sim::is_located;
 use nk_table::Tables;
-use nk_tabtext::{ReadError, read_tables};
+use nk_tabtext::{ReadError as TableError, TableReader};
 use std::alloc::{AllocError, Global};
 
 /// What is told of a packet at a port of tables.
@@ -26,22 +37,81 @@ pub(crate) trait Follow {
         ensures { IfOk result (λ s. tells self.now t.now packet.now (said s)) };
 }
 
-/// What following a packet answers, over the bytes of a table text. The packet is that of a word as `sw=1,pt=2,dst=3`.
-pub(crate) fn follow_word<F: Follow>(
+/// What following a packet means to say, over a source that gives a table text, whose tokens are taken as they come. The packet
+/// is that of a word as `sw=1,pt=2,dst=3`.
+pub(crate) fn follow_word<S: Source, F: Follow>(
     alloc: Global,
     how: &F,
     word: &str,
-    bytes: &[u8],
-) -> Result<Said, AllocError>
-    ensures { IfOk result (λ s. ToTables (F.tells how.now) (tables_of bytes.now) word.now (said s)) }
+    source: &mut S,
+) -> Reply
+    ensures { (c : Command) → reads c ≡ true
+        → ((bytes : List ℕ) (o : Outcome) → ToTables (F.tells how.now) (tables_of bytes) word.now o → IsOutcome c bytes o)
+        → IsMeantTo (Some c) (use_of S.left S.faults source.old source.new) (answer_in result) }
 {
-    match read_tables(alloc, bytes) {
+    let mut reader = match TableReader::new(alloc) {
+        Ok(reader) => reader,
+        Err(_) => return Reply::NoMemory,
+    };
+    match read_pieces(alloc, source, &mut reader) {
+        Ok(lexed) => reply_to_text(alloc, how, word, lexed, reader),
+        Err(error) => Reply::unread(error),
+    }
+}
+
+/// The same over a text that has a lexical fault, or all of whose tokens the reader has taken.
+fn reply_to_text<F: Follow>(
+    alloc: Global,
+    how: &F,
+    word: &str,
+    lexed: Lexed,
+    reader: TableReader,
+) -> Reply
+    ensures { (c : Command) (bytes : List ℕ) → IsLexedAs (λ tokens. IsTaken tokens reader) lexed (tokens_of bytes)
+        → ((o : Outcome) → ToTables (F.tells how.now) (tables_of bytes) word.now o → IsOutcome c bytes o)
+        → IsReplyTo c bytes result }
+{
+    match answer_to_text(alloc, how, word, lexed, reader) {
+        Ok(said) => Reply::Said(said),
+        Err(_) => Reply::NoMemory,
+    }
+}
+
+/// The answer to it, where memory doesn't run out.
+fn answer_to_text<F: Follow>(
+    alloc: Global,
+    how: &F,
+    word: &str,
+    lexed: Lexed,
+    reader: TableReader,
+) -> Result<Said, AllocError>
+    ensures { (bytes : List ℕ) → IsLexedAs (λ tokens. IsTaken tokens reader) lexed (tokens_of bytes)
+        → IfOk result (λ s. ToTables (F.tells how.now) (tables_of bytes) word.now (said s)) }
+{
+    match lexed {
+        Lexed::BadByte { line } => text_fault(alloc, line, "bad byte"),
+        Lexed::NumberTooLarge { line } => text_fault(alloc, line, "number too large"),
+        Lexed::Whole => answer_to_tokens(alloc, how, word, reader),
+    }
+}
+
+/// The same where all tokens were taken.
+fn answer_to_tokens<F: Follow>(
+    alloc: Global,
+    how: &F,
+    word: &str,
+    reader: TableReader,
+) -> Result<Said, AllocError>
+    ensures { (tokens : List Token) → IsTaken tokens reader
+        → IfOk result (λ s. ToTables (F.tells how.now) (tables_of_tokens tokens) word.now (said s)) }
+{
+    match reader.end(alloc) {
         Ok(tables) => answer_to_word(alloc, how, &tables, word),
-        Err(ReadError::BadByte { line }) => text_fault(alloc, line, "bad byte"),
-        Err(ReadError::NumberTooLarge { line }) => text_fault(alloc, line, "number too large"),
-        Err(ReadError::Unexpected { line }) => text_fault(alloc, line, "unexpected"),
-        Err(ReadError::TableFault { line }) => text_fault(alloc, line, "table fault"),
-        Err(ReadError::NoMemory) => Err(AllocError),
+        Err(TableError::BadByte { line }) => text_fault(alloc, line, "bad byte"),
+        Err(TableError::NumberTooLarge { line }) => text_fault(alloc, line, "number too large"),
+        Err(TableError::Unexpected { line }) => text_fault(alloc, line, "unexpected"),
+        Err(TableError::TableFault { line }) => text_fault(alloc, line, "table fault"),
+        Err(TableError::NoMemory) => Err(AllocError),
     }
 }
 

@@ -11,6 +11,7 @@ mod following;
 mod generating;
 mod judging;
 mod messages;
+mod pieces;
 mod program_text;
 mod reply;
 mod status;

@@ -1,11 +1,14 @@
 //! What a run answers, and how the answer is written.
-ghost use Rattle.std.specs.Prelude.{◌≡◌};
-ghost use Rattle.nk.specs.Use.{use_of};
-ghost use Rattle.nk.specs.Ends.{Delivers, LeavesAlone};
+ghost use Rattle.std.specs.Prelude.{◌≡◌, true, Some};
+ghost use Rattle.nk_io.specs.Reading.{IsCause};
+ghost use Rattle.nk_words.specs.declared.words.Command.{Command};
+ghost use Rattle.nk.specs.Answer.{limit, reads};
+ghost use Rattle.nk.specs.Use.{Use, use_of};
+ghost use Rattle.nk.specs.Ends.{Delivers, IsMeantTo, LeavesAlone};
 ghost use Rattle.nk.specs.Reply.{answer_in, IsDelivered};
 
 use crate::Status;
-use nk_io::{Sink, write_all};
+use nk_io::{ReadError, Sink, write_all};
 
 /// The whole answer of a command, made before its first byte is written. Each line of a text ends
 /// with a line feed.
@@ -35,6 +38,21 @@ pub enum Reply {
     NoMemory,
     /// The input has more bytes than the limit.
     TooLong,
+}
+
+impl Reply {
+    /// The answer where not all of the input was read.
+    pub(crate) fn unread(error: ReadError) -> Reply
+        ensures { (c : Command) (source : Use) → reads c ≡ true
+            → IsCause limit source.old source.new source.before source.now error
+            → IsMeantTo (Some c) source (answer_in result) }
+    {
+        match error {
+            ReadError::ReadFault => Reply::ReadFault,
+            ReadError::TooLong => Reply::TooLong,
+            ReadError::NoMemory => Reply::NoMemory,
+        }
+    }
 }
 
 /// Writes the answer to its sink and makes no call on the other. Where a call of the sink fails

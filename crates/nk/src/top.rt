@@ -1,7 +1,7 @@
 //! The top call.
 ghost use Rattle.std.specs.Prelude.{◌≡◌, false, None, Some, IfOk};
 ghost use Rattle.nk_words.specs.Words.{IsWithinLimits, command_of, texts};
-ghost use Rattle.nk.specs.Answer.{IsOutcome, reads};
+ghost use Rattle.nk.specs.Answer.{IsOutcome, reads, reads_in_pieces};
 ghost use Rattle.nk.specs.Use.{use_of};
 ghost use Rattle.nk.specs.Ends.{Ends, IsCaused, IsComplete, IsMeant, IsMeantTo, asks_for_input};
 ghost use Rattle.nk.specs.Ends.{LeavesAlone, TellsFaults};
@@ -13,17 +13,14 @@ use crate::asking::{apart_query, ask_answer, waypoint_query};
 use crate::checking::check_answer;
 use crate::comparing::equal_answer;
 use crate::compiling::compile_answer;
-use crate::flying::fly_answer;
+use crate::flying::fly_reply;
 use crate::generating::{gen_answer, job_answer};
 use crate::judging::judge_answer;
 use crate::reply::{Reply, Said, deliver};
-use crate::tracing::trace_answer;
-use nk_io::{ReadError, Sink, Source, read_all};
+use crate::tracing::trace_reply;
+use nk_io::{LONGEST, Sink, Source, read_all};
 use nk_words::{Command, WordsError, read_words};
 use std::alloc::{AllocError, Global};
-
-/// How many bytes an input has at most.
-const LIMIT: u64 = 16_777_216;
 
 /// Does what the words behind the program's name ask for. Words that are no command are refused before anything is read,
 /// and `gen` and `job` read nothing; for every other command the source is read to its end, which fails where a call of
@@ -94,14 +91,29 @@ fn reply_from<S: Source>(alloc: Global, command: &Command, source: &mut S) -> Re
         (use_of S.left S.faults source.old source.new) (answer_in result) }
     ensures unread { reads command.now ≡ false → source.new ≡ source.old }
 {
+    match command {
+        Command::Trace(hops, packet) => trace_reply(alloc, *hops, packet.as_str(), source),
+        Command::Fly(seed, steps, packet) => {
+            fly_reply(alloc, *seed, *steps, packet.as_str(), source)
+        }
+        _ => reply_to_whole(alloc, command, source),
+    }
+}
+
+/// The same for a command that reads nothing, or all of the input before it answers.
+fn reply_to_whole<S: Source>(alloc: Global, command: &Command, source: &mut S) -> Reply
+    requires within { IsWithinLimits command.now }
+    requires whole { reads_in_pieces command.now ≡ false }
+    ensures meant { IsMeantTo (Some command.now)
+        (use_of S.left S.faults source.old source.new) (answer_in result) }
+    ensures unread { reads command.now ≡ false → source.new ≡ source.old }
+{
     if !reads_input(command) {
         return reply_to(alloc, command, &[]);
     }
-    match read_all(alloc, source, LIMIT) {
+    match read_all(alloc, source, LONGEST) {
         Ok(bytes) => reply_to(alloc, command, &bytes),
-        Err(ReadError::ReadFault) => Reply::ReadFault,
-        Err(ReadError::TooLong) => Reply::TooLong,
-        Err(ReadError::NoMemory) => Reply::NoMemory,
+        Err(error) => Reply::unread(error),
     }
 }
 
@@ -117,7 +129,8 @@ fn reads_input(command: &Command) -> bool
 
 /// What the command answers to the input, where memory doesn't run out.
 fn reply_to(alloc: Global, command: &Command, bytes: &[u8]) -> Reply
-    requires { IsWithinLimits command.now }
+    requires within { IsWithinLimits command.now }
+    requires whole { reads_in_pieces command.now ≡ false }
     ensures { IsReplyTo command.now bytes.now result }
 {
     match perform(alloc, command, bytes) {
@@ -128,15 +141,12 @@ fn reply_to(alloc: Global, command: &Command, bytes: &[u8]) -> Reply
 
 /// What the command answers to the input.
 fn perform(alloc: Global, command: &Command, bytes: &[u8]) -> Result<Said, AllocError>
-    requires { IsWithinLimits command.now }
+    requires within { IsWithinLimits command.now }
+    requires whole { reads_in_pieces command.now ≡ false }
     ensures { IfOk result (λ s. IsOutcome command.now bytes.now (said s)) }
 {
     match command {
         Command::Compile(name) => compile_answer(alloc, name.as_str(), bytes),
-        Command::Trace(hops, packet) => trace_answer(alloc, *hops, packet.as_str(), bytes),
-        Command::Fly(seed, steps, packet) => {
-            fly_answer(alloc, *seed, *steps, packet.as_str(), bytes)
-        }
         Command::Equal(left, right) => equal_answer(alloc, left.as_str(), right.as_str(), bytes),
         Command::Check(left, right) => check_answer(alloc, left.as_str(), right.as_str(), bytes),
         Command::Apart(name, from, target) => {
@@ -153,5 +163,6 @@ fn perform(alloc: Global, command: &Command, bytes: &[u8]) -> Result<Said, Alloc
         }
         Command::Gen(size, seed) => gen_answer(alloc, *size, *seed),
         Command::Job(size, seed) => job_answer(alloc, *size, *seed),
+        Command::Trace(_, _) | Command::Fly(_, _, _) => unreachable!(),
     }
 }

@@ -1,12 +1,16 @@
 //! The answer of `trace HOPS PACKET`.
-ghost use Rattle.std.specs.Prelude.{◌≡◌, ◌++◌, IfOk, OnOk};
-ghost use Rattle.nk.specs.Reply.{said};
-ghost use Rattle.nk.specs.Tracing.{IsTraceAnswer, history_lines};
+ghost use Rattle.std.specs.Prelude.{◌≡◌, ◌++◌, IfOk, OnOk, Some};
+ghost use Rattle.nk_words.specs.declared.words.Command.TheVariants as command;
+ghost use Rattle.nk.specs.Ends.{IsMeantTo};
+ghost use Rattle.nk.specs.Reply.{answer_in};
+ghost use Rattle.nk.specs.Use.{use_of};
+ghost use Rattle.nk.specs.Tracing.{history_lines};
 ghost use Rattle.nk.specs.Tracing as told;
 
-use crate::Said;
 use crate::following::{Follow, follow_word, push_counts, push_history};
+use crate::{Reply, Said};
 use nk_field::{Fields, Packet};
+use nk_io::Source;
 use nk_sim::{Traced, trace};
 use nk_table::Tables;
 use std::alloc::{AllocError, Global};
@@ -29,16 +33,13 @@ impl Follow for Trace {
     }
 }
 
-/// What following a packet answers, over the bytes of a table text. The packet is that of a word as `sw=1,pt=2,dst=3`.
-pub(crate) fn trace_answer(
-    alloc: Global,
-    hops: u64,
-    word: &str,
-    bytes: &[u8],
-) -> Result<Said, AllocError>
-    ensures { IfOk result (λ s. IsTraceAnswer hops word.now bytes.now (said s)) }
+/// What following a packet means to say, over a source that gives a table text. The packet is that of a word as
+/// `sw=1,pt=2,dst=3`.
+pub(crate) fn trace_reply<S: Source>(alloc: Global, hops: u64, word: &str, source: &mut S) -> Reply
+    ensures { IsMeantTo (Some (command.Trace hops word.now))
+        (use_of S.left S.faults source.old source.new) (answer_in result) }
 {
-    follow_word(alloc, &Trace { hops }, word, bytes)
+    follow_word(alloc, &Trace { hops }, word, source)
 }
 
 /// A line for each history, and one with the counts.
