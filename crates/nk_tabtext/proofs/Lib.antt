@@ -1,4 +1,8 @@
 mod Alike
+pub mod BucketSteps
+pub mod DeclarationSteps
+pub mod Fitting
+pub mod Going
 pub mod HeadBack
 pub mod HeadKept
 pub mod HeadLines
@@ -11,8 +15,16 @@ pub mod Matched
 pub mod Merging
 pub mod Numbers
 pub mod Printable
+pub mod Putting
 pub mod ReadingBack
+pub mod RowSteps
+pub mod Setting
+pub mod Sofar
+pub mod Stages
+pub mod Stopping
 pub mod TableLines
+pub mod TableSteps
 pub mod TablesBack
 pub mod TablesKept
 pub mod Valued
+pub mod Whole

@@ -1,5 +1,5 @@
 -- What is read of any text are tables that can be printed and read back.
-use Rattle.std.proofs.Common.{◌≡◌, ℕ, List, [], false, refl, ap, subst, Option, Some, None, map}
+use Rattle.std.proofs.Common.{◌≡◌, ℕ, List, [], false, refl, ap, ◌∙◌, subst, Option, Some, None, map}
 use Rattle.std.specs.Prelude.{Ok, Err, IfOk, IsSome, is_none}
 use Rattle.std.specs.declared.result.Result.{Result}
 use Rattle.std.proofs.lemmas.List.Elements.{All-from_recursion}
@@ -16,7 +16,7 @@ use Rattle.nk_tabgrammar.specs.declared.written.ReadError.TheVariants as error
 use Rattle.nk_declare.proofs.Kept.{both_ok}
 use Rattle.nk_declare.specs.Declarations.{DeclaredValue, nothing_declared}
 use Rattle.nk_tabgrammar.specs.Machine.{written_of, Returns}
-use Rattle.nk_tabtext.specs.Values.{version_fault, line_if, unless_at, said_after, tables_read, table_for, whole, tables_from, lexed, tables_of}
+use Rattle.nk_tabtext.specs.Values.{version_fault, line_if, unless_at, said_after, tables_read, table_for, whole, tables_from, lexed, tables_of, tables_of_tokens}
 use Rattle.nk_lex.specs.Spans.{last_line}
 use Rattle.nk_tabtext.specs.ReadBack.{IsPrintable, IsTableOf}
 use Rattle.nk_tabtext.proofs.HeadKept.{checked_ok, unless_ok, not_wrong, of_text, IsDeclarationOfText, IsTableOfText, IsSaid, declared_fits}
@@ -62,7 +62,7 @@ from_is line x t ds ts e =
     (tables_kept x.version.value s fits.fields.table [] x.tables read.0 ts tt tt read.1))
 
 -- a text without lexical fault
-lexed_ok : (r : Result (List Token) LexError) (ts : List Token) → lexed r ≡ Ok ts → r ≡ Ok ts
+pub lexed_ok : (r : Result (List Token) LexError) (ts : List Token) → lexed r ≡ Ok ts → r ≡ Ok ts
 lexed_ok (Ok x) ts e = ap Ok (same e)
   where
     same : ◌≡◌ {A = Result (List Token) ReadError} (Ok x) (Ok ts) → x ≡ ts
@@ -88,10 +88,7 @@ answers_printable text t e =
     let fit = of_text text ts read.0 (lexed_ok (tokens_of text) ts cut.1) read.1 in
     from_is (last_line 1 ts) read.0 t fit.0 fit.1 read.2
 
--- what is answered step by step
-pub of_steps : (text : List ℕ) (ts us : List Token) (x : WrittenTables) (line : ℕ) (r : Result Tables ReadError) → lexed (tokens_of text) ≡ Ok ts → us ≡ ts
-    → written_of us ≡ Ok x → Returns (λ t. t) r (tables_from line x) → IfOk r IsPrintable
-of_steps text ts us x line (Ok t) cut same read e =
-    let fit = of_text text ts x (lexed_ok (tokens_of text) ts cut) (subst (λ l. written_of l ≡ Ok x) same read) in
-    from_is line x t fit.0 fit.1 e
-of_steps text ts us x line (Err f) cut same read e = tt
+-- what is answered of a text's tokens
+pub of_tokens : (text : List ℕ) (ts : List Token) (r : Result Tables ReadError) → tokens_of text ≡ Ok ts → Returns (λ t. t) r (tables_of_tokens ts) → IfOk r IsPrintable
+of_tokens text ts (Ok t) cut e = answers_printable text t (ap (λ q. and_then (lexed q) tables_of_tokens) cut ∙ e)
+of_tokens text ts (Err f) cut e = tt

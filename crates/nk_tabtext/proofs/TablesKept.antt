@@ -268,7 +268,7 @@ less_key n k lt = ap (λ b. cond b Less (cond (n == k) Equal Greater)) (test n k
     test : (n k : ℕ) → n < k → nat_lt n k ≡ true
     test n k lt = grind (arith, nat_tests)
 
-equal_key : (n k : ℕ) → n ≡ k → nat_cmp n k ≡ Equal
+pub equal_key : (n k : ℕ) → n ≡ k → nat_cmp n k ≡ Equal
 equal_key n k e = ap (λ b. cond b Less (cond (n == k) Equal Greater)) (test n k e) ∙ ap (λ b. cond b Equal Greater) (same n k e)
   where
     test : (n k : ℕ) → n ≡ k → nat_lt n k ≡ false

@@ -74,7 +74,7 @@ above_key n k lt = compared n k (no_less n k lt) (no_same n k lt)
     no_same : (n k : ℕ) → k < n → (n == k) ≡ false
     no_same n k lt = grind (arith, nat_tests)
 
-same_key : (n : ℕ) → is_at (nat_cmp n) n ≡ true
+pub same_key : (n : ℕ) → is_at (nat_cmp n) n ≡ true
 same_key n =
     ap (λ b. is_eq (cond b Less (cond (n == n) Equal Greater))) (no_less n) ∙ ap (λ b. is_eq (cond b Equal Greater)) (same n)
   where

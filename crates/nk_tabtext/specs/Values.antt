@@ -8,6 +8,7 @@ use Rattle.std.specs.Map.{lookup}
 use Rattle.std.specs.Ordering.{nat_cmp}
 use Rattle.std.specs.BTreeMap.{insert_entry, is_at}
 use Rattle.nk_lex.specs.declared.token.LexError.{LexError}
+use Rattle.nk_lex.specs.declared.token.Token.{Token}
 use Rattle.nk_lex.specs.declared.token.LexError.TheVariants as lexical
 use Rattle.nk_lex.specs.Lex.{tokens_of}
 use Rattle.nk_lex.specs.Spans.{last_line}
@@ -281,7 +282,10 @@ lexed (Err lexical.NoMemory) = Err error.NoMemory
 lexed (Err (lexical.BadByte line)) = Err (error.BadByte line)
 lexed (Err (lexical.NumberTooLarge line)) = Err (error.NumberTooLarge line)
 
+-- the tables that tokens write, or their first fault
+abbrev pub tables_of_tokens : List Token → Result Tables ReadError
+tables_of_tokens ts = and_then (written_of ts) (λ x. tables_from (last_line 1 ts) x)
+
 -- the tables of a text, or its first fault
 abbrev pub tables_of : List ℕ → Result Tables ReadError
-tables_of text =
-    and_then (lexed (tokens_of text)) (λ ts. and_then (written_of ts) (λ x. tables_from (last_line 1 ts) x))
+tables_of text = and_then (lexed (tokens_of text)) tables_of_tokens

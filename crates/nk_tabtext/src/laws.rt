@@ -1,5 +1,6 @@
 //! What reading has to do with printing, and with the declarations of programs.
 ghost use Rattle.nk_tabtext.specs.Alike.{DeclaresAlike};
+ghost use Rattle.nk_tabtext.specs.Progress.{ReadsAsWhole, StopsWithTexts};
 ghost use Rattle.nk_tabtext.specs.ReadBack.{AnswersPrintable, ReadsPrinted};
 
 /// What is printed of tables is read back as these tables, wherever they keep the rules of a text. Their fields, names
@@ -20,4 +21,14 @@ pub fn read_tables_are_printable()
 /// one, at the same line; without a fault they mean the same.
 pub fn table_texts_declare_as_programs_do()
     ensures { DeclaresAlike }
+{}
+
+/// Read token by token, a text is what it is as a whole, or has the same first fault.
+pub fn a_text_is_read_token_by_token()
+    ensures { ReadsAsWhole }
+{}
+
+/// A reader has stopped exactly where no text goes on with the tokens.
+pub fn a_reader_stops_where_no_text_goes_on()
+    ensures { StopsWithTexts }
 {}

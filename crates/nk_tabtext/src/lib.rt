@@ -12,9 +12,11 @@ ghost use Rattle.std.specs.List.{flat_map};
 ghost use Rattle.nk_tabtext.specs.InOrder.{AreInOrder};
 ghost use Rattle.nk_tabtext.specs.Text.{table_bytes, section_text, version_text};
 
-mod declared;
+mod declaring;
+mod filling;
 mod head;
 mod laws;
+mod partial;
 mod reading;
 mod rules;
 mod tables;
@@ -22,11 +24,12 @@ mod values;
 
 use itoa::Buffer;
 pub use laws::{
-    printed_tables_are_read, read_tables_are_printable, table_texts_declare_as_programs_do,
+    a_reader_stops_where_no_text_goes_on, a_text_is_read_token_by_token, printed_tables_are_read,
+    read_tables_are_printable, table_texts_declare_as_programs_do,
 };
 pub use nk_tabgrammar::ReadError;
 use nk_table::Tables;
-pub use reading::read_tables;
+pub use reading::{TableReader, read_tables};
 use std::alloc::{AllocError, Global};
 
 /// The printed text of tables: `tables 2` where some match is a prefix, else `tables 1`; then a line for each declared

@@ -1,20 +1,200 @@
 //! The tables of a text.
-ghost use Rattle.std.specs.Prelude.{◌≡◌, IfOk};
+ghost use Rattle.std.specs.Prelude.{◌≡◌, ℕ, ◌++◌, ◌∷◌, List, [], Ok, IfOk, IsOk, OnErr, OnOk};
+ghost use Rattle.nk_lex.specs.declared.token.Token.{Token};
 ghost use Rattle.nk_lex.specs.Lex.{tokens_of};
-ghost use Rattle.nk_lex.specs.Spans.{last_line};
-ghost use Rattle.nk_declare.specs.InMemory.{declared_in};
+ghost use Rattle.nk_tabgrammar.specs.Answer.{terminals};
 ghost use Rattle.nk_tabgrammar.specs.Machine.{Returns};
+ghost use Rattle.nk_tabgrammar.specs.Spelling.{GoesOn};
+ghost use Rattle.nk_tabtext.specs.InMemory.{known_in};
+ghost use Rattle.nk_tabtext.specs.Progress.{IsStopped, IsTaken, Stopped, fault_line, is_stopped, known_after, progress_after, tables_of_progress, with_fault};
 ghost use Rattle.nk_tabtext.specs.ReadBack.{IsPrintable};
-ghost use Rattle.nk_tabtext.specs.Values.{lexed, tables_from, tables_of, whole};
+ghost use Rattle.nk_tabtext.specs.Values.{lexed, tables_of, tables_of_tokens};
 
-use crate::declared::declare;
-use crate::tables::{Tabled, each, tables};
-use crate::values::refuse_if;
-use nk_declare::Declared;
+use crate::partial::Partial;
 use nk_lex::{LexError, Token, tokens};
-use nk_tabgrammar::{ReadError, WrittenTables, read_text};
+use nk_tabgrammar::{ReadError, State, Tells};
 use nk_table::Tables;
 use std::alloc::{AllocError, Global};
+use std::marker::Model;
+
+/// What is known of the tokens so far.
+#[derive(Drop)]
+enum Known {
+    /// They broke no rule.
+    Sound(Partial),
+    /// Text goes on with them, and the first rule is broken on this line.
+    Faulty(u64),
+    /// No text goes on with the token on this line.
+    Stopped(u64),
+}
+
+/// The line of a fault, or none where memory ran out.
+fn line_of(error: ReadError) -> Option<u64>
+    ensures { result ≡ fault_line error }
+{
+    match error {
+        ReadError::NoMemory => None,
+        ReadError::BadByte { line } => Some(line),
+        ReadError::NumberTooLarge { line } => Some(line),
+        ReadError::Unexpected { line } => Some(line),
+        ReadError::TableFault { line } => Some(line),
+    }
+}
+
+impl Known {
+    /// One more token, by what it tells: the line of the rule that it is the first to break, or none. Where memory ran out,
+    /// nothing changed.
+    fn tell(
+        &mut self,
+        alloc: Global,
+        tells: Tells,
+        token: &Token,
+    ) -> Result<Option<u64>, AllocError>
+        ensures told { IfOk result (λ line. known_after (known_in self.old) tells token.now ≡ with_fault line (known_in self.new)) }
+        ensures err { OnErr result (known_in self.new ≡ known_in self.old) }
+    {
+        let told = match self {
+            Known::Sound(partial) => partial.tell(alloc, tells, token),
+            Known::Faulty(_) => Ok(()),
+            Known::Stopped(_) => Ok(()),
+        };
+        match told {
+            Ok(()) => Ok(None),
+            Err(error) => match line_of(error) {
+                Some(line) => Ok(Some(line)),
+                None => Err(AllocError),
+            },
+        }
+    }
+
+    /// The first rule is broken on this line, where one is.
+    fn put_fault(&mut self, line: Option<u64>)
+        ensures { known_in self.new ≡ with_fault line (known_in self.old) }
+    {
+        if let Some(line) = line {
+            *self = Known::Faulty(line);
+        }
+    }
+
+    /// One more token, by what it tells. Where memory ran out, nothing changed.
+    fn go_on(&mut self, alloc: Global, tells: Tells, token: &Token) -> Result<(), AllocError>
+        ensures ok { OnOk result (known_in self.new ≡ known_after (known_in self.old) tells token.now) }
+        ensures kept { OnErr result (known_in self.new ≡ known_in self.old) }
+    {
+        let line = self.tell(alloc, tells, token)?;
+        self.put_fault(line);
+        Ok(())
+    }
+
+    /// No text goes on with the token on this line.
+    fn stop(&mut self, line: u64)
+        ensures { known_in self.new ≡ Stopped line }
+    {
+        *self = Known::Stopped(line);
+    }
+}
+
+/// A table text read token by token. Each token becomes a part of the tables as it comes: neither the tokens nor what they
+/// write is kept. After a fault of the rules nothing but its line and what may come next is kept; after a token with which no
+/// text goes on nothing but that token's line.
+#[derive(Drop)]
+pub struct TableReader {
+    state: State,
+    line: u64,
+    known: Known,
+}
+
+impl Model for TableReader {
+    ghost use Rattle.nk_tabtext.specs.InMemory.{progress_of};
+    ghost use Rattle.nk_tabtext.specs.Progress.{Progress};
+
+    ghost Value = { Progress };
+
+    ghost view = { λ r. progress_of r.state r.line r.known };
+}
+
+impl TableReader {
+    /// A reader before the first token.
+    pub fn new(alloc: Global) -> Result<TableReader, AllocError>
+        ensures { IfOk result (IsTaken []) }
+    {
+        Ok(TableReader {
+            state: State::FIRST,
+            line: 1,
+            known: Known::Sound(Partial::new(alloc)?),
+        })
+    }
+
+    /// One more token, by the grammar's states.
+    fn put(&mut self, alloc: Global, token: &Token) -> Result<(), AllocError>
+        ensures taken { OnOk result (self.new ≡ progress_after self.old token.now) }
+        ensures stopped { IsStopped self.old → IsOk result × (self.new ≡ self.old) }
+        ensures err { OnErr result (self.new ≡ self.old) }
+    {
+        if self.is_stopped() {
+            return Ok(());
+        }
+        match self.state.after(token.kind) {
+            Some((state, tells)) => {
+                self.known.go_on(alloc, tells, token)?;
+                self.state = state;
+                self.line = token.line;
+            }
+            None => self.known.stop(token.line),
+        }
+        Ok(())
+    }
+
+    /// One more token. A fault of the text is no error here: `end` answers it.
+    ///
+    /// `AllocError` says that memory ran out, and then nothing changed, so the token can be taken again. Where no text goes on
+    /// with the tokens so far, nothing changes any more and no memory is taken.
+    pub fn take(&mut self, alloc: Global, token: &Token) -> Result<(), AllocError>
+        ensures tokens { (ts : List Token) → IsTaken ts self.old → OnOk result (IsTaken (ts ++ token.now ∷ []) self.new) }
+        ensures unmended { (ts : List Token) → IsTaken ts self.old → (GoesOn (terminals ts) → ⊥) → IsOk result × (self.new ≡ self.old) }
+        ensures stopped { IsStopped self.old → IsOk result × (self.new ≡ self.old) }
+        ensures err { OnErr result (self.new ≡ self.old) }
+    {
+        self.put(alloc, token)
+    }
+
+    /// Whether a token came with which no text goes on.
+    pub fn is_stopped(&self) -> bool
+        ensures { result ≡ is_stopped self.now.known }
+    {
+        match &self.known {
+            Known::Stopped(_) => true,
+            Known::Sound(_) | Known::Faulty(_) => false,
+        }
+    }
+
+    /// What is known of the tokens, where they end.
+    fn known_at_end(self, alloc: Global) -> Result<Tables, ReadError>
+        ensures { Returns (λ t. t) result (tables_of_progress self) }
+    {
+        let TableReader { state, line, known } = self;
+        match known {
+            Known::Stopped(at) => Err(ReadError::Unexpected { line: at }),
+            Known::Faulty(at) => match state.at_end() {
+                Some(_) => Err(ReadError::TableFault { line: at }),
+                None => Err(ReadError::Unexpected { line }),
+            },
+            Known::Sound(partial) => match state.at_end() {
+                Some(tells) => partial.end(alloc, tells, line),
+                None => Err(ReadError::Unexpected { line }),
+            },
+        }
+    }
+
+    /// The tables of the tokens that were taken, or their first fault with its line, as `read_tables` says. It spends the value,
+    /// refused or not.
+    pub fn end(self, alloc: Global) -> Result<Tables, ReadError>
+        ensures tables { (ts : List Token) → IsTaken ts self → Returns (λ t. t) result (tables_of_tokens ts) }
+        ensures printable { (text : List ℕ) (ts : List Token) → tokens_of text ≡ Ok ts → IsTaken ts self → IfOk result IsPrintable }
+    {
+        self.known_at_end(alloc)
+    }
+}
 
 /// The tokens of a text, or its first lexical fault.
 fn lex(alloc: Global, text: &[u8]) -> Result<Vec<Token>, ReadError>
@@ -26,44 +206,6 @@ fn lex(alloc: Global, text: &[u8]) -> Result<Vec<Token>, ReadError>
         Err(LexError::BadByte { line }) => Err(ReadError::BadByte { line }),
         Err(LexError::NumberTooLarge { line }) => Err(ReadError::NumberTooLarge { line }),
     }
-}
-
-/// The line of the last token, or 1.
-fn last_line(tokens: &[Token]) -> u64
-    ensures { result ≡ last_line 1 tokens.now }
-{
-    let mut line = 1;
-    for token in tokens {
-        line = token.line;
-    }
-    line
-}
-
-/// The tables of all declared switches, where these are written.
-#[tactic(auto, using(crate::proofs::Numbers::numbers_rise))]
-fn whole(alloc: Global, said: Declared, read: Tabled) -> Result<Tables, AllocError>
-    ensures { IfOk result (λ t. t ≡ whole (declared_in said) read.entries) }
-{
-    let Declared { fields, topo } = said;
-    let topo = topo.finish()?;
-    let tables = each(alloc, topo.switches(), read)?;
-    Ok(Tables {
-        fields,
-        topo,
-        tables,
-    })
-}
-
-/// The tables that are written, where `line` is that of the last token.
-fn tables_from(alloc: Global, line: u64, text: &WrittenTables) -> Result<Tables, ReadError>
-    ensures { Returns (λ t. t) result (tables_from line text.now) }
-{
-    let version = text.version.value;
-    refuse_if(version != 1 && version != 2, text.version.line)?;
-    let said = declare(alloc, text.declarations.as_slice())?;
-    let read = tables(alloc, version, &said, text.tables.as_slice())?;
-    refuse_if(said.fields.tag().is_none(), line)?;
-    Ok(whole(alloc, said, read)?)
 }
 
 /// The tables of a text, or its first fault with its line, in this order: a byte that begins no token or a number above
@@ -90,7 +232,9 @@ pub fn read_tables(alloc: Global, text: &[u8]) -> Result<Tables, ReadError>
     ensures printable { IfOk result IsPrintable }
 {
     let tokens = lex(alloc, text)?;
-    let written = read_text(alloc, tokens.as_slice())?;
-    let line = last_line(tokens.as_slice());
-    tables_from(alloc, line, &written)
+    let mut reader = TableReader::new(alloc)?;
+    for token in tokens.as_slice() {
+        reader.take(alloc, token)?;
+    }
+    reader.end(alloc)
 }

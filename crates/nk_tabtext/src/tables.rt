@@ -1,13 +1,10 @@
 //! The tables of all switches.
-ghost use Rattle.std.specs.Prelude.{◌≡◌, ◌<◌, [], map, unwrap_or, AllPairs, IfOk};
-ghost use Rattle.nk_declare.specs.InMemory.{declared_in};
-ghost use Rattle.nk_tabgrammar.specs.Machine.{Returns};
-ghost use Rattle.nk_tabtext.specs.Values.{empty_table, table_for, table_read, tables_read};
+ghost use Rattle.std.specs.Prelude.{◌≡◌, ◌<◌, ◌≤◌, [], true, map, unwrap_or, vec_capacity, AllPairs, IfOk, OnErr, OnOk};
+ghost use Rattle.std.specs.BTreeMap.{btree_map_len, insert_entry};
+ghost use Rattle.std.specs.Ordering.{nat_cmp};
+ghost use Rattle.nk_tabtext.specs.Values.{empty_table, has_key, table_for};
 
-use crate::values::{groups, refuse_if, rows, small};
-use nk_declare::Declared;
 use nk_field::List;
-use nk_tabgrammar::{ReadError, WrittenTable};
 use nk_table::{Group, Table};
 use std::alloc::{AllocError, Global};
 use std::collections::BTreeMap;
@@ -15,46 +12,18 @@ use std::collections::BTreeMap;
 /// The tables that are written, by switch.
 pub(crate) type Tabled = BTreeMap<u16, Table>;
 
-/// A table behind others.
-fn table(
-    alloc: Global,
-    version: u64,
-    said: &Declared,
-    before: &Tabled,
-    t: &WrittenTable,
-) -> Result<Table, ReadError>
-    ensures { Returns (λ x. x) result (table_read version (declared_in said.now) before.now.entries t.now) }
-{
-    let switch = small(t.switch)?;
-    let unknown = !said.topo.is_switch(switch);
-    refuse_if(unknown || before.contains_key(&switch), t.switch.line)?;
-    let groups = groups(alloc, &said.fields, t.groups.as_slice())?;
-    let rows = rows(alloc, version, &said.fields, &groups, t.rows.as_slice())?;
-    let groups: Vec<Group> = groups.into_values().collect(alloc)?;
-    Ok(Table {
-        switch,
-        groups: List::from_vec(groups),
-        rows,
-    })
-}
+/// The groups of a table, by number.
+pub(crate) type Groups = BTreeMap<u64, Group>;
 
-/// The tables that are written in a text of a version, by switch.
-pub(crate) fn tables(
-    alloc: Global,
-    version: u64,
-    said: &Declared,
-    all: &[WrittenTable],
-) -> Result<Tabled, ReadError>
-    ensures { Returns (λ m. m.entries) result (tables_read version (declared_in said.now) [] all.now) }
+/// A table without groups and rows; it takes no memory.
+pub(crate) fn empty(alloc: Global, switch: u16) -> Table
+    ensures { result ≡ empty_table switch }
 {
-    let mut before = BTreeMap::new(alloc);
-    for t in all {
-        let table = table(alloc, version, said, &before, t)?;
-        if before.insert(table.switch, table).is_err() {
-            return Err(ReadError::NoMemory);
-        }
+    Table {
+        switch,
+        groups: List::new(alloc),
+        rows: List::new(alloc),
     }
-    Ok(before)
 }
 
 /// The table of a switch that is taken, or an empty one.
@@ -63,11 +32,7 @@ fn or_empty(alloc: Global, table: Option<Table>, switch: u16) -> Table
 {
     match table {
         Some(table) => table,
-        None => Table {
-            switch,
-            groups: List::new(alloc),
-            rows: List::new(alloc),
-        },
+        None => empty(alloc, switch),
     }
 }
 
@@ -87,4 +52,40 @@ pub(crate) fn each(
         all.push(or_empty(alloc, table, *switch))?;
     }
     Ok(all)
+}
+
+/// An empty table of a switch, so that its own can be put in without taking memory.
+pub(crate) fn make_place(alloc: Global, tables: &mut Tabled, switch: u16) -> Result<(), AllocError>
+    ensures ok { OnOk result (tables.new.entries ≡ insert_entry nat_cmp tables.old.entries switch (empty_table switch)) }
+    ensures kept { OnErr result (tables.new.entries ≡ tables.old.entries) }
+{
+    if tables.insert(switch, empty(alloc, switch)).is_err() {
+        return Err(AllocError);
+    }
+    Ok(())
+}
+
+/// Puts a table in its place, where one stands.
+pub(crate) fn put_table(tables: &mut Tabled, table: Table)
+    requires { has_key tables.old.entries table.switch ≡ true }
+    ensures { tables.new.entries ≡ insert_entry nat_cmp tables.old.entries table.switch table }
+{
+    match tables.insert(table.switch, table) {
+        Ok(_) => (),
+        Err(_) => unreachable!(),
+    }
+}
+
+/// The groups of a table, in a list that has room for them. It takes no memory.
+pub(crate) fn listed(groups: Groups, room: Vec<Group>) -> Vec<Group>
+    requires none { room.items ≡ [] }
+    requires room { btree_map_len groups ≤ vec_capacity room }
+    ensures { result.items ≡ map (λ g. g.1) groups.entries }
+{
+    let mut groups = groups;
+    let mut all = room;
+    while let Some((_, group)) = groups.pop_first() {
+        all.push(group).unwrap();
+    }
+    all
 }

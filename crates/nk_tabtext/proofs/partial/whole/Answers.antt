@@ -1,7 +1,7 @@
 use Rattle.std.proofs.Common.{◌<◌, sym, subst}
 use Rattle.std.specs.Prelude.{AllPairs}
 use Rattle.nk_tabtext.proofs.Numbers.{numbers_rise}
-use Rattle.nk_tabtext.proofs.reading.whole.Goals as goal
+use Rattle.nk_tabtext.proofs.partial.whole.Goals as goal
 
 pub each-requires : goal.each-requires
 each-requires c =
