@@ -1,7 +1,6 @@
 pub mod Answering
 pub mod Completing
 pub mod Following
-pub mod Loops
 pub mod Marks
 pub mod Passing
 pub mod Spelled

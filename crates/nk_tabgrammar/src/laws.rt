@@ -1,4 +1,5 @@
-//! Laws of reading token by token: it reads the grammar's table texts, and no others.
+//! Laws of reading token by token, as the specifications do it: it reads the grammar's table texts and no others, and the states
+//! go along with it.
 ghost use Rattle.nk_tabgrammar.specs.Answer.{AnswersTexts, IsUnique, ReadsTexts};
 ghost use Rattle.nk_tabgrammar.specs.States.{FollowStages};
 ghost use Rattle.nk_tabgrammar.specs.Telling.{TellTexts};

@@ -16,13 +16,12 @@
 //! way     : NUMBER | in
 //! ```
 //!
-//! What is read keeps each name and each number with its line. What it means, and which rules it has to keep, is said by the
-//! crates above.
+//! A `State` says what may come next and what a token tells there, and keeps nothing of what was read. The laws say that it goes
+//! along with the grammar, and that what its tokens tell is what is written, with each name and each number's line. What that
+//! means, and which rules it has to keep, is said by the crates above.
 #![tactic(auto)]
 
 mod laws;
-mod parts;
-mod reader;
 mod stage;
 mod states;
 mod written;
@@ -31,9 +30,5 @@ pub use laws::{
     a_text_has_one_reading, states_follow_the_grammar, states_tell_what_is_written,
     texts_are_answered, texts_are_read,
 };
-pub use reader::read_text;
 pub use states::{BucketState, LinkState, RowState, State, Step, Tells};
-pub use written::{
-    Declaration, Pair, ReadError, Way, WrittenBucket, WrittenGroup, WrittenMatch, WrittenRow,
-    WrittenTable, WrittenTables, WrittenTarget,
-};
+pub use written::ReadError;

@@ -1,4 +1,6 @@
-//! What may come next in a text of tables.
+//! What stands before a token of a text of tables, with all that was read of it.
+//!
+//! Types of the specifications (`next_reading`, `FollowStages`): programs go by `State`, which keeps nothing.
 use crate::written::{Pair, Way, WrittenBucket, WrittenGroup, WrittenMatch};
 use nk_field::List;
 use nk_lex::{Number, Word};

@@ -1,10 +1,13 @@
-//! Tables as they are written, with a line for each name and number.
+//! Tables as they are written, with a line for each name and number; and why a text has none.
+//!
+//! What is written is a type of the specifications (`spell_text`, `written_of`): programs make no value of it. Of these types
+//! they have `ReadError` alone.
 ghost use Rattle.std.specs.Prelude.{◌≡◌};
 ghost use Rattle.nk_tabgrammar.specs.declared.written.ReadError.TheVariants.{NoMemory};
 
 use nk_field::List;
 use nk_lex::{Number, Word};
-use std::alloc::{AllocError, AllocFailed};
+use std::alloc::AllocError;
 use thiserror::Error;
 
 /// A declaration.
@@ -151,14 +154,6 @@ impl From<AllocError> for ReadError {
     ghost from_gives = { λ _ e. e ≡ NoMemory };
 
     fn from(_: AllocError) -> Self {
-        ReadError::NoMemory
-    }
-}
-
-impl From<AllocFailed<u16>> for ReadError {
-    ghost from_gives = { λ _ e. e ≡ NoMemory };
-
-    fn from(_: AllocFailed<u16>) -> Self {
         ReadError::NoMemory
     }
 }
