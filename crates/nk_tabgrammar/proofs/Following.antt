@@ -29,7 +29,7 @@ use Rattle.nk_tabgrammar.specs.declared.stage.Grouping.TheVariants as grouping
 use Rattle.nk_tabgrammar.specs.declared.stage.InRow.TheVariants as in_row
 use Rattle.nk_tabgrammar.specs.Terminal.{Terminal, name, number, mark, is_mark, terminal_from, terminal_of, with_name, with_number}
 use Rattle.nk_tabgrammar.specs.Machine.{Reading, begin, begin_group, begin_match, begin_row, begin_target, bucket_done, bucket_on, link_on, next_reading, place_step, quad_step, read_one, text_ended, written_at_end}
-use Rattle.nk_tabgrammar.specs.States.{Step, after, after_in, after_link, at_end, bucket_state, in_bucket, is_kind, link_state, or_else, state_of, step_if}
+use Rattle.nk_tabgrammar.specs.States.{MaybeStep, after, after_in, after_link, at_end, bucket_state, in_bucket, is_kind, link_state, or_else, state_of, step_if}
 use Rattle.nk_tabgrammar.specs.States as states
 
 -- a token is a name, a number, or a mark of another kind
@@ -79,11 +79,11 @@ by_kind P w n m t = by t.kind t.line t.value t.text
     by kind.CloseBracket line value text = m kind.CloseBracket refl refl
 
 -- what the machine comes to has the state that a step has
-abbrev Leads : Option Reading → Step → Type 0
+abbrev Leads : Option Reading → MaybeStep → Type 0
 Leads o s = option_map (λ r. state_of r.stage) o ≡ option_map (λ p. p.0) s
 
 -- a token of a kind, a name or a number may come
-module _ {A B : Type 0} (g : A → Option Reading) (h : B → Step) (t : Token) where
+module _ {A B : Type 0} (g : A → Option Reading) (h : B → MaybeStep) (t : Token) where
   by_mark : (k : Kind) → is_kind k kind.Name ≡ false → is_kind k kind.Number ≡ false → (one other : A) (x y : B)
       → Leads (g one) (h x) → Leads (g other) (h y)
       → Leads (g (if is_mark k (terminal_of t) then one else other)) (h (if is_kind k t.kind then x else y))
@@ -112,7 +112,7 @@ module _ {A B : Type 0} (g : A → Option Reading) (h : B → Step) (t : Token) 
 
 -- the same before a rest, and alone
 module _ {A : Type 0} (g : A → Option Reading) (t : Token) where
-  mark_or : (k : Kind) → is_kind k kind.Name ≡ false → is_kind k kind.Number ≡ false → (one other : A) (s : State) (e : Tells) (rest : Step)
+  mark_or : (k : Kind) → is_kind k kind.Name ≡ false → is_kind k kind.Number ≡ false → (one other : A) (s : State) (e : Tells) (rest : MaybeStep)
       → Leads (g one) (Some (s, e)) → Leads (g other) rest
       → Leads (g (if is_mark k (terminal_of t) then one else other)) (or_else (step_if k t.kind s e) rest)
   mark_or k a b one other s e rest taken refused = by_mark g (λ o. or_else o rest) t k a b one other (Some (s, e)) None taken refused
@@ -122,7 +122,7 @@ module _ {A : Type 0} (g : A → Option Reading) (t : Token) where
       → Leads (g (if is_mark k (terminal_of t) then one else other)) (step_if k t.kind s e)
   mark_only k a b one other s e taken refused = by_mark g (λ o. o) t k a b one other (Some (s, e)) None taken refused
 
-  name_or : (other : A) (f : Word → A) (s : State) (e : Tells) (rest : Step)
+  name_or : (other : A) (f : Word → A) (s : State) (e : Tells) (rest : MaybeStep)
       → ((w : Word) → Leads (g (f w)) (Some (s, e))) → Leads (g other) rest
       → Leads (g (with_name (terminal_of t) other f)) (or_else (step_if kind.Name t.kind s e) rest)
   name_or other f s e rest taken refused = by_name g (λ o. or_else o rest) t other f (Some (s, e)) None taken refused
@@ -187,7 +187,7 @@ link_follows x c (quad.ToColon a m b) t = number_only (link_on x c) t _ _ _ _ (�
 module _ (x : WrittenTables) (c : WrittenTable) (o : Owner) (at : BucketState → State) (whole : State) (e : Tells) (t : Token)
     (is : (p : Place) → in_bucket o (bucket_state p) ≡ at (bucket_state p))
     (ends : (b : WrittenBucket) → state_of (bucket_done x c o b).stage ≡ whole) where
-  abbrev into : Option (BucketState × Tells) → Step
+  abbrev into : Option (BucketState × Tells) → MaybeStep
   into p = option_map (λ p. (at p.0, p.1)) p
 
   bucket_follows : (p : Place) → Leads (bucket_on x c o (place_step p (terminal_of t))) (after_in at whole e (bucket_state p) t.kind)

@@ -31,7 +31,7 @@ use Rattle.nk_tabgrammar.specs.Terminal.{Terminal, name, number, mark, terminal_
 use Rattle.nk_tabgrammar.specs.Spelling.{spell_port, spell_declaration, spell_length, spell_match, spell_set, spell_bucket, spell_target, spell_row, spell_group, spell_table, spell_text, way_token}
 use Rattle.nk_tabgrammar.specs.Machine.{Reading, read_all, read_one, first_reading, written_at_end}
 use Rattle.nk_tabgrammar.specs.Answer.{terminals, IsAnswer}
-use Rattle.nk_tabgrammar.specs.States.{Step, after, after_in, at_end, state_of}
+use Rattle.nk_tabgrammar.specs.States.{MaybeStep, after, after_in, at_end, state_of}
 use Rattle.nk_tabgrammar.specs.Telling.{Telling, alone, by_number, told_by, told_bucket, told_declaration, told_group, told_length, told_match, told_row, told_set, told_table, told_target, told_text, told_way, worded, tellings_from, tellings_of}
 use Rattle.nk_tabgrammar.proofs.Answering.{answers, rest_reads}
 use Rattle.nk_tabgrammar.proofs.Following.{by_kind, follows}
@@ -345,7 +345,7 @@ accepts (t ∷ ts) r s is l e =
     by_step (read_one r (terminal_of t)) (after s t.kind) ((follows r).0 t ∙ ap (λ q. option_map (λ p. p.0) (after q t.kind)) is) e
     (λ q u same m f. accepts ts q u same m f)
   where
-    by_step : (o : Option Reading) (q : Step) → option_map (λ r. state_of r.stage) o ≡ option_map (λ p. p.0) q
+    by_step : (o : Option Reading) (q : MaybeStep) → option_map (λ r. state_of r.stage) o ≡ option_map (λ p. p.0) q
         → option_and_then (λ p. option_map (λ l. told_by p.1 (worded (terminal_of t)) ++ l) (tellings_from ts p.0)) q ≡ Some l
         → ((r : Reading) (s : State) → state_of r.stage ≡ s → (m : List Telling) → tellings_from ts s ≡ Some m
         → (x : WrittenTables) × (option_and_then written_at_end (read_all (terminals ts) r) ≡ Some x))

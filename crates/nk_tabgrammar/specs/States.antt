@@ -29,24 +29,24 @@ use Rattle.nk_tabgrammar.specs.Terminal.{place_of, terminal_of}
 use Rattle.nk_tabgrammar.specs.Machine.{Reading, read_one, written_at_end}
 
 -- what may come behind a token, and what the token tells; none where no text goes on with it
-abbrev pub Step : Type 0
-Step = Option (State × Tells)
+abbrev pub MaybeStep : Type 0
+MaybeStep = Option (State × Tells)
 
 -- the token is of this kind
 abbrev pub is_kind : Kind → Kind → Bool
 is_kind k l = place_of k == place_of l
 
 -- where the token is of this kind, this comes of it
-abbrev pub step_if : Kind → Kind → State → Tells → Step
+abbrev pub step_if : Kind → Kind → State → Tells → MaybeStep
 step_if wanted k s t = if is_kind wanted k then Some (s, t) else None
 
 -- the first that is there
-abbrev pub or_else : Step → Step → Step
+abbrev pub or_else : MaybeStep → MaybeStep → MaybeStep
 or_else (Some p) other = Some p
 or_else None other = other
 
 -- a declaration or a table begins
-abbrev pub begin : Kind → Tells → Step
+abbrev pub begin : Kind → Tells → MaybeStep
 begin k t =
     or_else (step_if kind.Field k state.Field t)
     (or_else (step_if kind.Tag k state.Tag t)
@@ -54,15 +54,15 @@ begin k t =
     (or_else (step_if kind.Link k (state.Link link.Start) t) (step_if kind.Table k state.Table t))))
 
 -- a row or a table begins
-abbrev pub begin_row : Kind → Tells → Step
+abbrev pub begin_row : Kind → Tells → MaybeStep
 begin_row k t = or_else (step_if kind.Row k (state.Row row.Row) t) (step_if kind.Table k state.Table t)
 
 -- a group, a row or a table begins
-abbrev pub begin_group : Kind → Tells → Step
+abbrev pub begin_group : Kind → Tells → MaybeStep
 begin_group k t = or_else (step_if kind.Group k state.Group t) (begin_row k t)
 
 -- a link
-abbrev pub after_link : LinkState → Kind → Step
+abbrev pub after_link : LinkState → Kind → MaybeStep
 after_link link.Start k = step_if kind.Number k (state.Link link.Switch) tells.LinkSwitch
 after_link link.Switch k = step_if kind.Colon k (state.Link link.SwitchColon) tells.Nothing
 after_link link.SwitchColon k = step_if kind.Number k (state.Link link.Port) tells.LinkPort
@@ -84,27 +84,27 @@ after_open bucket.Out k =
 after_open bucket.Left k = None
 
 -- the bracket
-abbrev pub closing : BucketState → Kind → State → Tells → Step
+abbrev pub closing : BucketState → Kind → State → Tells → MaybeStep
 closing bucket.Left k s t = step_if kind.CloseBracket k s t
 closing b k s t = None
 
 -- a bucket, that is whole in this state and tells this then
-abbrev pub after_in : (BucketState → State) → State → Tells → BucketState → Kind → Step
+abbrev pub after_in : (BucketState → State) → State → Tells → BucketState → Kind → MaybeStep
 after_in at whole t b k = or_else (closing b k whole t) (option_map (λ p. (at p.0, p.1)) (after_open b k))
 
 -- a match or the arrow
-abbrev pub begin_match : Kind → Step
+abbrev pub begin_match : Kind → MaybeStep
 begin_match k =
     or_else (step_if kind.Name k (state.Row row.Named) tells.MatchName) (step_if kind.Arrow k (state.Row row.Target) tells.Nothing)
 
 -- a target
-abbrev pub begin_target : Kind → Step
+abbrev pub begin_target : Kind → MaybeStep
 begin_target k =
     or_else (step_if kind.OpenBracket k (state.InRow bucket.Sets) tells.Nothing)
     (or_else (step_if kind.Group k (state.Row row.TargetGroup) tells.Nothing) (step_if kind.Drop k state.Rows tells.RowDrop))
 
 -- a row
-abbrev pub after_row : RowState → Kind → Step
+abbrev pub after_row : RowState → Kind → MaybeStep
 after_row row.Row k = step_if kind.Number k (state.Row row.Numbered) tells.Row
 after_row row.Numbered k = step_if kind.Colon k (state.Row row.Matches) tells.Nothing
 after_row row.Matches k = begin_match k
@@ -116,7 +116,7 @@ after_row row.Target k = begin_target k
 after_row row.TargetGroup k = step_if kind.Number k state.Rows tells.RowGroup
 
 -- the word `tables`, a declaration, a table's number or a group, but where something may end
-abbrev pub after_plain : State → Kind → Step
+abbrev pub after_plain : State → Kind → MaybeStep
 after_plain state.Start k = step_if kind.Tables k state.Version tells.Nothing
 after_plain state.Version k = step_if kind.Number k state.Between tells.Version
 after_plain state.Field k = step_if kind.Name k state.FieldNamed tells.FieldName
@@ -133,7 +133,7 @@ after_plain state.FirstBucket k = step_if kind.OpenBracket k (state.InGroup buck
 after_plain s k = None
 
 -- one more token
-abbrev pub after : State → Kind → Step
+abbrev pub after : State → Kind → MaybeStep
 after state.Between k = begin k tells.Nothing
 after state.PortRead k = or_else (step_if kind.Comma k state.NextPort tells.Nothing) (begin k tells.SwitchEnds)
 after (state.Link at) k = after_link at k

@@ -30,5 +30,5 @@ pub use laws::{
     a_text_has_one_reading, states_follow_the_grammar, states_tell_what_is_written,
     texts_are_answered, texts_are_read,
 };
-pub use states::{BucketState, LinkState, RowState, State, Step, Tells};
+pub use states::{BucketState, LinkState, RowState, State, Tells};
 pub use written::ReadError;

@@ -172,7 +172,7 @@ pub enum Tells {
 }
 
 /// What may come behind a token, and what the token tells.
-pub type Step = (State, Tells);
+type Step = (State, Tells);
 
 /// A token that tells nothing.
 fn silent(state: State) -> Option<Step>
