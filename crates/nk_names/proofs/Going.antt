@@ -1,5 +1,5 @@
 -- From declaration to declaration: what is said after all of them, and what stays true of the policies.
-use Rattle.std.proofs.Common.{◌≡◌, ℕ, zero, suc, ◌+◌, ◌<◌, ◌≤◌, None, Ok, List, [], ◌∷◌, ◌++◌, length, get_or, drop, map, refl, sym, ap, subst, ◌∙◌, arith, length-append}
+use Rattle.std.proofs.Common.{◌≡◌, ℕ, suc, ◌+◌, ◌<◌, ◌≤◌, None, Ok, List, [], ◌∷◌, ◌++◌, length, get_or, drop, map, refl, sym, ap, subst, ◌∙◌, arith, length-append}
 use Rattle.std.specs.declared.result.Result.{Result}
 use Rattle.std.specs.Prelude.{slice_index, All}
 use Rattle.std.proofs.lemmas.List.{get_or_append_left}
@@ -12,9 +12,7 @@ use Rattle.nk_grammar.specs.declared.decl.Decl.{Decl}
 use Rattle.nk_grammar.specs.Tree.{Tree}
 use Rattle.nk_grammar.specs.File.{Declaration, field, tag, switch, declared_link, definition, declaration_of, IsWritten}
 use Rattle.nk_names.specs.declared.fault.NamesError.{NamesError}
-use Rattle.nk_names.specs.Body.{policy_of}
-use Rattle.nk_names.specs.declared.body.Shared.{Shared}
-use Rattle.nk_names.specs.Meant.{Lets, lets_of, policy_for}
+use Rattle.nk_names.specs.Meant.{Lets, policy_for}
 use Rattle.nk_names.specs.ProgramOf.{Said, declared_part, said_with, said_after, let_fault}
 use Rattle.nk_names.specs.ProgramValue.{IsLet}
 use Rattle.nk_policy.specs.Ranges.{IsOver}
@@ -27,7 +25,7 @@ use Rattle.nk_declare.proofs.Places.{rest_is}
 use Rattle.nk_names.proofs.Places.{image_at}
 use Rattle.nk_names.proofs.Good.{marked_again, size_marked, depth_marked, over_marked, over_in_range, negates_marked, over_more}
 use Rattle.nk_names.proofs.Declarations.{faultless}
-use Rattle.nk_names.proofs.Meanings.{over_meant, negates_meant, all_head, all_tail}
+use Rattle.nk_names.proofs.Meanings.{over_meant, negates_meant}
 
 -- what is left of the declarations begins with the one at the place
 rest_declared : (ds : List Decl) (i : ℕ) (d : Decl) → i < length ds → d ≡ get_or ds i d
@@ -131,12 +129,3 @@ lets_kept s t (definition w p line) table written h good =
       maxima = good.maxima;
       policies = All-push (λ l. IsLet s.fields l.1) s.lets (w.text, marked_from (policy_for s.fields s.lets p) 1) good.policies (let_is s.fields s.lets w p line table u.0 good.policies);
     })
-
--- what holds of the policies that are said holds of those in memory
-pub lets_in_memory : (fields : FieldTable) (ls : List (List ℕ × Shared)) → All (λ l. IsLet fields l.1) (lets_of ls) → All (λ l. IsLet fields (policy_of l.1)) ls
-lets_in_memory fields [] h = λ k d lt. absurd (omega (arith, lt))
-lets_in_memory fields (l ∷ ls) h = λ k d lt. at k d lt (all_head (λ m. IsLet fields m.1) _ (lets_of ls) h) (lets_in_memory fields ls (all_tail (λ m. IsLet fields m.1) _ (lets_of ls) h))
-  where
-    at : (k : ℕ) (d : List ℕ × Shared) → k < length (l ∷ ls) → IsLet fields (policy_of l.1) → All (λ l. IsLet fields (policy_of l.1)) ls → IsLet fields (policy_of (get_or (l ∷ ls) k d).1)
-    at zero d lt first rest = first
-    at (suc k) d lt first rest = rest k d (omega (arith, lt))

@@ -1,18 +1,16 @@
 -- The policies of a program by their names.
-use Rattle.std.proofs.Common.{◌≡◌, ℕ, ◌<◌, Bool, true, false, Some, None, List, [], ◌∷◌, length, get_or, inl, inr, refl, ap, subst, ◌∙◌, arith}
-use Rattle.std.specs.Prelude.{if◌then◌else◌, min, All}
+use Rattle.std.proofs.Common.{◌≡◌, ℕ, ◌<◌, Bool, true, false, Some, None, List, [], ◌∷◌, inl, inr, refl, ap, subst, ◌∙◌, arith}
+use Rattle.std.specs.Prelude.{if◌then◌else◌, ◌≤◌, min}
 use Rattle.std.specs.Str.{bytes_eq}
-use Rattle.nk_field.specs.Packet.{FieldTable}
 use Rattle.nk_field.proofs.Lists.{In}
 use Rattle.nk_field.proofs.Ascending.{members_from_all}
 use Rattle.nk_policy.specs.Policy.{Policy, dups_of, size_of, is_predicate, marked_from}
-use Rattle.nk_names.specs.Body.{policy_of}
-use Rattle.nk_names.specs.Named.{named_among, policy_named}
+use Rattle.nk_names.specs.Meant.{policy_among}
+use Rattle.nk_names.specs.Named.{policy_named}
 use Rattle.nk_names.specs.ProgramValue.{IsProgram, IsLet}
 use Rattle.nk_names.specs.Shape.{shape_of}
 use Rattle.nk_names.specs.declared.Program.{Program}
-use Rattle.nk_names.specs.declared.body.Shared.{Shared}
-use Rattle.nk_names.proofs.Good.{few_dups, size_marked, depth_marked, predicate_marked}
+use Rattle.nk_names.proofs.Good.{few_dups, dups_marked, size_marked, depth_marked, predicate_marked}
 
 some_is : {A : Type 0} (a b : A) → Some a ≡ Some b → a ≡ b
 some_is a b e = cc
@@ -21,16 +19,16 @@ none_is_none : {A : Type 0} (a : A) → None ≡ Some a → ⊥
 none_is_none a e = cc
 
 -- a named policy is a let's
-named_in : (lets : List (List ℕ × Shared)) (name : List ℕ) (p : Policy) → named_among lets name ≡ Some p
-    → (l : List ℕ × Shared) × In lets l × (policy_of l.1 ≡ p)
+named_in : (lets : List (List ℕ × Policy)) (name : List ℕ) (p : Policy) → policy_among lets name ≡ Some p
+    → (l : List ℕ × Policy) × In lets l × (l.1 ≡ p)
 named_in [] name p e = absurd (none_is_none p e)
 named_in (l ∷ ls) name p e = by (bytes_eq l.0 name) (λ h. named_in ls name p h) e
   where
     by :
-        (b : Bool) → (named_among ls name ≡ Some p → (k : List ℕ × Shared) × In ls k × (policy_of k.1 ≡ p))
-        → (if b then Some (policy_of l.1) else named_among ls name) ≡ Some p
-        → (k : List ℕ × Shared) × In (l ∷ ls) k × (policy_of k.1 ≡ p)
-    by true h e = (l, inl refl, some_is (policy_of l.1) p e)
+        (b : Bool) → (policy_among ls name ≡ Some p → (k : List ℕ × Policy) × In ls k × (k.1 ≡ p))
+        → (if b then Some l.1 else policy_among ls name) ≡ Some p
+        → (k : List ℕ × Policy) × In (l ∷ ls) k × (k.1 ≡ p)
+    by true h e = (l, inl refl, some_is l.1 p e)
     by false h e = let r = h e in (r.0, inr r.1, r.2)
 
 -- what holds of a program's policies holds of one that a name has
@@ -38,14 +36,11 @@ pub let_named : (program : Program) (name : List ℕ) (p : Policy) → IsProgram
     → policy_named program name ≡ Some p → IsLet program.fields p
 let_named program name p ok named =
     let l = named_in program.lets name p named in
-    subst (IsLet program.fields) l.2 (members_from_all (λ (k : List ℕ × Shared). IsLet program.fields (policy_of k.1)) program.lets ok.policies l.0 l.1)
+    subst (IsLet program.fields) l.2 (members_from_all (λ (k : List ℕ × Policy). IsLet program.fields k.1) program.lets ok.policies l.0 l.1)
 
--- the dups of a program's policy have numbers
-pub let_fits : (fields : FieldTable) (ls : List (List ℕ × Shared)) (i : ℕ) (l : List ℕ × Shared)
-    → All (λ k. IsLet fields (policy_of k.1)) ls → i < length ls → l ≡ get_or ls i l → dups_of (policy_of l.1) < 4294967295
-let_fits fields ls i l all lt is =
-    let at : IsLet fields (policy_of (get_or ls i l).1) = all i l lt in
-    omega (arith, at.small, few_dups (policy_of (get_or ls i l).1), ap (λ (k : List ℕ × Shared). dups_of (policy_of k.1)) is)
+-- the dups of a policy of this size have numbers
+pub dups_fit : (p : Policy) → size_of p ≤ 1048576 → dups_of (marked_from p 1) < 4294967295
+dups_fit p h = omega (arith, h, few_dups p, dups_marked p 1)
 
 -- what is known of a policy is known of it numbered
 pub shape_marked : (p : Policy) (n : ℕ) → shape_of (marked_from p n) ≡ shape_of p

@@ -6,8 +6,7 @@ use Rattle.nk_policy.proofs.Tests.{both_true}
 use Rattle.nk_policy.proofs.Remade.{marked_predicate}
 use Rattle.nk_grammar.specs.Tree.{Tree}
 use Rattle.nk_names.specs.declared.fault.FaultKind.TheVariants as kind
-use Rattle.nk_names.specs.declared.body.Shared.{Shared}
-use Rattle.nk_names.specs.Meant.{Lets, lets_of, policy_for, unknown_in, misplaced_in}
+use Rattle.nk_names.specs.Meant.{Lets, policy_for, unknown_in, misplaced_in}
 use Rattle.nk_names.specs.ProgramOf.{predicate_fault}
 use Rattle.nk_names.specs.ProgramValue.{IsRowPolicy}
 use Rattle.nk_declare.proofs.Checks.{none_both}
@@ -79,9 +78,8 @@ row_is fields t line table h =
     }
 
 -- the same where the policies known are a list of none
-pub row_is_from : (fields : FieldTable) (ls : List (List ℕ × Shared)) (t : Tree) (line : ℕ) (q : Policy) → IsFieldTable fields → ls ≡ []
-    → predicate_fault fields (lets_of ls) t line ≡ None → q ≡ marked_from (policy_for fields (lets_of ls) t) 1 → IsRowPolicy fields q
+pub row_is_from : (fields : FieldTable) (ls : List (List ℕ × Policy)) (t : Tree) (line : ℕ) (q : Policy) → IsFieldTable fields → ls ≡ []
+    → predicate_fault fields ls t line ≡ None → q ≡ marked_from (policy_for fields ls t) 1 → IsRowPolicy fields q
 row_is_from fields ls t line q table none h e =
-    let known : lets_of ls ≡ [] = ap lets_of none in
-    subst (IsRowPolicy fields) (sym (e ∙ ap (λ l. marked_from (policy_for fields l t) 1) known))
-    (row_is fields t line table (sym (ap (λ l. predicate_fault fields l t line) known) ∙ h))
+    subst (IsRowPolicy fields) (sym (e ∙ ap (λ l. marked_from (policy_for fields l t) 1) none))
+    (row_is fields t line table (sym (ap (λ l. predicate_fault fields l t line) none) ∙ h))

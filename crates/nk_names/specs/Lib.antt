@@ -1,5 +1,6 @@
 pub mod Alike
 pub mod Body
+pub mod CodedPolicy
 pub mod Accepted
 pub mod Complements
 pub mod Meant

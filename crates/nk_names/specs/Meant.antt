@@ -1,6 +1,6 @@
 -- What a policy as it is written stands for, once each name in it is written out as the policy above that has it; and
 -- what may be wrong with it.
-use Rattle.std.specs.Prelude.{ℕ, Bool, not, nat_lt, Option, Some, None, is_none, if◌then◌else◌, unwrap_or, map, min, List, [], ◌∷◌}
+use Rattle.std.specs.Prelude.{ℕ, Bool, not, nat_lt, Option, Some, None, is_none, if◌then◌else◌, unwrap_or, min, List, [], ◌∷◌}
 use Rattle.std.specs.Str.{bytes_eq}
 use Rattle.nk_field.specs.Packet.{FieldTable, field_named}
 use Rattle.nk_policy.specs.Policy.{Policy, Policies, is_predicate}
@@ -10,8 +10,6 @@ use Rattle.nk_lex.specs.declared.word.Number.{Number}
 use Rattle.nk_lex.specs.Faults.{first_of}
 pub use Rattle.nk_declare.specs.Declarations.{place_in, most_in}
 use Rattle.nk_grammar.specs.Tree.{Tree, Trees, name_of, test, range, assign, sum_of, seq_of, not_of, star_of, dup, link, no_part, part}
-use Rattle.nk_names.specs.Body.{policy_of}
-use Rattle.nk_names.specs.declared.body.Shared.{Shared}
 use Rattle.nk_names.specs.declared.fault.FaultKind.{FaultKind}
 use Rattle.nk_names.specs.declared.fault.FaultKind.TheVariants as kind
 use Rattle.nk_names.specs.declared.fault.NamesError.{NamesError}
@@ -20,10 +18,6 @@ use Rattle.nk_names.specs.declared.fault.NamesError.TheVariants.{Fault}
 -- policies by name, in the order of the text
 abbrev pub Lets : Type 0
 Lets = List (List ℕ × Policy)
-
--- the policies that a program holds
-abbrev pub lets_of : List (List ℕ × Shared) → Lets
-lets_of ls = map (λ l. (l.0, policy_of l.1)) ls
 
 -- the policy of a name
 abbrev pub policy_among : Lets → List ℕ → Option Policy

@@ -21,7 +21,7 @@ use Rattle.nk_names.specs.declared.fault.FaultKind.{FaultKind}
 use Rattle.nk_names.specs.declared.fault.FaultKind.TheVariants as kind
 use Rattle.nk_names.specs.declared.fault.NamesError.{NamesError}
 use Rattle.nk_names.specs.declared.fault.NamesError.TheVariants.{Fault, NoMemory}
-use Rattle.nk_names.specs.Meant.{Lets, lets_of, policy_among, MaybeTextFault, text_fault_if, policy_for, unknown_in, misplaced_in}
+use Rattle.nk_names.specs.Meant.{Lets, policy_among, MaybeTextFault, text_fault_if, policy_for, unknown_in, misplaced_in}
 
 -- what a program says: its fields, its topology, and the policies of its names
 pub record Said : Type 0 where
@@ -109,11 +109,11 @@ program_of ds = said_after ds nothing_said
 
 -- what is said so far by the parts in memory
 abbrev pub said_in : Names → Said
-said_in names = record { fields = names.declared.fields; topo = names.declared.topo; lets = lets_of names.lets.entries.items }
+said_in names = record { fields = names.declared.fields; topo = names.declared.topo; lets = names.lets.entries.items }
 
 -- what a program in memory says
 abbrev pub said_by : Program → Said
-said_by p = record { fields = p.fields; topo = p.topo; lets = lets_of p.lets }
+said_by p = record { fields = p.fields; topo = p.topo; lets = p.lets }
 
 -- a text has this fault; want of memory may come at any
 abbrev pub IsFault : {X : Type 0} → NamesError → Result X NamesError → Type 0

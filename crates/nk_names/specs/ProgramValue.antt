@@ -6,14 +6,12 @@ use Rattle.nk_field.specs.Packet.{FieldTable, IsFieldTable}
 use Rattle.nk_topo.specs.Topology.{Topology, IsTopology}
 use Rattle.nk_policy.specs.Policy.{Policy, marked_from, size_of, depth_of, is_predicate}
 use Rattle.nk_policy.specs.Ranges.{IsInRange, IsOver}
-use Rattle.nk_names.specs.Body.{policy_of}
-use Rattle.nk_names.specs.declared.body.Shared.{Shared}
 use Rattle.nk_names.specs.Complements.{NegatesPredicates}
 
 pub record ProgramValue : Type 0 where
   pub fields : FieldTable
   pub topo : Topology
-  pub lets : List (List ℕ × Shared)
+  pub lets : List (List ℕ × Policy)
 
 abbrev pub IsNumberedFromOne : Policy → Type 0
 IsNumberedFromOne p = marked_from p 1 ≡ p
@@ -35,8 +33,8 @@ pub record IsRowPolicy (fields : FieldTable) (p : Policy) : Type 0 where
   pub in_range : IsInRange p fields
   pub complements : NegatesPredicates p
 
-pub record IsProgram (fields : FieldTable) (topo : Topology) (lets : List (List ℕ × Shared)) : Type 0 where
+pub record IsProgram (fields : FieldTable) (topo : Topology) (lets : List (List ℕ × Policy)) : Type 0 where
   pub table : IsFieldTable fields
   pub maxima : All (λ m. m ≤ 281474976710655) fields.maxima
   pub topology : IsTopology topo
-  pub policies : All (λ l. IsLet fields (policy_of l.1)) lets
+  pub policies : All (λ l. IsLet fields l.1) lets

@@ -4,7 +4,7 @@ ghost use Rattle.nk_policy.specs.Policy.{dups_of, marked_from};
 ghost use Rattle.nk_policy.specs.Tree.{tree_of};
 ghost use Rattle.nk_grammar.specs.Tree.{tree_of as written_of, trees_of as all_written_of};
 ghost use Rattle.nk_names.specs.Body.{policy_in, policies_in, policy_of};
-ghost use Rattle.nk_names.specs.Meant.{lets_of, place_in, policy_for, policies_for};
+ghost use Rattle.nk_names.specs.Meant.{place_in, policy_for, policies_for};
 
 use crate::body::{Bodies, Body, Shared, written};
 use crate::check::LARGEST_PLACE;
@@ -37,11 +37,11 @@ fn place_of(n: Number) -> u16
 #[cycle(build)]
 #[tactic(auto, using(nk_grammar::proofs::Trees::tree_of_sum, nk_grammar::proofs::Trees::tree_of_seq, crate::proofs::Bodies::policy_in_sum, crate::proofs::Bodies::policy_in_seq, crate::proofs::Bodies::policy_in_name))]
 fn built(alloc: Global, fields: &Fields, lets: &Lets, ast: &Ast) -> Result<Body, AllocError>
-    ensures { IfOk result (λ b. policy_in b ≡ policy_for fields.now (lets_of lets.now.entries.items) (written_of ast.now)) }
+    ensures { IfOk result (λ b. policy_in b ≡ policy_for fields.now lets.now.entries.items (written_of ast.now)) }
 {
     match ast {
         Ast::Name(w) => match lets.policy(w.text.as_slice()) {
-            Some(policy) => Ok(Body::Name(policy.again()?)),
+            Some(policy) => Ok(Body::Name(policy.shared()?)),
             None => Ok(Body::Sum(Bodies::new(Vec::new(alloc)))),
         },
         Ast::Test(w, n) => Ok(Body::Test(field_of(fields, w), n.value)),
@@ -70,7 +70,7 @@ fn all_built(
     lets: &Lets,
     parts: &[Ast],
 ) -> Result<Vec<Body>, AllocError>
-    ensures { IfOk result (λ bs. policies_in bs.items ≡ policies_for fields.now (lets_of lets.now.entries.items) (all_written_of parts.now)) }
+    ensures { IfOk result (λ bs. policies_in bs.items ≡ policies_for fields.now lets.now.entries.items (all_written_of parts.now)) }
 {
     let mut out = Vec::new(alloc);
     for q in parts {
@@ -87,7 +87,7 @@ pub(crate) fn shared_of(
     lets: &Lets,
     ast: &Ast,
 ) -> Result<Shared, AllocError>
-    ensures { IfOk result (λ s. policy_of s ≡ marked_from (policy_for fields.now (lets_of lets.now.entries.items) (written_of ast.now)) 1) }
+    ensures { IfOk result (λ s. policy_of s ≡ marked_from (policy_for fields.now lets.now.entries.items (written_of ast.now)) 1) }
 {
     match built(alloc, fields, lets, ast)? {
         Body::Name(policy) => Ok(policy),
@@ -102,8 +102,8 @@ pub(crate) fn policy_of(
     lets: &Lets,
     ast: &Ast,
 ) -> Result<Pol, AllocError>
-    requires { dups_of (policy_for fields.now (lets_of lets.now.entries.items) (written_of ast.now)) < 4294967295 }
-    ensures { IfOk result (λ q. tree_of q ≡ marked_from (policy_for fields.now (lets_of lets.now.entries.items) (written_of ast.now)) 1) }
+    requires { dups_of (policy_for fields.now lets.now.entries.items (written_of ast.now)) < 4294967295 }
+    ensures { IfOk result (λ q. tree_of q ≡ marked_from (policy_for fields.now lets.now.entries.items (written_of ast.now)) 1) }
 {
     let body = built(alloc, fields, lets, ast)?;
     written(alloc, &body)

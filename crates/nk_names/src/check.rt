@@ -2,7 +2,7 @@
 ghost use Rattle.std.specs.Prelude.{◌≡◌, min};
 ghost use Rattle.nk_policy.specs.Policy.{depth_of, depths_of, size_of, sizes_of, is_predicate, are_predicates};
 ghost use Rattle.nk_grammar.specs.Tree.{tree_of, trees_of};
-ghost use Rattle.nk_names.specs.Meant.{lets_of, text_fault_if, value_above, no_value, no_range, literal_ends, policy_for, policies_for, unknown_in, unknown_among, misplaced_in, misplaced_among};
+ghost use Rattle.nk_names.specs.Meant.{text_fault_if, value_above, no_value, no_range, literal_ends, policy_for, policies_for, unknown_in, unknown_among, misplaced_in, misplaced_among};
 
 use crate::fault::{FaultKind, NamesError};
 use crate::lets::Lets;
@@ -72,7 +72,7 @@ fn no_range(fields: &Fields, w: &Word, low: Number, high: Number) -> Option<Name
 #[cycle(unknown)]
 #[tactic(auto, using(nk_grammar::proofs::Trees::tree_of_sum, nk_grammar::proofs::Trees::tree_of_seq))]
 pub(crate) fn first_unknown(fields: &Fields, lets: &Lets, ast: &Ast) -> Option<NamesError>
-    ensures { result ≡ unknown_in fields.now (lets_of lets.now.entries.items) (tree_of ast.now) }
+    ensures { result ≡ unknown_in fields.now lets.now.entries.items (tree_of ast.now) }
 {
     match ast {
         Ast::Name(w) => {
@@ -91,7 +91,7 @@ pub(crate) fn first_unknown(fields: &Fields, lets: &Lets, ast: &Ast) -> Option<N
 /// The same among parts.
 #[cycle(unknown)]
 fn first_unknown_among(fields: &Fields, lets: &Lets, parts: &[Ast]) -> Option<NamesError>
-    ensures { result ≡ unknown_among fields.now (lets_of lets.now.entries.items) (trees_of parts.now) }
+    ensures { result ≡ unknown_among fields.now lets.now.entries.items (trees_of parts.now) }
 {
     for q in parts {
         let fault = first_unknown(fields, lets, q);
@@ -106,7 +106,7 @@ fn first_unknown_among(fields: &Fields, lets: &Lets, parts: &[Ast]) -> Option<Na
 #[cycle(predicate)]
 #[tactic(auto, using(nk_grammar::proofs::Trees::tree_of_sum, nk_grammar::proofs::Trees::tree_of_seq))]
 pub(crate) fn is_predicate(fields: &Fields, lets: &Lets, ast: &Ast) -> bool
-    ensures { result ≡ is_predicate (policy_for fields.now (lets_of lets.now.entries.items) (tree_of ast.now)) }
+    ensures { result ≡ is_predicate (policy_for fields.now lets.now.entries.items (tree_of ast.now)) }
 {
     match ast {
         Ast::Name(w) => match lets.shape(w.text.as_slice()) {
@@ -123,7 +123,7 @@ pub(crate) fn is_predicate(fields: &Fields, lets: &Lets, ast: &Ast) -> bool
 /// Whether each part is one.
 #[cycle(predicate)]
 fn are_predicates(fields: &Fields, lets: &Lets, parts: &[Ast]) -> bool
-    ensures { result ≡ are_predicates (policies_for fields.now (lets_of lets.now.entries.items) (trees_of parts.now)) }
+    ensures { result ≡ are_predicates (policies_for fields.now lets.now.entries.items (trees_of parts.now)) }
 {
     for q in parts {
         if !is_predicate(fields, lets, q) {
@@ -137,7 +137,7 @@ fn are_predicates(fields: &Fields, lets: &Lets, parts: &[Ast]) -> bool
 #[cycle(misplaced)]
 #[tactic(auto, using(nk_grammar::proofs::Trees::tree_of_sum, nk_grammar::proofs::Trees::tree_of_seq))]
 pub(crate) fn first_misplaced(fields: &Fields, lets: &Lets, ast: &Ast) -> Option<NamesError>
-    ensures { result ≡ misplaced_in fields.now (lets_of lets.now.entries.items) (tree_of ast.now) }
+    ensures { result ≡ misplaced_in fields.now lets.now.entries.items (tree_of ast.now) }
 {
     match ast {
         Ast::Sum(ps) | Ast::Seq(ps) => first_misplaced_among(fields, lets, ps.as_slice()),
@@ -158,7 +158,7 @@ pub(crate) fn first_misplaced(fields: &Fields, lets: &Lets, ast: &Ast) -> Option
 /// The same among parts.
 #[cycle(misplaced)]
 fn first_misplaced_among(fields: &Fields, lets: &Lets, parts: &[Ast]) -> Option<NamesError>
-    ensures { result ≡ misplaced_among fields.now (lets_of lets.now.entries.items) (trees_of parts.now) }
+    ensures { result ≡ misplaced_among fields.now lets.now.entries.items (trees_of parts.now) }
 {
     for q in parts {
         let fault = first_misplaced(fields, lets, q);
@@ -173,7 +173,7 @@ fn first_misplaced_among(fields: &Fields, lets: &Lets, parts: &[Ast]) -> Option<
 #[cycle(depth)]
 #[tactic(auto, using(nk_grammar::proofs::Trees::tree_of_sum, nk_grammar::proofs::Trees::tree_of_seq))]
 pub(crate) fn depth(fields: &Fields, lets: &Lets, ast: &Ast) -> u64
-    ensures { result ≡ min (depth_of (policy_for fields.now (lets_of lets.now.entries.items) (tree_of ast.now))) LAST }
+    ensures { result ≡ min (depth_of (policy_for fields.now lets.now.entries.items (tree_of ast.now))) LAST }
 {
     match ast {
         Ast::Name(w) => match lets.shape(w.text.as_slice()) {
@@ -190,7 +190,7 @@ pub(crate) fn depth(fields: &Fields, lets: &Lets, ast: &Ast) -> u64
 /// The depth of the deepest part, 0 where there is none.
 #[cycle(depth)]
 fn deepest(fields: &Fields, lets: &Lets, parts: &[Ast]) -> u64
-    ensures { result ≡ min (depths_of (policies_for fields.now (lets_of lets.now.entries.items) (trees_of parts.now))) LAST }
+    ensures { result ≡ min (depths_of (policies_for fields.now lets.now.entries.items (trees_of parts.now))) LAST }
 {
     let mut most: u64 = 0;
     for q in parts {
@@ -206,7 +206,7 @@ fn deepest(fields: &Fields, lets: &Lets, parts: &[Ast]) -> u64
 #[cycle(size)]
 #[tactic(auto, using(nk_grammar::proofs::Trees::tree_of_sum, nk_grammar::proofs::Trees::tree_of_seq))]
 pub(crate) fn size(fields: &Fields, lets: &Lets, ast: &Ast) -> u64
-    ensures { result ≡ min (size_of (policy_for fields.now (lets_of lets.now.entries.items) (tree_of ast.now))) LAST }
+    ensures { result ≡ min (size_of (policy_for fields.now lets.now.entries.items (tree_of ast.now))) LAST }
 {
     match ast {
         Ast::Name(w) => match lets.shape(w.text.as_slice()) {
@@ -223,7 +223,7 @@ pub(crate) fn size(fields: &Fields, lets: &Lets, ast: &Ast) -> u64
 /// How many elements the parts have.
 #[cycle(size)]
 fn total_size(fields: &Fields, lets: &Lets, parts: &[Ast]) -> u64
-    ensures { result ≡ min (sizes_of (policies_for fields.now (lets_of lets.now.entries.items) (trees_of parts.now))) LAST }
+    ensures { result ≡ min (sizes_of (policies_for fields.now lets.now.entries.items (trees_of parts.now))) LAST }
 {
     let mut total: u64 = 0;
     for q in parts {

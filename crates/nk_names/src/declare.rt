@@ -2,13 +2,13 @@
 ghost use Rattle.std.specs.Prelude.{◌≡◌, None, Some, MatchResult, IfOk};
 ghost use Rattle.nk_grammar.specs.File.{declaration_of, field, tag, switch, declared_link, definition};
 ghost use Rattle.nk_grammar.specs.Tree.{tree_of};
-ghost use Rattle.nk_names.specs.Meant.{lets_of};
 ghost use Rattle.nk_names.specs.ProgramOf.{Returns, kind_of, text_fault_of, said_in, said_with, nothing_said, let_fault};
 
 use crate::build::shared_of;
 use crate::check::{depth, fault_if, first_misplaced, first_unknown, size};
 use crate::fault::{FaultKind, NamesError};
 use crate::lets::Lets;
+use crate::named_policy::NamedPolicy;
 use crate::names::Names;
 use crate::shape::Shape;
 use nk_declare::{DeclareError, DeclareFault, Declared};
@@ -35,8 +35,8 @@ pub(crate) fn refuse(fault: Option<NamesError>) -> Result<(), NamesError>
 /// Whether a policy may have the name, and its tree be written out.
 fn check_let(names: &Names, w: &Word, ast: &Ast, line: u64) -> Result<(), NamesError>
     ensures { MatchResult result
-        (λ _. let_fault names.now.declared.fields (lets_of names.now.lets.entries.items) w.now (tree_of ast.now) line ≡ None)
-        (λ e. let_fault names.now.declared.fields (lets_of names.now.lets.entries.items) w.now (tree_of ast.now) line ≡ Some e) }
+        (λ _. let_fault names.now.declared.fields names.now.lets.entries.items w.now (tree_of ast.now) line ≡ None)
+        (λ e. let_fault names.now.declared.fields names.now.lets.entries.items w.now (tree_of ast.now) line ≡ Some e) }
 {
     let fields = &names.declared.fields;
     let lets = &names.lets;
@@ -155,7 +155,7 @@ fn with_let(
 {
     check_let(&names, w, ast, line)?;
     let shape = Shape::of(&names.declared.fields, &names.lets, ast);
-    let policy = shared_of(alloc, &names.declared.fields, &names.lets, ast)?;
+    let policy = NamedPolicy::new(shared_of(alloc, &names.declared.fields, &names.lets, ast)?);
     let Names { declared, lets } = names;
     let lets = lets.with(alloc, w.text.as_slice(), policy, shape)?;
     Ok(Names { declared, lets })

@@ -5,11 +5,10 @@ ghost use Rattle.std.specs.Bool.{nat_eq};
 ghost use Rattle.std.specs.HashMap.{get_by};
 ghost use Rattle.std.specs.List.{position_from};
 ghost use Rattle.std.specs.Str.{bytes_eq};
-ghost use Rattle.nk_names.specs.Body.{policy_of};
-ghost use Rattle.nk_names.specs.Meant.{lets_of, policy_among};
+ghost use Rattle.nk_names.specs.Meant.{policy_among};
 ghost use Rattle.nk_names.specs.Shape.{shape_of};
 
-use crate::body::Shared;
+use crate::named_policy::NamedPolicy;
 use crate::shape::Shape;
 use nk_field::List;
 use std::alloc::{AllocError, Global};
@@ -18,10 +17,10 @@ use std::collections::HashMap;
 /// Policies in the order of the text, each with its name, what is known of it, and its place by its name.
 #[derive(Drop)]
 pub(crate) struct Lets {
-    pub(crate) entries: Vec<(List<u8>, Shared)>,
+    pub(crate) entries: Vec<(List<u8>, NamedPolicy)>,
     shapes: Vec<Shape>,
     places: HashMap<Vec<u8>, usize>,
-    ghost shaped: { shapes.items ≡ map (λ e. shape_of (policy_of e.1)) entries.items },
+    ghost shaped: { shapes.items ≡ map (λ e. shape_of e.1) entries.items },
     ghost placed: { (q : Items ℕ) → get_by (λ k. pointwise nat_eq q k.items) places
         ≡ position_from (λ e. bytes_eq e.0 q) 0 entries.items },
 }
@@ -47,9 +46,9 @@ impl Lets {
     }
 
     /// The policy with the name.
-    pub(crate) fn policy(&self, name: &[u8]) -> Option<&Shared>
-        ensures { option_map (λ p. policy_of p.now) result
-            ≡ policy_among (lets_of self.now.entries.items) name.now }
+    pub(crate) fn policy(&self, name: &[u8]) -> Option<&NamedPolicy>
+        ensures { option_map (λ p. p.now) result
+            ≡ policy_among self.now.entries.items name.now }
     {
         match self.place(name) {
             Some(place) => Some(&self.entries[place].1),
@@ -59,7 +58,7 @@ impl Lets {
 
     /// What is known of the policy with the name.
     pub(crate) fn shape(&self, name: &[u8]) -> Option<Shape>
-        ensures { result ≡ option_map shape_of (policy_among (lets_of self.now.entries.items) name.now) }
+        ensures { result ≡ option_map shape_of (policy_among self.now.entries.items name.now) }
     {
         match self.place(name) {
             Some(place) => Some(self.shapes[place]),
@@ -68,7 +67,7 @@ impl Lets {
     }
 
     /// The names with their policies, in the order of the text.
-    pub(crate) fn into_list(self) -> List<(List<u8>, Shared)>
+    pub(crate) fn into_list(self) -> List<(List<u8>, NamedPolicy)>
         ensures { result ≡ self.entries.items }
     {
         let Lets {
@@ -84,13 +83,13 @@ impl Lets {
         self,
         alloc: Global,
         name: &[u8],
-        policy: Shared,
+        policy: NamedPolicy,
         shape: Shape,
     ) -> Result<Lets, AllocError>
-        requires new { policy_among (lets_of self.entries.items) name.now ≡ None }
-        requires shape { shape ≡ shape_of (policy_of policy) }
-        ensures { IfOk result (λ l. lets_of l.entries.items
-            ≡ lets_of self.entries.items ++ (name.now, policy_of policy) ∷ []) }
+        requires new { policy_among self.entries.items name.now ≡ None }
+        requires shape { shape ≡ shape_of policy }
+        ensures { IfOk result (λ l. l.entries.items
+            ≡ self.entries.items ++ (name.now, policy) ∷ []) }
     {
         let Lets {
             entries,

@@ -2,7 +2,6 @@
 ghost use Rattle.std.specs.Prelude.{◌≡◌, MatchResult, [], IfOk};
 ghost use Rattle.nk_policy.specs.Tree.{tree_of};
 ghost use Rattle.nk_grammar.specs.Tree.{tree_of as written_of};
-ghost use Rattle.nk_names.specs.Meant.{lets_of};
 ghost use Rattle.nk_names.specs.ProgramOf.{Returns, predicate_fault, row_policy};
 ghost use Rattle.nk_names.specs.ProgramValue.{IsRowPolicy};
 
@@ -20,8 +19,8 @@ use std::alloc::Global;
 /// Whether the tree is a predicate that can be written out.
 fn check_predicate(fields: &Fields, lets: &Lets, ast: &Ast, line: u64) -> Result<(), NamesError>
     ensures { MatchResult result
-        (λ _. predicate_fault fields.now (lets_of lets.now.entries.items) (written_of ast.now) line ≡ None)
-        (λ e. predicate_fault fields.now (lets_of lets.now.entries.items) (written_of ast.now) line ≡ Some e) }
+        (λ _. predicate_fault fields.now lets.now.entries.items (written_of ast.now) line ≡ None)
+        (λ e. predicate_fault fields.now lets.now.entries.items (written_of ast.now) line ≡ Some e) }
 {
     refuse(first_unknown(fields, lets, ast))?;
     let kept = is_predicate(fields, lets, ast);

@@ -1,7 +1,7 @@
 //! What the checks of a policy want to know of the policies that it names.
 ghost use Rattle.std.specs.Prelude.{◌≡◌};
 ghost use Rattle.nk_grammar.specs.Tree.{tree_of};
-ghost use Rattle.nk_names.specs.Meant.{lets_of, policy_for};
+ghost use Rattle.nk_names.specs.Meant.{policy_for};
 ghost use Rattle.nk_names.specs.Shape.{shape_of};
 
 use crate::check::{depth, is_predicate, size};
@@ -20,7 +20,7 @@ pub(crate) struct Shape {
 impl Shape {
     /// What is known of the policy that the tree stands for.
     pub(crate) fn of(fields: &Fields, lets: &Lets, ast: &Ast) -> Shape
-        ensures { result ≡ shape_of (policy_for fields.now (lets_of lets.now.entries.items) (tree_of ast.now)) }
+        ensures { result ≡ shape_of (policy_for fields.now lets.now.entries.items (tree_of ast.now)) }
     {
         Shape {
             depth: depth(fields, lets, ast),

@@ -1,10 +1,9 @@
 use Rattle.std.proofs.Common.{◌≡◌, ◌<◌, length, get_or, sym, subst}
 use Rattle.std.specs.Prelude.{All}
-use Rattle.nk_names.specs.Body.{policy_of}
 use Rattle.nk_grammar.specs.File.{declaration_of}
 use Rattle.nk_names.specs.ProgramValue.{IsLet}
 use Rattle.nk_names.specs.ProgramOf.{said_in}
-use Rattle.nk_names.proofs.Going.{written_at, said_more, lets_kept, lets_in_memory}
+use Rattle.nk_names.proofs.Going.{written_at, said_more, lets_kept}
 use Rattle.nk_names.proofs.reading.program.Goals as goal
 
 pub loop-decl-preserved : goal.loop-decl-preserved
@@ -25,7 +24,5 @@ invariant_of-result c = record {
   table = c.declared-table-2.ensures.is;
   maxima = c.loop-decl.invariant.lets.maxima;
   topology = c.switches-switches.ensures.is;
-  policies =
-      subst (λ ls. All (λ l. IsLet c.loop-decl.names.declared.fields (policy_of l.1)) ls) (sym c.into_list.ensures)
-      (lets_in_memory c.loop-decl.names.declared.fields c.loop-decl.names.lets.entries.items c.loop-decl.invariant.lets.policies);
+  policies = subst (λ ls. All (λ l. IsLet c.loop-decl.names.declared.fields l.1) ls) (sym c.into_list.ensures) c.loop-decl.invariant.lets.policies;
 }

@@ -5,9 +5,8 @@ use Rattle.std.specs.HashMap.{get_by}
 use Rattle.std.specs.List.{position_from}
 use Rattle.std.specs.Str.{bytes_eq}
 use Rattle.std.proofs.lemmas.List.{map-append}
-use Rattle.nk_names.specs.Body.{policy_of}
-use Rattle.nk_names.specs.declared.body.Shared.{Shared}
-use Rattle.nk_names.specs.Meant.{lets_of, policy_among}
+use Rattle.nk_policy.specs.Policy.{Policy}
+use Rattle.nk_names.specs.Meant.{policy_among}
 use Rattle.nk_names.specs.Shape.{shape_of}
 use Rattle.nk_names.proofs.Keys.{others_stay}
 use Rattle.nk_names.proofs.Places.{placed_with}
@@ -15,7 +14,7 @@ use Rattle.nk_names.proofs.lets.Lets.with.Goals as goal
 
 pub invariant_of-result : goal.invariant_of-result
 invariant_of-result c =
-    let y : List ℕ × Shared = (c.from_vec.result, c.args.policy) in
+    let y : List ℕ × Policy = (c.from_vec.result, c.args.policy) in
     let entries : c.push-2.new.self.items ≡ c.args.self.entries.items ++ y ∷ [] = c.in_ok-push-2.ensures.items in
     let key = c.in_ok-from_slice.field-0 in
     let bytes : key.items ≡ c.args.name.now = c.in_ok-from_slice.ensures.items in
@@ -23,9 +22,9 @@ invariant_of-result c =
       shaped =
           c.in_ok-push.ensures.items
           ∙ ap (λ l. l ++ c.args.shape ∷ []) c.args.self.shaped
-          ∙ ap (λ s. map (λ e. shape_of (policy_of e.1)) c.args.self.entries.items ++ s ∷ []) c.requires.shape
-          ∙ sym (map-append (λ e. shape_of (policy_of e.1)) c.args.self.entries.items (y ∷ []))
-          ∙ ap (map (λ e. shape_of (policy_of e.1))) (sym entries);
+          ∙ ap (λ s. map (λ e. shape_of e.1) c.args.self.entries.items ++ s ∷ []) c.requires.shape
+          ∙ sym (map-append (λ e. shape_of e.1) c.args.self.entries.items (y ∷ []))
+          ∙ ap (map (λ e. shape_of e.1)) (sym entries);
       placed = λ q.
           placed_with key.items c.args.self.entries.items y
           (λ p. get_by (λ k. pointwise nat_eq p k.items) c.args.self.places)
@@ -34,6 +33,6 @@ invariant_of-result c =
           (others_stay key c.args.self.places c.insert.new.self _ c.in_ok-insert.ensures.updates)
           c.args.self.placed
           (c.from_vec.ensures ∙ c.in_ok-from_slice-2.ensures.items ∙ sym bytes)
-          (ap (policy_among (lets_of c.args.self.entries.items)) bytes ∙ c.requires.new) q
+          (ap (policy_among c.args.self.entries.items) bytes ∙ c.requires.new) q
           ∙ ap (position_from (λ e. bytes_eq e.0 q) 0) (sym entries);
     }
