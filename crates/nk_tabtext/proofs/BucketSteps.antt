@@ -31,7 +31,7 @@ use Rattle.nk_tabgrammar.specs.declared.states.State.{State}
 use Rattle.nk_tabgrammar.specs.declared.states.State.TheVariants as state
 use Rattle.nk_tabgrammar.specs.declared.states.Tells.{Tells}
 use Rattle.nk_tabgrammar.specs.declared.states.Tells.TheVariants as tells
-use Rattle.nk_tabgrammar.specs.States.{Step, after, after_in, bucket_state, in_bucket, or_else, state_of}
+use Rattle.nk_tabgrammar.specs.States.{MaybeStep, after, after_in, bucket_state, in_bucket, or_else, state_of}
 use Rattle.nk_tabtext.specs.Values.{bucket_with, line_above, row_with}
 use Rattle.nk_tabtext.specs.Progress.{group_bucket_told, row_bucket_told, out_back_told, FillingValue, PartialValue, KnownValue, number_in, word_in}
 use Rattle.nk_tabtext.proofs.Sofar.{then_same, unless_assoc}
@@ -51,7 +51,7 @@ tells_of (owner.First n) = tells.GroupBucket
 tells_of (owner.Next g) = tells.GroupBucket
 tells_of (owner.Row q ms) = tells.RowBucket
 
-abbrev after_bucket : Owner → BucketState → Kind → Step
+abbrev after_bucket : Owner → BucketState → Kind → MaybeStep
 after_bucket o at l = after_in (in_bucket o) (whole_of o) (tells_of o) at l
 
 is_after : (o : Owner) (at : BucketState) (l : Kind) → after (in_bucket o at) l ≡ after_bucket o at l

@@ -33,7 +33,7 @@ use Rattle.nk_tabgrammar.specs.declared.states.State.TheVariants as state
 use Rattle.nk_tabgrammar.specs.declared.states.Tells.{Tells}
 use Rattle.nk_tabgrammar.specs.declared.states.Tells.TheVariants as tells
 use Rattle.nk_tabgrammar.specs.States as states
-use Rattle.nk_tabgrammar.specs.States.{Step, after, state_of}
+use Rattle.nk_tabgrammar.specs.States.{MaybeStep, after, state_of}
 use Rattle.nk_declare.specs.Declarations.{number_fault, port_fault}
 use Rattle.nk_tabtext.specs.Values.{read_of, version_fault}
 use Rattle.nk_tabtext.specs.Progress.{DeclaringValue, PartialValue, KnownValue, declares_of, finished, first_partial, known_after, known_of, number_in, switch_ends_told, unless_declared, with_declaring, word_in}
@@ -370,7 +370,7 @@ link_goes : (x : WrittenTables) (c : WrittenTable) (q r : Quad) (b : Bool) (st :
     → st ≡ state_of (stage.Declared (declaring.Link r)) → ((d : DeclaringValue) → Linked q d → Linked r d) → Fits (stage.Declared (declaring.Link q)) x c k
     → Both (Follows k t) (link_on x c (if b then next.Going r else next.Refused)) (if b then Some (st, tells.Nothing) else None)
 link_goes x c q r b st k t e step h =
-    both_through (Follows k t) (link_on x c) (λ (z : Step). z) b (next.Going r) next.Refused (Some (st, tells.Nothing)) None
+    both_through (Follows k t) (link_on x c) (λ (z : MaybeStep). z) b (next.Going r) next.Refused (Some (st, tells.Nothing)) None
     (e, (h.0, gives_still (declared_so x) (Links x q) (Links x r) k t (λ v p d. (d.0, step p.declaring d.1)) h.1)) tt
 
 pub step_link : (x : WrittenTables) (c : WrittenTable) (q : Quad) (k : KnownValue) (t : Token) → Fits (stage.Declared (declaring.Link q)) x c k

@@ -8,12 +8,12 @@ use Rattle.nk_tabgrammar.specs.Terminal.{Terminal, name, number, mark, place_of,
 use Rattle.nk_tabgrammar.specs.Machine.{Reading}
 use Rattle.nk_tabgrammar.specs.declared.states.State.{State}
 use Rattle.nk_tabgrammar.specs.declared.states.Tells.{Tells}
-use Rattle.nk_tabgrammar.specs.States.{Step, or_else, state_of}
+use Rattle.nk_tabgrammar.specs.States.{MaybeStep, or_else, state_of}
 use Rattle.nk_tabtext.specs.Progress.{KnownValue, known_after, number_in, word_in}
 use Rattle.nk_tabtext.proofs.Fitting.{Fits}
 
 -- both stop, or both go on so
-abbrev pub Both : (Reading → State × Tells → Type 0) → Option Reading → Step → Type 0
+abbrev pub Both : (Reading → State × Tells → Type 0) → Option Reading → MaybeStep → Type 0
 Both R None None = Unit {0}
 Both R (Some r) (Some s) = R r s
 Both R a b = ⊥
@@ -28,7 +28,7 @@ pub record IsMark (k : Kind) : Type 0 where
   pub numbered : (place_of kind.Number == place_of k) ≡ false
 
 -- by what a token is
-by_kind : (R : Reading → State × Tells → Type 0) (f : Terminal → Option Reading) (g : Kind → Step) (t : Token) (k : Kind)
+by_kind : (R : Reading → State × Tells → Type 0) (f : Terminal → Option Reading) (g : Kind → MaybeStep) (t : Token) (k : Kind)
     → Both R (f (name (word_in t))) (g kind.Name) → Both R (f (number (number_in t))) (g kind.Number) → ((l : Kind) → IsMark l → Both R (f (mark l)) (g l))
     → Both R (f (terminal_from k t.line t.value t.text)) (g k)
 by_kind R f g t kind.Name a b m = a
@@ -70,14 +70,14 @@ by_kind R f g t kind.DotDot a b m = m kind.DotDot (record { named = refl; number
 by_kind R f g t kind.OpenBracket a b m = m kind.OpenBracket (record { named = refl; numbered = refl })
 by_kind R f g t kind.CloseBracket a b m = m kind.CloseBracket (record { named = refl; numbered = refl })
 
-pub by_token : (R : Reading → State × Tells → Type 0) (f : Terminal → Option Reading) (g : Kind → Step) (t : Token)
+pub by_token : (R : Reading → State × Tells → Type 0) (f : Terminal → Option Reading) (g : Kind → MaybeStep) (t : Token)
     → Both R (f (name (word_in t))) (g kind.Name) → Both R (f (number (number_in t))) (g kind.Number) → ((l : Kind) → IsMark l → Both R (f (mark l)) (g l))
     → Both R (f (terminal_of t)) (g t.kind)
 by_token R f g t a b m = by_kind R f g t t.kind a b m
 
 module _ (R : Reading → State × Tells → Type 0) where
   -- where a kind comes that both go on with
-  pub both_if : (b : Bool) (r : Reading) (s : State × Tells) (x : Option Reading) (z : Step) → R r s → Both R x z
+  pub both_if : (b : Bool) (r : Reading) (s : State × Tells) (x : Option Reading) (z : MaybeStep) → R r s → Both R x z
       → Both R (if b then Some r else x) (or_else (if b then Some s else None) z)
   both_if true r s x z here other = here
   both_if false r s x z here other = other
@@ -91,16 +91,16 @@ module _ (R : Reading → State × Tells → Type 0) where
   none_if true s e = absurd cc
   none_if false s e = tt
 
-  pub none_then : (b : Bool) (s : State × Tells) (x : Option Reading) (z : Step) → b ≡ false → Both R x z → Both R x (or_else (if b then Some s else None) z)
+  pub none_then : (b : Bool) (s : State × Tells) (x : Option Reading) (z : MaybeStep) → b ≡ false → Both R x z → Both R x (or_else (if b then Some s else None) z)
   none_then true s x z e other = absurd cc
   none_then false s x z e other = other
 
-module _ {A B : Type 0} (R : Reading → State × Tells → Type 0) (f : A → Option Reading) (g : B → Step) where
+module _ {A B : Type 0} (R : Reading → State × Tells → Type 0) (f : A → Option Reading) (g : B → MaybeStep) where
   pub both_through : (b : Bool) (x y : A) (u w : B) → Both R (f x) (g u) → Both R (f y) (g w) → Both R (f (if b then x else y)) (g (if b then u else w))
   both_through true x y u w here other = here
   both_through false x y u w here other = other
 
-module _ {B : Type 0} (R : Reading → State × Tells → Type 0) (g : B → Step) where
+module _ {B : Type 0} (R : Reading → State × Tells → Type 0) (g : B → MaybeStep) where
   pub none_through : (b : Bool) (x : Option Reading) (u w : B) → b ≡ false → Both R x (g w) → Both R x (g (if b then u else w))
   none_through true x u w e other = absurd cc
   none_through false x u w e other = other

@@ -26,7 +26,7 @@ use Rattle.nk_tabgrammar.specs.declared.states.RowState.TheVariants as row
 use Rattle.nk_tabgrammar.specs.declared.states.State.TheVariants as state
 use Rattle.nk_tabgrammar.specs.declared.states.Tells.TheVariants as tells
 use Rattle.nk_tabgrammar.specs.States as states
-use Rattle.nk_tabgrammar.specs.States.{Step, after, after_in, bucket_state, in_bucket, or_else, state_of}
+use Rattle.nk_tabgrammar.specs.States.{MaybeStep, after, after_in, bucket_state, in_bucket, or_else, state_of}
 use Rattle.nk_tabtext.specs.Values.{FaultLine, digits_in, has_key, length_fault, line_above, line_if, ones_fault, put_match, row_with}
 use Rattle.nk_tabtext.specs.Progress.{row_drop_told, KnownValue, known_after, match_set, number_in, row_ends, word_in}
 use Rattle.nk_tabtext.proofs.Stages.{so_far, with_matches, rowed_so, matched_so, called_so, tested_so, is_matched, word_fault, row_more_group, row_more_drop, match_more, match_more_length}

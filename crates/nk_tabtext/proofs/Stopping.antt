@@ -11,7 +11,7 @@ use Rattle.nk_tabgrammar.specs.declared.states.State.{State}
 use Rattle.nk_tabgrammar.specs.declared.stage.Stage.{Stage}
 use Rattle.nk_tabgrammar.specs.declared.written.WrittenTable.{WrittenTable}
 use Rattle.nk_tabgrammar.specs.declared.written.WrittenTables.{WrittenTables}
-use Rattle.nk_tabgrammar.specs.States.{Step, after, state_of}
+use Rattle.nk_tabgrammar.specs.States.{MaybeStep, after, state_of}
 use Rattle.nk_tabgrammar.proofs.Spelled.{front_of, none_some}
 use Rattle.nk_tabgrammar.proofs.Passing.{text_passes}
 use Rattle.nk_tabgrammar.proofs.Completing.{completes}
@@ -37,7 +37,7 @@ stops_here (t ∷ ts) s x c k line h =
     ap (λ p. is_stopped (fold progress_after p ts).known) (goes_on k (at_place (state_of s) line k) t (going s x c k h))
     ∙ by (next_reading s x c (terminal_of t)) (after (state_of s) t.kind) (λ r l f. stops_here ts r.stage r.text r.table l t.line f) (step s x c k t h)
   where
-    by : (r : Option Reading) (z : Step)
+    by : (r : Option Reading) (z : MaybeStep)
         → ((r : Reading) (l : KnownValue) → Fits r.stage r.text r.table l
         → is_stopped (fold progress_after (at_place (state_of r.stage) t.line l) ts).known ≡ is_none (read_all (terminals ts) r))
         → Both (Follows k t) r z

@@ -32,7 +32,7 @@ use Rattle.nk_tabgrammar.specs.declared.states.State.TheVariants as state
 use Rattle.nk_tabgrammar.specs.declared.states.Tells.{Tells}
 use Rattle.nk_tabgrammar.specs.declared.states.Tells.TheVariants as tells
 use Rattle.nk_tabgrammar.specs.States as states
-use Rattle.nk_tabgrammar.specs.States.{Step, after, after_in, bucket_state, in_bucket, or_else, state_of}
+use Rattle.nk_tabgrammar.specs.States.{MaybeStep, after, after_in, bucket_state, in_bucket, or_else, state_of}
 use Rattle.nk_tabtext.specs.Values.{FaultLine, checked, group_fault, group_of, table_fault, table_with}
 use Rattle.nk_tabtext.specs.Progress.{FillingValue, PartialValue, KnownValue, finished, finished_at, group_ends_told, known_after, number_in}
 use Rattle.nk_tabtext.proofs.Stages.{Sofar, so_far, with_sets, tabled_so, grouped_so, rowed_so, numbered_so, filled_so, owned_so, assigned_so, table_more, no_row_more, group_more}

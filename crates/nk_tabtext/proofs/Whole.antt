@@ -22,7 +22,7 @@ use Rattle.nk_tabgrammar.specs.declared.states.BucketState.{BucketState}
 use Rattle.nk_tabgrammar.specs.declared.states.State.{State}
 use Rattle.nk_tabgrammar.specs.declared.states.Tells.{Tells}
 use Rattle.nk_tabgrammar.specs.declared.states.Tells.TheVariants as tells
-use Rattle.nk_tabgrammar.specs.States.{Step, after, bucket_state, in_bucket, state_of}
+use Rattle.nk_tabgrammar.specs.States.{MaybeStep, after, bucket_state, in_bucket, state_of}
 use Rattle.nk_tabtext.specs.Values.{group_of, line_if, unless_at}
 use Rattle.nk_tabtext.specs.Progress.{PartialValue, KnownValue, finished, known_after}
 use Rattle.nk_tabtext.proofs.Sofar.{then_assoc}
@@ -247,7 +247,7 @@ from_here (t ∷ ts) s x c k line h =
     ap (λ p. tables_of_progress (fold progress_after p ts)) (goes_on k (at_place (state_of s) line k) t (going s x c k h))
     ∙ by (next_reading s x c (terminal_of t)) (after (state_of s) t.kind) (λ r l f. from_here ts r.stage r.text r.table l t.line f) (step s x c k t h)
   where
-    by : (r : Option Reading) (z : Step)
+    by : (r : Option Reading) (z : MaybeStep)
         → ((r : Reading) (l : KnownValue) → Fits r.stage r.text r.table l
         → tables_of_progress (fold progress_after (at_place (state_of r.stage) t.line l) ts) ≡ and_then (rest_of_text ts r t.line) (λ y. tables_from (last_line t.line ts) y))
         → Both (Follows k t) r z

@@ -1,7 +1,6 @@
 -- A table text read token by token: what is known of the tokens so far, and how one more changes it. `end` says what the text
 -- is, and the law is that this is what the whole text writes (`tables_of_tokens`).
-use Rattle.std.specs.Prelude.{◌≡◌, ◌↔◌, ℕ, ◌==◌, not, nat_lt, Bool, true, false, Option, Some, None, Ok, Err, is_none, if◌then◌else◌, map, unwrap_or, List, [], ◌∷◌, ◌++◌, fold, ⊤}
-use Rattle.std.specs.Prelude.{slice_index}
+use Rattle.std.specs.Prelude.{◌≡◌, ◌↔◌, ℕ, ◌==◌, not, nat_lt, Bool, true, false, Option, Some, None, Ok, Err, is_none, if◌then◌else◌, map, unwrap_or, List, [], ◌∷◌, ◌++◌, fold, slice_index, ⊤}
 use Rattle.std.specs.declared.result.Result.{Result}
 use Rattle.std.specs.List.{list_any}
 use Rattle.std.specs.Ordering.{nat_cmp}
@@ -24,8 +23,7 @@ use Rattle.nk_table.specs.declared.Tables.{Tables}
 use Rattle.nk_table.specs.declared.Target.{Target}
 use Rattle.nk_table.specs.declared.Target.TheVariants as does
 use Rattle.nk_declare.specs.declared.fault.DeclareError.{DeclareError}
-use Rattle.nk_declare.specs.Declarations.{DeclaredValue, MaybeFault, nothing_declared, declared_with, is_from}
-use Rattle.nk_declare.specs.Declarations.{number_fault, port_fault}
+use Rattle.nk_declare.specs.Declarations.{DeclaredValue, MaybeFault, nothing_declared, declared_with, is_from, number_fault, port_fault}
 use Rattle.nk_declare.specs.Declarations as declare
 use Rattle.nk_tabgrammar.specs.declared.states.State.{State}
 use Rattle.nk_tabgrammar.specs.declared.states.State.TheVariants as state
@@ -187,8 +185,8 @@ match_name_told fields f t =
 abbrev pub set_value_told : FillingValue → Token → Result FillingValue ReadError
 set_value_told f t = unless_at (line_above f.max (number_in t)) (record f { sets = act_then f.sets ((f.field, t.value) ∷ []) })
 
-abbrev pub match_value_told : FillingValue → Token → Result FillingValue ReadError
 -- the match is the exact one, unless a length follows
+abbrev pub match_value_told : FillingValue → Token → Result FillingValue ReadError
 match_value_told f t =
     unless_at (line_above f.max (number_in t))
     (record f { matches = put_match (f.field, t.value, digits_of f.max) f.matches; value = number_in t })
@@ -348,7 +346,7 @@ abbrev pub step_on : Option (State × Tells) → Progress → Token → Progress
 step_on None p t = record p { known = Stopped t.line }
 step_on (Some s) p t = record { state = s.0; line = t.line; known = known_after p.known s.1 t }
 
--- one more token; none where no text goes on any more
+-- one more token, which changes nothing where no text goes on any more
 abbrev pub progress_on : KnownValue → Progress → Token → Progress
 progress_on (Stopped line) p t = p
 progress_on k p t = step_on (after p.state t.kind) p t

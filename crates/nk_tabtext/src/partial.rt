@@ -17,7 +17,7 @@ use nk_table::Tables;
 use std::alloc::{AllocError, Global};
 use std::collections::BTreeMap;
 
-/// The version, what is declared, the tables so far by switch, that which is read being empty among them, and what is read of it.
+/// The version, what is declared, the whole tables by switch, and what is read of the next one.
 #[derive(Drop)]
 pub(crate) struct Partial {
     version: u64,
