@@ -17,11 +17,13 @@ pub fn compare(
 ) -> Result<Compared, CompareError>
     ensures { IsCompared program.now left.now right.now result }
 {
-    let Some(p) = program.find(alloc, left)? else {
+    let Some(on_left) = program.find(left) else {
         return Err(CompareError::NoPolicy);
     };
-    let Some(q) = program.find(alloc, right)? else {
+    let Some(on_right) = program.find(right) else {
         return Err(CompareError::NoPolicy);
     };
+    let p = on_left.written(alloc)?;
+    let q = on_right.written(alloc)?;
     Ok(compare_policies(alloc, &program.fields, &p, &q)?)
 }

@@ -30,12 +30,14 @@ pub fn check(
     requires { HasPredicates (certificate_value certificate.now) }
     ensures { IsChecked program.now left.now right.now (certificate_value certificate.now) result }
 {
-    let Some(p) = program.find(alloc, left)? else {
+    let Some(on_left) = program.find(left) else {
         return Err(CheckError::NoPolicy);
     };
-    let Some(q) = program.find(alloc, right)? else {
+    let Some(on_right) = program.find(right) else {
         return Err(CheckError::NoPolicy);
     };
+    let p = on_left.written(alloc)?;
+    let q = on_right.written(alloc)?;
     Ok(check_both(alloc, &program.fields, &p, &q, certificate)?)
 }
 

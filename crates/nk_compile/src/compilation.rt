@@ -40,8 +40,9 @@ pub fn compile_counted(
 ) -> Result<Counted, CompileError>
     ensures { IsCountedAnswer program.now name.now result }
 {
-    let Some(p) = program.find(alloc, name)? else {
+    let Some(named) = program.find(name) else {
         return Err(CompileError::Refused(Refusal::NoPolicy));
     };
+    let p = named.written(alloc)?;
     policy_tables(alloc, &program.fields, &program.topo, &p)
 }

@@ -272,13 +272,11 @@ fn all_agree(
 /// Whether the certificate of two policies that do the same is found valid, and each change of it as the definition says,
 /// also for another policy on the right.
 fn holds_of(alloc: Global, program: &Program, c: &Certificate) -> Result<bool, Fail> {
-    let (Some(l), Some(r), Some(s)) = (
-        program.find(alloc, "l")?,
-        program.find(alloc, "r")?,
-        program.find(alloc, "s")?,
-    ) else {
+    let (Some(l), Some(r), Some(s)) = (program.find("l"), program.find("r"), program.find("s"))
+    else {
         return Ok(false);
     };
+    let (l, r, s) = (l.written(alloc)?, r.written(alloc)?, s.written(alloc)?);
     let same = Pair {
         program,
         right: "s",

@@ -163,13 +163,17 @@ fn agrees(alloc: Global, program: &Program, query: &Query, asked: Asked) -> Resu
 fn both_agree(alloc: Global, text: &[u8]) -> Result<bool, Fail> {
     let program = declared(alloc, text)?;
     let (Some(policy), Some(from), Some(middle), Some(target)) = (
-        program.find(alloc, "p")?,
-        program.find(alloc, "a")?,
-        program.find(alloc, "w")?,
-        program.find(alloc, "z")?,
+        program.find("p"),
+        program.find("a"),
+        program.find("w"),
+        program.find("z"),
     ) else {
         return Ok(false);
     };
+    let policy = policy.written(alloc)?;
+    let from = from.written(alloc)?;
+    let middle = middle.written(alloc)?;
+    let target = target.written(alloc)?;
     let apart = Query::Apart {
         name: "p",
         from: "a",

@@ -36,13 +36,11 @@ fn agree(alloc: Global, program: &Program, p: &Pol, q: &Pol, right: &str) -> Res
 
 /// Whether the answers for two policies, and for the first one in other words, are what their histories say.
 pub fn agree_on(alloc: Global, program: &Program) -> Result<bool, Fail> {
-    let (Some(l), Some(r), Some(s)) = (
-        program.find(alloc, "l")?,
-        program.find(alloc, "r")?,
-        program.find(alloc, "s")?,
-    ) else {
+    let (Some(l), Some(r), Some(s)) = (program.find("l"), program.find("r"), program.find("s"))
+    else {
         return Ok(false);
     };
+    let (l, r, s) = (l.written(alloc)?, r.written(alloc)?, s.written(alloc)?);
     Ok(agree(alloc, program, &l, &r, "r")? && agree(alloc, program, &l, &s, "s")?)
 }
 

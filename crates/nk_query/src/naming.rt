@@ -43,15 +43,18 @@ fn named_apart(
     ensures is { IsQuestion program.now (asks_apart name.now from.now target.now) result }
     ensures fit { IfOk result (λ q. IsFitFor program.now.fields (tree_of q)) }
 {
-    let Some(p) = program.find(alloc, name)? else {
+    let Some(over) = program.find(name) else {
         return Err(QueryError::NoPolicy);
     };
-    let Some(a) = program.find(alloc, from)? else {
+    let Some(start) = program.find(from) else {
         return Err(QueryError::NoPolicy);
     };
-    let Some(b) = program.find(alloc, target)? else {
+    let Some(end) = program.find(target) else {
         return Err(QueryError::NoPolicy);
     };
+    let p = over.written(alloc)?;
+    let a = start.written(alloc)?;
+    let b = end.written(alloc)?;
     apart(alloc, &p, &a, &b)
 }
 
@@ -67,17 +70,21 @@ fn named_waypoint(
     ensures is { IsQuestion program.now (asks_waypoint name.now from.now middle.now target.now) result }
     ensures fit { IfOk result (λ q. IsFitFor program.now.fields (tree_of q)) }
 {
-    let Some(p) = program.find(alloc, name)? else {
+    let Some(over) = program.find(name) else {
         return Err(QueryError::NoPolicy);
     };
-    let Some(a) = program.find(alloc, from)? else {
+    let Some(start) = program.find(from) else {
         return Err(QueryError::NoPolicy);
     };
-    let Some(m) = program.find(alloc, middle)? else {
+    let Some(way) = program.find(middle) else {
         return Err(QueryError::NoPolicy);
     };
-    let Some(b) = program.find(alloc, target)? else {
+    let Some(end) = program.find(target) else {
         return Err(QueryError::NoPolicy);
     };
+    let p = over.written(alloc)?;
+    let a = start.written(alloc)?;
+    let m = way.written(alloc)?;
+    let b = end.written(alloc)?;
     waypoint(alloc, &p, &a, &m, &b)
 }

@@ -1,19 +1,12 @@
 -- A program has the policy as its one let, and it is accepted.
 use Rattle.std.proofs.Common.{◌≡◌, ℕ, ◌<◌, ◌≤◌, zero, suc, ⊎_elim, Some, List, [], ◌∷◌, codes, refl, sym, ap, subst, arith}
 use Rattle.std.specs.Prelude.{AllPairs, Contains}
-use denote.RawPtr.{null_ptr}
 use Rattle.nk_field.proofs.Lists.{In}
 use Rattle.nk_field.proofs.Ascending.{all_from_members}
 use Rattle.nk_topo.specs.Topology.{IsTopology, SwitchPorts}
-use Rattle.nk_policy.specs.Policy.{marked_from}
+use Rattle.nk_policy.specs.Policy.{Policy}
 use Rattle.nk_names.specs.Accepted.{IsAccepted}
-use Rattle.nk_names.specs.Body.{policy_of}
 use Rattle.nk_names.specs.ProgramValue.{IsProgram, IsLet}
-use Rattle.nk_names.specs.declared.body.Bodies.{Bodies}
-use Rattle.nk_names.specs.declared.body.Body.{Test, Set, Link}
-use Rattle.nk_names.specs.declared.body.Body.TheViews.{Seq}
-use Rattle.nk_names.specs.declared.body.Shared.{Shared}
-use Rattle.nk_names.proofs.Bodies.{policy_in_seq}
 use Rattle.nk_table.specs.Worked.{one_link}
 use Rattle.nk_compile.specs.Carries.{Carries}
 use Rattle.nk_compile.proofs.Printed.{accepted_carries}
@@ -22,28 +15,6 @@ use Rattle.nk_worked.specs.TheirTable.{program_with, IsAcceptedThere}
 use Rattle.nk_worked.proofs.States.{there}
 use Rattle.nk_worked.proofs.TagSet.{compilable, is_the_one}
 use Rattle.nk_worked.proofs.Tables.{all_of_one, all_of_two, fields_are, links_are, in_range, table_is}
-
--- the parts, as a program holds them
-abbrev parts : Bodies
-parts = record {
-  items = record {
-    ptr = null_ptr;
-    len = 5;
-    cap = 5;
-    alloc = record { memory = record { seal = tt } };
-    items = Test 0 1 ∷ Test 1 1 ∷ Set 1 2 ∷ Link 1 2 2 1 ∷ Set 1 2 ∷ [];
-    ok = (refl, omega arith);
-    small = omega arith;
-  };
-}
-
--- the policy, as a program holds it
-pub held : Shared
-held = record { body = record { ptr = null_ptr; value = Seq parts } }
-
-pub held_is : policy_of held ≡ over_one_link
-unfolding held
-held_is = ap (λ p. marked_from p 1) (policy_in_seq parts)
 
 -- a number in range
 within : (m : ℕ) → In (65535 ∷ 65535 ∷ 3 ∷ 7 ∷ []) m → m ≤ 281474976710655
@@ -95,28 +66,26 @@ is_let = record {
   complements = (tt, (tt, (tt, (tt, (tt, tt)))));
 }
 
-pub is_program : IsProgram dst_and_tag one_link ((codes "p", held) ∷ [])
+pub is_program : IsProgram dst_and_tag one_link ((codes "p", over_one_link) ∷ [])
 is_program = record {
   table = fields_are;
   maxima = all_from_members (λ m. m ≤ 281474976710655) (65535 ∷ 65535 ∷ 3 ∷ 7 ∷ []) within;
   topology = topology_is;
-  policies = all_of_one (λ (l : List ℕ × Shared). IsLet dst_and_tag (policy_of l.1)) (codes "p", held) (subst (IsLet dst_and_tag) (sym held_is) is_let);
+  policies = all_of_one (λ (l : List ℕ × Policy). IsLet dst_and_tag l.1) (codes "p", over_one_link) is_let;
 }
 
-pub is_accepted : IsAccepted (program_with held) over_one_link
+pub is_accepted : IsAccepted (program_with over_one_link) over_one_link
 is_accepted = (compilable, (one_set, omega arith, λ s h. subst (λ q. Contains one_set q) (sym (is_the_one s h)) (there (1 ∷ []))))
 
 -- the law on printed tables, of this program
-pub carried : Carries (program_with held) over_one_link two_tables
+pub carried : Carries (program_with over_one_link) over_one_link two_tables
 carried =
-    accepted_carries (program_with held) (codes "p") over_one_link two_tables is_program (ap Some held_is) is_accepted table_is
+    accepted_carries (program_with over_one_link) (codes "p") over_one_link two_tables is_program refl is_accepted table_is
 
 pub accepted : IsAcceptedThere
 accepted = record {
-  held = held;
-  policy = held_is;
   program = is_program;
-  named = ap Some held_is;
+  named = refl;
   accepted = is_accepted;
   table = table_is;
   carries = carried;

@@ -3,16 +3,15 @@
 use Rattle.std.specs.Prelude.{◌≡◌, ℕ, Some, List, [], ◌∷◌, ◌++◌, codes}
 use Rattle.nk_field.specs.Packet.{IsFieldTable}
 use Rattle.nk_topo.specs.Topology.{AreLinks}
+use Rattle.nk_policy.specs.Policy.{Policy}
 use Rattle.nk_policy.specs.Meaning.{Gives}
 use Rattle.nk_policy.specs.Distinct.{HasDistinct}
 use Rattle.nk_policy.specs.Ranges.{IsInRange}
 use Rattle.nk_policy.specs.Tags.{AreTags}
 use Rattle.nk_names.specs.Accepted.{IsStart, IsCompilable, IsAccepted}
-use Rattle.nk_names.specs.Body.{policy_of}
 use Rattle.nk_names.specs.Named.{policy_named}
 use Rattle.nk_names.specs.ProgramValue.{IsProgram}
 use Rattle.nk_names.specs.declared.Program.{Program}
-use Rattle.nk_names.specs.declared.body.Shared.{Shared}
 use Rattle.nk_table.specs.Worked.{one_link, packet}
 use Rattle.nk_table.specs.Hops.{Copy, left_after, waiting}
 use Rattle.nk_tabtext.specs.InOrder.{AreInOrder}
@@ -32,18 +31,16 @@ pub record IsPrintedThere : Type 0 where
   pub table : IsTableOf dst_and_tag one_link (IsStart dst_and_tag one_link) over_one_link two_tables
 
 -- the program whose one let has the name p
-abbrev pub program_with : Shared → Program
+abbrev pub program_with : Policy → Program
 program_with q = record { fields = dst_and_tag; topo = one_link; lets = (codes "p", q) ∷ [] }
 
 -- a program has the policy under the name p, with all that the law asks of an accepted policy; so the tables carry it
 pub record IsAcceptedThere : Type 0 where
-  pub held : Shared
-  pub policy : policy_of held ≡ over_one_link
-  pub program : IsProgram dst_and_tag one_link ((codes "p", held) ∷ [])
-  pub named : policy_named (program_with held) (codes "p") ≡ Some over_one_link
-  pub accepted : IsAccepted (program_with held) over_one_link
+  pub program : IsProgram dst_and_tag one_link ((codes "p", over_one_link) ∷ [])
+  pub named : policy_named (program_with over_one_link) (codes "p") ≡ Some over_one_link
+  pub accepted : IsAccepted (program_with over_one_link) over_one_link
   pub table : IsTableOf dst_and_tag one_link (IsStart dst_and_tag one_link) over_one_link two_tables
-  pub carries : Carries (program_with held) over_one_link two_tables
+  pub carries : Carries (program_with over_one_link) over_one_link two_tables
 
 -- the packet that enters at port 1 of switch 1 with dst 3, and the history with which it leaves
 abbrev pub entering : List ℕ

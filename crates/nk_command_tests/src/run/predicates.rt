@@ -81,8 +81,8 @@ fn is_kept(alloc: Global, predicate: &[u8], largest: Largest) -> Result<bool, Fa
     let text = side_by_side(alloc, predicate, other, largest)?;
     let read = tokens(alloc, &text)?;
     let declared = declared_by(alloc, &read)?;
-    match (declared.find(alloc, "p")?, declared.find(alloc, "q")?) {
-        (Some(p), Some(q)) => Ok(agree(alloc, &p, &q, largest)?),
+    match (declared.find("p"), declared.find("q")) {
+        (Some(p), Some(q)) => Ok(agree(alloc, &p.written(alloc)?, &q.written(alloc)?, largest)?),
         _ => Ok(false),
     }
 }

@@ -111,8 +111,8 @@ fn is_carried(alloc: Global, policy: &[u8], largest: Largest) -> Result<bool, Fa
     let read = tokens(alloc, &text)?;
     let declared = declared_by(alloc, &read)?;
     let tables = compile(alloc, &declared, "p")?;
-    match declared.find(alloc, "p")? {
-        Some(p) => Ok(agree(alloc, &p, &tables, largest)?),
+    match declared.find("p") {
+        Some(p) => Ok(agree(alloc, &p.written(alloc)?, &tables, largest)?),
         None => Ok(false),
     }
 }

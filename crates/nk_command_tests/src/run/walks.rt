@@ -135,8 +135,8 @@ fn is_carried(alloc: Global, text: &[u8]) -> Result<bool, Fail> {
     let Ok(tables) = read_tables(alloc, out.taken()) else {
         return Ok(false);
     };
-    match declared.find(alloc, "q")? {
-        Some(q) => Ok(agree(alloc, &q, &tables)?),
+    match declared.find("q") {
+        Some(q) => Ok(agree(alloc, &q.written(alloc)?, &tables)?),
         None => Ok(false),
     }
 }

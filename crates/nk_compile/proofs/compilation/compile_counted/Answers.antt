@@ -1,4 +1,4 @@
-use Rattle.std.proofs.Common.{ℕ, ◌+◌, ◌<◌, sym, subst}
+use Rattle.std.proofs.Common.{ℕ, ◌+◌, ◌<◌, Some, sym, ap, subst, ◌∙◌}
 use Rattle.std.specs.Prelude.{IfOk, IfErr, slice_index}
 use Rattle.nk_policy.specs.Ranges.{IsInRange}
 use Rattle.nk_names.specs.ProgramValue.{ProgramValue}
@@ -10,29 +10,29 @@ use Rattle.nk_compile.proofs.compilation.compile_counted.Goals as goal
 
 pub policy_tables-requires-clause-numbered : goal.policy_tables-requires-clause-numbered
 policy_tables-requires-clause-numbered c =
-    (let_named c.args.program.now c.args.name.now (tree_of c.in-Some.p) c.in_ok-find.ensures.is (sym c.in-Some.ensures.found)).numbered
+    (let_named c.args.program.now c.args.name.now (tree_of c.in_ok-p.p) c.find.ensures.is (sym c.in-Some.ensures.found ∙ ap Some (sym c.in_ok-p.ensures))).numbered
 
 pub policy_tables-requires-clause-few : goal.policy_tables-requires-clause-few
 policy_tables-requires-clause-few c =
-    has_few_dups c.args.program.now.fields (tree_of c.in-Some.p)
-    (let_named c.args.program.now c.args.name.now (tree_of c.in-Some.p) c.in_ok-find.ensures.is (sym c.in-Some.ensures.found))
+    has_few_dups c.args.program.now.fields (tree_of c.in_ok-p.p)
+    (let_named c.args.program.now c.args.name.now (tree_of c.in_ok-p.p) c.find.ensures.is (sym c.in-Some.ensures.found ∙ ap Some (sym c.in_ok-p.ensures)))
 
 pub policy_tables-requires-clause-room : goal.policy_tables-requires-clause-room
 policy_tables-requires-clause-room c =
-    subst (λ (v : ProgramValue). (f : ℕ) → slice_index v.fields.maxima f + 1 < 18446744073709551616) (sym c.program.view_is) (has_room c.args.program.now c.in_ok-find.ensures.is)
+    subst (λ (v : ProgramValue). (f : ℕ) → slice_index v.fields.maxima f + 1 < 18446744073709551616) (sym c.program.view_is) (has_room c.args.program.now c.find.ensures.is)
 
 pub policy_tables-requires-clause-complements : goal.policy_tables-requires-clause-complements
 policy_tables-requires-clause-complements c =
-    (let_named c.args.program.now c.args.name.now (tree_of c.in-Some.p) c.in_ok-find.ensures.is (sym c.in-Some.ensures.found)).complements
+    (let_named c.args.program.now c.args.name.now (tree_of c.in_ok-p.p) c.find.ensures.is (sym c.in-Some.ensures.found ∙ ap Some (sym c.in_ok-p.ensures))).complements
 
 pub policy_tables-requires-clause-range : goal.policy_tables-requires-clause-range
 policy_tables-requires-clause-range c =
-    subst (λ (v : ProgramValue). IsInRange (tree_of c.in-Some.p) v.fields) (sym c.program.view_is)
-    (let_named c.args.program.now c.args.name.now (tree_of c.in-Some.p) c.in_ok-find.ensures.is (sym c.in-Some.ensures.found)).in_range
+    subst (λ (v : ProgramValue). IsInRange (tree_of c.in_ok-p.p) v.fields) (sym c.program.view_is)
+    (let_named c.args.program.now c.args.name.now (tree_of c.in_ok-p.p) c.find.ensures.is (sym c.in-Some.ensures.found ∙ ap Some (sym c.in_ok-p.ensures))).in_range
 
 pub returns : goal.returns
 returns c =
-    answer_named c.args.program.now c.args.name.now (tree_of c.in-Some.p) c.policy_tables.result c.in_ok-find.ensures.is (sym c.in-Some.ensures.found)
-    (subst (λ (v : ProgramValue). IfOk c.policy_tables.result (λ r. IsMade v.fields v.topo (tree_of c.in-Some.p) r.tables)) c.program.view_is c.policy_tables.ensures.made)
-    (subst (λ (v : ProgramValue). IfOk c.policy_tables.result (λ r. HasTagSets v.fields v.topo (tree_of c.in-Some.p) r.tag_sets)) c.program.view_is c.policy_tables.ensures.counted)
-    (subst (λ (v : ProgramValue). IfErr c.policy_tables.result (IsError v.fields v.topo (tree_of c.in-Some.p))) c.program.view_is c.policy_tables.ensures.error)
+    answer_named c.args.program.now c.args.name.now (tree_of c.in_ok-p.p) c.policy_tables.result c.find.ensures.is (sym c.in-Some.ensures.found ∙ ap Some (sym c.in_ok-p.ensures))
+    (subst (λ (v : ProgramValue). IfOk c.policy_tables.result (λ r. IsMade v.fields v.topo (tree_of c.in_ok-p.p) r.tables)) c.program.view_is c.policy_tables.ensures.made)
+    (subst (λ (v : ProgramValue). IfOk c.policy_tables.result (λ r. HasTagSets v.fields v.topo (tree_of c.in_ok-p.p) r.tag_sets)) c.program.view_is c.policy_tables.ensures.counted)
+    (subst (λ (v : ProgramValue). IfErr c.policy_tables.result (IsError v.fields v.topo (tree_of c.in_ok-p.p))) c.program.view_is c.policy_tables.ensures.error)

@@ -1,4 +1,4 @@
-use Rattle.std.proofs.Common.{sym}
+use Rattle.std.proofs.Common.{Some, sym, ap, ◌∙◌}
 use Rattle.nk_policy.specs.Tree.{tree_of}
 use Rattle.nk_query.specs.Asked.{apart_of}
 use Rattle.nk_query.specs.Asked.{apart as asks_apart}
@@ -8,14 +8,14 @@ use Rattle.nk_query.proofs.naming.named_apart.Goals as goal
 pub returns-clause-is : goal.returns-clause-is
 returns-clause-is c =
     named_made c.args.program.now (asks_apart c.args.name.now c.args.from.now c.args.target.now)
-    (apart_of (tree_of c.in-Some.p) (tree_of c.in-Some-find.a) (tree_of c.in-Some-find-2.b))
-    (sym c.in-Some.ensures.found, sym c.in-Some-find.ensures.found, sym c.in-Some-find-2.ensures.found)
+    (apart_of (tree_of c.in_ok-p.p) (tree_of c.in_ok-a.a) (tree_of c.in_ok-b.b))
+    (sym c.in-Some.ensures.found ∙ ap Some (sym c.in_ok-p.ensures), sym c.in-Some-find.ensures.found ∙ ap Some (sym c.in_ok-a.ensures), sym c.in-Some-find-2.ensures.found ∙ ap Some (sym c.in_ok-b.ensures))
     c.apart.result c.apart.ensures
 
 pub returns-clause-fit : goal.returns-clause-fit
 returns-clause-fit c =
     made_fit c.args.program.now (asks_apart c.args.name.now c.args.from.now c.args.target.now)
-    (apart_of (tree_of c.in-Some.p) (tree_of c.in-Some-find.a) (tree_of c.in-Some-find-2.b))
-    c.in_ok-find.ensures.is
-    (sym c.in-Some.ensures.found, sym c.in-Some-find.ensures.found, sym c.in-Some-find-2.ensures.found)
+    (apart_of (tree_of c.in_ok-p.p) (tree_of c.in_ok-a.a) (tree_of c.in_ok-b.b))
+    c.find.ensures.is
+    (sym c.in-Some.ensures.found ∙ ap Some (sym c.in_ok-p.ensures), sym c.in-Some-find.ensures.found ∙ ap Some (sym c.in_ok-a.ensures), sym c.in-Some-find-2.ensures.found ∙ ap Some (sym c.in_ok-b.ensures))
     c.apart.result c.apart.ensures
