@@ -1,0 +1,4 @@
+pub mod Conditions
+pub mod Lookup
+pub mod Numbers
+pub mod Tests

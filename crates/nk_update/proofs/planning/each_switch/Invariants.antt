@@ -1,0 +1,9 @@
+use Rattle.std.proofs.Common.{◌≡◌, take}
+use Rattle.std.specs.Prelude.{map}
+use Rattle.nk_update.specs.Plans.{switches_of}
+use Rattle.nk_update.specs.Steps.{steps_of}
+use Rattle.nk_update.proofs.planning.each_switch.Given as goal
+
+-- the tables of the switches passed
+abbrev pub invariant-loop-switch : goal.invariant-loop-switch
+invariant-loop-switch l = l.all ≡ map (steps_of record { old = l.old; new = l.new; old_tags = l.old_tags; tag = l.tag }) (take l.switch-index (switches_of l.old))

@@ -1,0 +1,8 @@
+use Rattle.std.proofs.Common.{◌≡◌, take}
+use Rattle.std.specs.Prelude.{filter}
+use Rattle.nk_update.specs.Plans as plans
+use Rattle.nk_update.proofs.rows.standing.Given as goal
+
+-- the rows so far
+abbrev pub invariant-loop-row : goal.invariant-loop-row
+invariant-loop-row l = l.rows ≡ filter (plans.old_stands l.digits l.f l.steps) (take l.row-index l.olds)

@@ -1,0 +1,4 @@
+pub mod Plans
+pub mod Steps
+pub mod Tags
+pub mod Worked
