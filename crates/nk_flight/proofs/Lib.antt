@@ -1,6 +1,8 @@
 pub mod Blocks
 pub mod Clauses
 pub mod Draws
+pub mod Mixture
+pub mod Noting
 pub mod Once
 pub mod Owing
 pub mod Pairs

@@ -6,8 +6,10 @@ mod drawn;
 mod flight;
 mod hops;
 pub mod laws;
+mod versions;
 mod waiting;
 
 pub use copies::{Flying, Left};
 pub use drawn::fly;
 pub use flight::Flight;
+pub use versions::Version;
