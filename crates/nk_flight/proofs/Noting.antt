@@ -9,14 +9,14 @@ use Rattle.nk_table.specs.declared.Tables.{Tables}
 use Rattle.nk_table.specs.Hops.{Copy, left_after}
 use Rattle.nk_update.specs.Plans.{Pair, IsPlannable}
 use Rattle.nk_update.specs.Tags.{HaveTheirTags}
-use Rattle.nk_update.proofs.Lookup.{true_eq, eq_true}
+use Rattle.nk_update.proofs.Lookup.{true_eq, eq_true, eq_false}
 use Rattle.nk_flight.specs.declared.copies.Flying.{Flying}
 use Rattle.nk_flight.specs.declared.versions.Version.{Version}
 use Rattle.nk_flight.specs.declared.versions.Version.TheVariants.{Old, New}
 use Rattle.nk_flight.specs.Flights.{FlightState}
 use Rattle.nk_flight.specs.Owed.{flying_from, left_from, with_crossings, owed_by, erased_copy}
 use Rattle.nk_flight.specs.Once.{all_erased, IsEachOnce, LeaveOnce}
-use Rattle.nk_flight.specs.Updates.{Stages, tables_by, UpdateState, at_the_start, may_plan, one_more, noted, steps_at, handled_there, moved, planned, UpdateEvent, inject, move, plan, after_update, after_updates, AreEntering, left_or_owed_by, ByVersion}
+use Rattle.nk_flight.specs.Updates.{Stages, tables_by, UpdateState, at_the_start, may_plan, one_more, noted, steps_at, handled_there, moved, planned, UpdateEvent, inject, move, plan, HandlesNoneOf, after_update, after_updates, AreEntering, left_or_owed_by, ByVersion}
 use Rattle.nk_flight.proofs.Once.{each_once}
 use Rattle.nk_flight.proofs.Mixture.{staged, no_mixture}
 
@@ -68,6 +68,20 @@ module _ (g : Stages) where
   version_stays (inject pk ∷ es) s n v e = version_stays es (after_update g (inject pk) s) n v e
   version_stays (move i ∷ es) s n v e = version_stays es (after_update g (move i) s) n v (handled_keeps_it s (slice_get s.flight.flying i) (remove s.flight.flying i) n v e)
   version_stays (plan sw ∷ es) s n v e = version_stays es (after_update g (plan sw) s) n v (planned_keeps_it s sw n v e)
+
+  -- what handles no copy of an injection notes nothing of it
+  pub unhandled : (e : UpdateEvent) (s : UpdateState) (n : ℕ) → HandlesNoneOf n s e → (after_update g e s).versions n ≡ s.versions n
+  unhandled (inject pk) s n none = refl
+  unhandled (plan sw) s n none = by (may_plan g s sw)
+    where
+      by : (b : Bool) → (if b then record s { done = one_more sw s.done } else s).versions n ≡ s.versions n
+      by true = refl
+      by false = refl
+  unhandled (move i) s n none = by (slice_get s.flight.flying i) refl
+    where
+      by : (o : Option Flying) → slice_get s.flight.flying i ≡ o → (handled_there g s o (remove s.flight.flying i)).versions n ≡ s.versions n
+      by None e = refl
+      by (Some f) e = ap (λ b. if b then Some (noted (s.versions f.number) (steps_at s f)) else s.versions n) (eq_false n f.number (λ same. none f e (sym same)))
 
   -- the first step decides
   pub first_decides : (s : UpdateState) (i : ℕ) (f : Flying) → slice_get s.flight.flying i ≡ Some f → s.versions f.number ≡ None

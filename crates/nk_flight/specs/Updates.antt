@@ -130,6 +130,12 @@ after_update g (inject pk) s = record s { flight = injected pk s.flight }
 after_update g (move i) s = moved g i s
 after_update g (plan sw) s = planned g sw s
 
+-- the event handles no copy of this injection
+abbrev pub HandlesNoneOf : ℕ → UpdateState → UpdateEvent → Type 0
+HandlesNoneOf n s (inject pk) = Unit {0}
+HandlesNoneOf n s (move i) = (f : Flying) → slice_get s.flight.flying i ≡ Some f → ¬ (f.number ≡ n)
+HandlesNoneOf n s (plan sw) = Unit {0}
+
 -- after events, the first one first
 abbrev pub after_updates : Stages → List UpdateEvent → UpdateState → UpdateState
 after_updates g [] s = s

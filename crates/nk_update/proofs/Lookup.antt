@@ -281,7 +281,7 @@ mapped_twice f g [] = refl
 mapped_twice f g (x ∷ xs) = ap (λ l. f (g x) ∷ l) (mapped_twice f g xs)
 
 -- after at most three steps a switch has its table
-table_is : (p : Pair) (d : ℕ) → d ≤ 3 → (sw : ℕ) → table_after d (steps_of p sw) ≡ plan_table p d sw
+table_is : (p : Pair) (d : ℕ) → d ≤ 3 → (sw : ℕ) → table_after d (steps_of p.old p.new p.tag sw) ≡ plan_table p.old p.new p.tag d sw
 table_is p zero le sw = refl
 table_is p (suc zero) le sw = refl
 table_is p (suc (suc zero)) le sw = refl
@@ -314,7 +314,7 @@ module _ (p : Pair) (ok : IsPlannable p) (d : ℕ) (most : d ≤ 3) (pk : List �
   stage = tables_after (plan_of p) d
 
   abbrev made : ℕ → Table
-  made sw = table_after d (steps_of p sw)
+  made sw = table_after d (steps_of p.old p.new p.tag sw)
 
   -- each table is that of its switch
   made_at : (sw : ℕ) → (made sw).switch ≡ sw
@@ -328,63 +328,63 @@ module _ (p : Pair) (ok : IsPlannable p) (d : ℕ) (most : d ≤ 3) (pk : List �
   )
 
   -- the switch's own table acts
-  there_sent : sent_for stage pk ≡ filter_map (sent_by pk) (buckets_of_row (groups_at p d here) (highest [] (filter (agrees mx pk) (rows_at p d here))))
+  there_sent : sent_for stage pk ≡ filter_map (sent_by pk) (buckets_of_row (groups_at p.old p.new d here) (highest [] (filter (agrees mx pk) (rows_at p.old p.new p.tag d here))))
   there_sent =
       ap (λ ts. filter_map (sent_by pk) (buckets_of_row (groups_of ts here) (highest [] (filter (agrees mx pk) (rows_of ts here)))))
-      (mapped_twice (table_after d) (steps_of p) switches)
+      (mapped_twice (table_after d) (steps_of p.old p.new p.tag) switches)
       ∙ ⊎_elim
       (λ i.
       ap (λ gs. filter_map (sent_by pk) (buckets_of_row gs (highest [] (filter (agrees mx pk) (rows_of (map made switches) here)))))
       (groups_made made made_at switches here i ∙ ap (λ (t : Table). t.groups) (table_is p d most here))
-      ∙ ap (λ rs. filter_map (sent_by pk) (buckets_of_row (groups_at p d here) (highest [] (filter (agrees mx pk) rs))))
+      ∙ ap (λ rs. filter_map (sent_by pk) (buckets_of_row (groups_at p.old p.new d here) (highest [] (filter (agrees mx pk) rs))))
       (rows_made made made_at switches here i ∙ ap (λ (t : Table). t.rows) (table_is p d most here)))
       (λ n.
       ap (λ rs. filter_map (sent_by pk) (buckets_of_row (groups_of (map made switches) here) (highest [] (filter (agrees mx pk) rs)))) (none_made made made_at switches here n)
-      ∙ sym (ap (λ rs. filter_map (sent_by pk) (buckets_of_row (groups_at p d here) (highest [] (filter (agrees mx pk) (filter (old_stands (tag_digits p) p.tag d) rs ++ map (row_on shift) (filter (new_stands (tag_digits p) p.tag d) news)))))) (no_rows n).0
-      ∙ ap (λ rs. filter_map (sent_by pk) (buckets_of_row (groups_at p d here) (highest [] (filter (agrees mx pk) (map (row_on shift) (filter (new_stands (tag_digits p) p.tag d) rs)))))) (no_rows n).1))
+      ∙ sym (ap (λ rs. filter_map (sent_by pk) (buckets_of_row (groups_at p.old p.new d here) (highest [] (filter (agrees mx pk) (filter (old_stands (tag_digits p.old p.tag) p.tag d) rs ++ map (row_on shift) (filter (new_stands (tag_digits p.old p.tag) p.tag d) news)))))) (no_rows n).0
+      ∙ ap (λ rs. filter_map (sent_by pk) (buckets_of_row (groups_at p.old p.new d here) (highest [] (filter (agrees mx pk) (map (row_on shift) (filter (new_stands (tag_digits p.old p.tag) p.tag d) rs)))))) (no_rows n).1))
       (in_decided numbers_decided switches here)
 
   -- the rows that match, old and new
-  matching : filter (agrees mx pk) (rows_at p d here) ≡ filter (agrees mx pk) (filter (old_stands (tag_digits p) p.tag d) olds) ++ map (row_on shift) (filter (agrees mx pk) (filter (new_stands (tag_digits p) p.tag d) news))
+  matching : filter (agrees mx pk) (rows_at p.old p.new p.tag d here) ≡ filter (agrees mx pk) (filter (old_stands (tag_digits p.old p.tag) p.tag d) olds) ++ map (row_on shift) (filter (agrees mx pk) (filter (new_stands (tag_digits p.old p.tag) p.tag d) news))
   matching =
-      filter-append (agrees mx pk) (filter (old_stands (tag_digits p) p.tag d) olds) (map (row_on shift) (filter (new_stands (tag_digits p) p.tag d) news))
-      ∙ ap (λ l. filter (agrees mx pk) (filter (old_stands (tag_digits p) p.tag d) olds) ++ l) (kept_on mx pk shift (filter (new_stands (tag_digits p) p.tag d) news))
+      filter-append (agrees mx pk) (filter (old_stands (tag_digits p.old p.tag) p.tag d) olds) (map (row_on shift) (filter (new_stands (tag_digits p.old p.tag) p.tag d) news))
+      ∙ ap (λ l. filter (agrees mx pk) (filter (old_stands (tag_digits p.old p.tag) p.tag d) olds) ++ l) (kept_on mx pk shift (filter (new_stands (tag_digits p.old p.tag) p.tag d) news))
 
   -- where all old rows that match stand, and no new one
-  by_old : d ≤ 2 → ((r : Row) → In olds r → agrees mx pk r ≡ true → old_stands (tag_digits p) p.tag d r ≡ true)
-      → ((r : Row) → In news r → agrees mx pk r ≡ true → new_stands (tag_digits p) p.tag d r ≡ true → ⊥)
+  by_old : d ≤ 2 → ((r : Row) → In olds r → agrees mx pk r ≡ true → old_stands (tag_digits p.old p.tag) p.tag d r ≡ true)
+      → ((r : Row) → In news r → agrees mx pk r ≡ true → new_stands (tag_digits p.old p.tag) p.tag d r ≡ true → ⊥)
       → sent_for stage pk ≡ sent_for p.old pk
   by_old le stand none =
       let groups = groups_of p.old.tables here in
       let more = if nat_le 1 d then map (numbered_on shift) (groups_of p.new.tables here) else [] in
       let rows = filter (agrees mx pk) olds in
-      let all : filter (agrees mx pk) (rows_at p d here) ≡ rows =
+      let all : filter (agrees mx pk) (rows_at p.old p.new p.tag d here) ≡ rows =
       matching
-      ∙ ap (λ l. l ++ map (row_on shift) (filter (agrees mx pk) (filter (new_stands (tag_digits p) p.tag d) news))) (kept_twice (agrees mx pk) (old_stands (tag_digits p) p.tag d) olds stand)
-      ∙ ap (λ l. rows ++ map (row_on shift) l) (none_kept (agrees mx pk) (new_stands (tag_digits p) p.tag d) news none)
+      ∙ ap (λ l. l ++ map (row_on shift) (filter (agrees mx pk) (filter (new_stands (tag_digits p.old p.tag) p.tag d) news))) (kept_twice (agrees mx pk) (old_stands (tag_digits p.old p.tag) p.tag d) olds stand)
+      ∙ ap (λ l. rows ++ map (row_on shift) l) (none_kept (agrees mx pk) (new_stands (tag_digits p.old p.tag) p.tag d) news none)
       ∙ append-nil rows in
       there_sent
-      ∙ ap (λ l. filter_map (sent_by pk) (buckets_of_row (groups_at p d here) (highest [] l))) all
+      ∙ ap (λ l. filter_map (sent_by pk) (buckets_of_row (groups_at p.old p.new d here) (highest [] l))) all
       ∙ ap (λ b. filter_map (sent_by pk) (buckets_of_row ((if b then groups else []) ++ more) (highest [] rows))) (le_true d 2 le)
       ∙ ap (filter_map (sent_by pk)) (buckets_same (groups ++ more) groups rows (λ r i.
       old_target groups more r.target (ok.old_numbers.groups here)
       (members_from_all (λ (s : Row). NamesOneOf shift s.target) olds (ok.old_numbers.named here) r (kept_in (agrees mx pk) olds r i))))
 
   -- where all new rows that match stand, and no old one
-  by_new : 1 ≤ d → ((r : Row) → In olds r → agrees mx pk r ≡ true → old_stands (tag_digits p) p.tag d r ≡ true → ⊥)
-      → ((r : Row) → In news r → agrees mx pk r ≡ true → new_stands (tag_digits p) p.tag d r ≡ true)
+  by_new : 1 ≤ d → ((r : Row) → In olds r → agrees mx pk r ≡ true → old_stands (tag_digits p.old p.tag) p.tag d r ≡ true → ⊥)
+      → ((r : Row) → In news r → agrees mx pk r ≡ true → new_stands (tag_digits p.old p.tag) p.tag d r ≡ true)
       → sent_for stage pk ≡ sent_for p.new pk
   by_new le none stand =
       let groups = groups_of p.old.tables here in
       let later = groups_of p.new.tables here in
       let rows = filter (agrees mx pk) news in
-      let all : filter (agrees mx pk) (rows_at p d here) ≡ map (row_on shift) rows =
+      let all : filter (agrees mx pk) (rows_at p.old p.new p.tag d here) ≡ map (row_on shift) rows =
       matching
-      ∙ ap (λ l. l ++ map (row_on shift) (filter (agrees mx pk) (filter (new_stands (tag_digits p) p.tag d) news))) (none_kept (agrees mx pk) (old_stands (tag_digits p) p.tag d) olds none)
-      ∙ ap (map (row_on shift)) (kept_twice (agrees mx pk) (new_stands (tag_digits p) p.tag d) news stand) in
+      ∙ ap (λ l. l ++ map (row_on shift) (filter (agrees mx pk) (filter (new_stands (tag_digits p.old p.tag) p.tag d) news))) (none_kept (agrees mx pk) (old_stands (tag_digits p.old p.tag) p.tag d) olds none)
+      ∙ ap (map (row_on shift)) (kept_twice (agrees mx pk) (new_stands (tag_digits p.old p.tag) p.tag d) news stand) in
       there_sent
-      ∙ ap (λ l. filter_map (sent_by pk) (buckets_of_row (groups_at p d here) (highest [] l))) all
-      ∙ ap (λ o. filter_map (sent_by pk) (buckets_of_row (groups_at p d here) o)) (highest_on shift [] rows)
+      ∙ ap (λ l. filter_map (sent_by pk) (buckets_of_row (groups_at p.old p.new d here) (highest [] l))) all
+      ∙ ap (λ o. filter_map (sent_by pk) (buckets_of_row (groups_at p.old p.new d here) o)) (highest_on shift [] rows)
       ∙ ap (λ b. filter_map (sent_by pk) (buckets_of_row ((if nat_le d 2 then groups else []) ++ (if b then map (numbered_on shift) later else [])) (found_on shift (highest [] rows)))) (le_true 1 d le)
       ∙ ap (filter_map (sent_by pk)) (buckets_on shift ((if nat_le d 2 then groups else []) ++ map (numbered_on shift) later) later rows (λ r i.
       new_target (nat_le d 2) groups later r.target (ok.old_numbers.groups here)
@@ -392,41 +392,41 @@ module _ (p : Pair) (ok : IsPlannable p) (d : ℕ) (most : d ≤ 3) (pk : List �
       ∙ ap (λ (f : FieldTable). filter_map (sent_by pk) (buckets_of_row later (highest [] (filter (agrees f.maxima pk) news)))) (sym ok.fields)
 
   -- where no row that matches stands
-  by_none : ((r : Row) → In olds r → agrees mx pk r ≡ true → old_stands (tag_digits p) p.tag d r ≡ true → ⊥)
-      → ((r : Row) → In news r → agrees mx pk r ≡ true → new_stands (tag_digits p) p.tag d r ≡ true → ⊥)
+  by_none : ((r : Row) → In olds r → agrees mx pk r ≡ true → old_stands (tag_digits p.old p.tag) p.tag d r ≡ true → ⊥)
+      → ((r : Row) → In news r → agrees mx pk r ≡ true → new_stands (tag_digits p.old p.tag) p.tag d r ≡ true → ⊥)
       → sent_for stage pk ≡ []
   by_none none none' =
       there_sent
-      ∙ ap (λ l. filter_map (sent_by pk) (buckets_of_row (groups_at p d here) (highest [] l)))
+      ∙ ap (λ l. filter_map (sent_by pk) (buckets_of_row (groups_at p.old p.new d here) (highest [] l)))
       (matching
-      ∙ ap (λ l. l ++ map (row_on shift) (filter (agrees mx pk) (filter (new_stands (tag_digits p) p.tag d) news))) (none_kept (agrees mx pk) (old_stands (tag_digits p) p.tag d) olds none)
-      ∙ ap (map (row_on shift)) (none_kept (agrees mx pk) (new_stands (tag_digits p) p.tag d) news none'))
+      ∙ ap (λ l. l ++ map (row_on shift) (filter (agrees mx pk) (filter (new_stands (tag_digits p.old p.tag) p.tag d) news))) (none_kept (agrees mx pk) (old_stands (tag_digits p.old p.tag) p.tag d) olds none)
+      ∙ ap (map (row_on shift)) (none_kept (agrees mx pk) (new_stands (tag_digits p.old p.tag) p.tag d) news none'))
 
   -- an old row that matches asks for the packet's tag, which is an old one or 0
-  old_asks : (r : Row) → In olds r → agrees mx pk r ≡ true → (asked_of (tag_digits p) p.tag r.matches ≡ Some tag) × (tag ≤ p.old_tags)
+  old_asks : (r : Row) → In olds r → agrees mx pk r ≡ true → (asked_of (tag_digits p.old p.tag) p.tag r.matches ≡ Some tag) × (tag ≤ p.old_tags)
   old_asks r i a =
       let h = members_from_all (HasOldTag p) olds (ok.old_rows here) r i in
       let same = asked p.tag h.0 mx pk r.matches h.1 a in
       (h.1 ∙ ap Some (sym same), subst (λ v. v ≤ p.old_tags) (sym same) h.2)
 
   -- a new row's is a new one or 0
-  new_asks : (r : Row) → In news r → agrees mx pk r ≡ true → (asked_of (tag_digits p) p.tag r.matches ≡ Some tag) × ((tag ≡ 0) ⊎ (p.old_tags < tag))
+  new_asks : (r : Row) → In news r → agrees mx pk r ≡ true → (asked_of (tag_digits p.old p.tag) p.tag r.matches ≡ Some tag) × ((tag ≡ 0) ⊎ (p.old_tags < tag))
   new_asks r i a =
       let h = members_from_all (HasNewTag p) news (ok.new_rows here) r i in
       let same = asked p.tag h.0 mx pk r.matches h.1 a in
       (h.1 ∙ ap Some (sym same), subst (λ v. (v ≡ 0) ⊎ (p.old_tags < v)) (sym same) h.2)
 
   -- whether a row with the packet's tag stands
-  tagged_old : 1 ≤ tag → (r : Row) → asked_of (tag_digits p) p.tag r.matches ≡ Some tag → old_stands (tag_digits p) p.tag d r ≡ nat_le d 2
+  tagged_old : 1 ≤ tag → (r : Row) → asked_of (tag_digits p.old p.tag) p.tag r.matches ≡ Some tag → old_stands (tag_digits p.old p.tag) p.tag d r ≡ nat_le d 2
   tagged_old h r e = ap (λ o. if is_tagged o then nat_le d 2 else nat_le d 1) e ∙ ap (λ b. if b then nat_le d 2 else nat_le d 1) (tagged tag h)
 
-  tagged_new : 1 ≤ tag → (r : Row) → asked_of (tag_digits p) p.tag r.matches ≡ Some tag → new_stands (tag_digits p) p.tag d r ≡ nat_le 1 d
+  tagged_new : 1 ≤ tag → (r : Row) → asked_of (tag_digits p.old p.tag) p.tag r.matches ≡ Some tag → new_stands (tag_digits p.old p.tag) p.tag d r ≡ nat_le 1 d
   tagged_new h r e = ap (λ o. if is_tagged o then nat_le 1 d else nat_le 2 d) e ∙ ap (λ b. if b then nat_le 1 d else nat_le 2 d) (tagged tag h)
 
-  untagged_old : tag ≡ 0 → (r : Row) → asked_of (tag_digits p) p.tag r.matches ≡ Some tag → old_stands (tag_digits p) p.tag d r ≡ nat_le d 1
+  untagged_old : tag ≡ 0 → (r : Row) → asked_of (tag_digits p.old p.tag) p.tag r.matches ≡ Some tag → old_stands (tag_digits p.old p.tag) p.tag d r ≡ nat_le d 1
   untagged_old h r e = ap (λ o. if is_tagged o then nat_le d 2 else nat_le d 1) (e ∙ ap Some h)
 
-  untagged_new : tag ≡ 0 → (r : Row) → asked_of (tag_digits p) p.tag r.matches ≡ Some tag → new_stands (tag_digits p) p.tag d r ≡ nat_le 2 d
+  untagged_new : tag ≡ 0 → (r : Row) → asked_of (tag_digits p.old p.tag) p.tag r.matches ≡ Some tag → new_stands (tag_digits p.old p.tag) p.tag d r ≡ nat_le 2 d
   untagged_new h r e = ap (λ o. if is_tagged o then nat_le 1 d else nat_le 2 d) (e ∙ ap Some h)
 
   -- with an old tag no new row matches
@@ -548,13 +548,12 @@ by_test true = refl
 by_test false = refl
 
 -- the four tables of a switch
-pub four_tables : (p : Pair) (sw : ℕ) → AreFourTables p sw (steps_of p sw)
-four_tables p sw =
-    let olds = rows_of p.old.tables sw in
-    let news = rows_of p.new.tables sw in
-    let n = length (groups_of p.old.tables sw) in
-    let d = tag_digits p in
-    let f = p.tag in
+pub four_tables : (old new : Tables) (f sw : ℕ) → AreFourTables old new f sw (steps_of old new f sw)
+four_tables old new f sw =
+    let olds = rows_of old.tables sw in
+    let news = rows_of new.tables sw in
+    let n = length (groups_of old.tables sw) in
+    let d = tag_digits old f in
     let on : List Row → List Row = λ l. map (row_on n) l in
     record {
       switch = refl;
@@ -562,7 +561,7 @@ four_tables p sw =
           ap (λ l. l ++ on (filter (new_stands d f 0) news)) (kept_all (old_stands d f 0) olds (λ r. either_way true (is_tagged_row d f r)))
           ∙ ap (λ l. olds ++ on l) (all_out (new_stands d f 0) news (λ r. either_way false (is_tagged_row d f r)))
           ∙ append-nil olds;
-      before_groups = append-nil (groups_of p.old.tables sw);
+      before_groups = append-nil (groups_of old.tables sw);
       added_rows =
           ap (λ l. l ++ on (filter (new_stands d f 1) news)) (kept_all (old_stands d f 1) olds (λ r. either_way true (is_tagged_row d f r)))
           ∙ ap (λ l. olds ++ on l) (kept_same (new_stands d f 1) (is_tagged_row d f) news (λ r. by_test (is_tagged_row d f r)));

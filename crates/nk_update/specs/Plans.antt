@@ -28,9 +28,9 @@ place_of (Some f) = f
 abbrev pub pair_of : Tables → Tables → ℕ → Pair
 pair_of old new old_tags = record { old = old; new = new; old_tags = old_tags; tag = place_of old.fields.tag }
 
--- how many binary digits the greatest value of the tag has
-abbrev pub tag_digits : Pair → ℕ
-tag_digits p = digits_of (slice_index p.old.fields.maxima p.tag)
+-- how many binary digits the greatest value of the field at a place has, as of the tag
+abbrev pub tag_digits : Tables → ℕ → ℕ
+tag_digits t tag = digits_of (slice_index t.fields.maxima tag)
 
 -- the value that matches ask of the field at a place in all of its digits, if they do
 abbrev pub asked_of : (digits f : ℕ) → List (ℕ × ℕ × ℕ) → Option ℕ
@@ -39,10 +39,10 @@ asked_of digits f (m ∷ ms) = if (m.0 == f) && nat_le digits m.2 then Some m.1 
 
 -- the row matches the tag exactly, and the value is one of the old tags or 0; of the new tags or 0
 abbrev pub HasOldTag : Pair → Row → Type 0
-HasOldTag p r = (v : ℕ) × (asked_of (tag_digits p) p.tag r.matches ≡ Some v) × (v ≤ p.old_tags)
+HasOldTag p r = (v : ℕ) × (asked_of (tag_digits p.old p.tag) p.tag r.matches ≡ Some v) × (v ≤ p.old_tags)
 
 abbrev pub HasNewTag : Pair → Row → Type 0
-HasNewTag p r = (v : ℕ) × (asked_of (tag_digits p) p.tag r.matches ≡ Some v) × ((v ≡ 0) ⊎ (p.old_tags < v))
+HasNewTag p r = (v : ℕ) × (asked_of (tag_digits p.old p.tag) p.tag r.matches ≡ Some v) × ((v ≡ 0) ⊎ (p.old_tags < v))
 
 -- a row that names a group names one of so many, numbered from 1
 abbrev pub NamesOneOf : ℕ → Target → Type 0
@@ -69,7 +69,8 @@ abbrev pub HasRowsWhereDeclared : Tables → Type 0
 HasRowsWhereDeclared t = (sw : ℕ) → ¬ Contains (switches_of t) sw → rows_of t.tables sw ≡ []
 
 -- What two tables must meet: the same fields, with a tag, and topology; each row matches the tag exactly, in the old tables
--- with a value up to the old tags, in the new ones with 0 or a greater one; groups are numbered in order.
+-- with a value up to the old tags, in the new ones with 0 or a greater one; groups are numbered in order, and rows name none
+-- but these; and none but declared switches have rows.
 pub record IsPlannable (p : Pair) : Type 0 where
   pub fields : p.new.fields ≡ p.old.fields
   pub topo : p.new.topo ≡ p.old.topo
@@ -112,17 +113,17 @@ row_on n r = record { priority = r.priority; matches = r.matches; target = targe
 
 -- The rows of a switch after so many plan steps: the old ones that still stand, and the new ones that stand already, whose
 -- groups are numbered on behind the old ones.
-abbrev pub rows_at : Pair → ℕ → ℕ → List Row
-rows_at p steps sw =
-    filter (old_stands (tag_digits p) p.tag steps) (rows_of p.old.tables sw)
-    ++ map (row_on (length (groups_of p.old.tables sw))) (filter (new_stands (tag_digits p) p.tag steps) (rows_of p.new.tables sw))
+abbrev pub rows_at : (old new : Tables) (tag steps sw : ℕ) → List Row
+rows_at old new tag steps sw =
+    filter (old_stands (tag_digits old tag) tag steps) (rows_of old.tables sw)
+    ++ map (row_on (length (groups_of old.tables sw))) (filter (new_stands (tag_digits old tag) tag steps) (rows_of new.tables sw))
 
 -- its groups: the old ones until the third step, the new ones, with their numbers behind those, from the first on
-abbrev pub groups_at : Pair → ℕ → ℕ → List Group
-groups_at p steps sw =
-    (if nat_le steps 2 then groups_of p.old.tables sw else [])
-    ++ (if nat_le 1 steps then map (numbered_on (length (groups_of p.old.tables sw))) (groups_of p.new.tables sw) else [])
+abbrev pub groups_at : (old new : Tables) (steps sw : ℕ) → List Group
+groups_at old new steps sw =
+    (if nat_le steps 2 then groups_of old.tables sw else [])
+    ++ (if nat_le 1 steps then map (numbered_on (length (groups_of old.tables sw))) (groups_of new.tables sw) else [])
 
 -- the switch's table after so many plan steps
-abbrev pub plan_table : Pair → ℕ → ℕ → Table
-plan_table p steps sw = record { switch = sw; groups = groups_at p steps sw; rows = rows_at p steps sw }
+abbrev pub plan_table : (old new : Tables) (tag steps sw : ℕ) → Table
+plan_table old new tag steps sw = record { switch = sw; groups = groups_at old new steps sw; rows = rows_at old new tag steps sw }

@@ -3,19 +3,20 @@ use Rattle.std.specs.Prelude.{◌≡◌, ℕ, zero, suc, ◌++◌, length, map, 
 use Rattle.nk_table.specs.declared.Tables.{Tables}
 use Rattle.nk_table.specs.declared.Table.{Table}
 use Rattle.nk_table.specs.declared.Row.{Row}
+use Rattle.nk_table.specs.declared.Group.{Group}
 use Rattle.nk_table.specs.Rules.{rows_of, groups_of}
 use Rattle.nk_update.specs.declared.plans.Plan.{Plan}
 use Rattle.nk_update.specs.declared.plans.PlanTables.{PlanTables}
 use Rattle.nk_update.specs.Plans.{Pair, tag_digits, is_tagged_row, numbered_on, row_on, plan_table, switches_of}
 
 -- the tables of a switch before the first plan step and after each of the three
-abbrev pub steps_of : Pair → ℕ → PlanTables
-steps_of p sw = record {
+abbrev pub steps_of : (old new : Tables) (tag sw : ℕ) → PlanTables
+steps_of old new tag sw = record {
   switch = sw;
-  before = plan_table p 0 sw;
-  added = plan_table p 1 sw;
-  replaced = plan_table p 2 sw;
-  removed = plan_table p 3 sw;
+  before = plan_table old new tag 0 sw;
+  added = plan_table old new tag 1 sw;
+  replaced = plan_table old new tag 2 sw;
+  removed = plan_table old new tag 3 sw;
 }
 
 -- the plan: those of each declared switch, with the fields, the topology and the greatest of the old tags
@@ -24,7 +25,7 @@ plan_of p = record {
   fields = p.old.fields;
   topo = p.old.topo;
   old_tags = p.old_tags;
-  switches = map (steps_of p) (switches_of p.old);
+  switches = map (steps_of p.old p.new p.tag) (switches_of p.old);
 }
 
 -- the table of a switch after so many plan steps
@@ -39,22 +40,25 @@ abbrev pub tables_after : Plan → ℕ → Tables
 tables_after plan steps = record { fields = plan.fields; topo = plan.topo; tables = map (table_after steps) plan.switches }
 
 -- the rows that ask for another tag than 0
-abbrev pub tagged_rows : Pair → List Row → List Row
-tagged_rows p rows = filter (is_tagged_row (tag_digits p) p.tag) rows
+abbrev pub tagged_rows : (digits tag : ℕ) → List Row → List Row
+tagged_rows digits tag rows = filter (is_tagged_row digits tag) rows
 
--- rows whose groups are numbered behind the old ones of a switch
-abbrev pub rows_behind_old : Pair → ℕ → List Row → List Row
-rows_behind_old p sw rows = map (row_on (length (groups_of p.old.tables sw))) rows
+-- rows whose groups are numbered behind the old ones of a switch; such groups
+abbrev pub rows_behind : (old : Tables) (sw : ℕ) → List Row → List Row
+rows_behind old sw rows = map (row_on (length (groups_of old.tables sw))) rows
+
+abbrev pub groups_behind : (old : Tables) (sw : ℕ) → List Group → List Group
+groups_behind old sw groups = map (numbered_on (length (groups_of old.tables sw))) groups
 
 -- The four tables of a switch: the old one; with the new tagged rows and all new groups; with the new rows of tag 0 in the
 -- old ones' place; and without the old tagged rows and groups.
-pub record AreFourTables (p : Pair) (sw : ℕ) (s : PlanTables) : Type 0 where
+pub record AreFourTables (old new : Tables) (tag sw : ℕ) (s : PlanTables) : Type 0 where
   pub switch : s.switch ≡ sw
-  pub before_rows : s.before.rows ≡ rows_of p.old.tables sw
-  pub before_groups : s.before.groups ≡ groups_of p.old.tables sw
-  pub added_rows : s.added.rows ≡ rows_of p.old.tables sw ++ rows_behind_old p sw (tagged_rows p (rows_of p.new.tables sw))
-  pub added_groups : s.added.groups ≡ groups_of p.old.tables sw ++ map (numbered_on (length (groups_of p.old.tables sw))) (groups_of p.new.tables sw)
-  pub replaced_rows : s.replaced.rows ≡ tagged_rows p (rows_of p.old.tables sw) ++ rows_behind_old p sw (rows_of p.new.tables sw)
-  pub replaced_groups : s.replaced.groups ≡ groups_of p.old.tables sw ++ map (numbered_on (length (groups_of p.old.tables sw))) (groups_of p.new.tables sw)
-  pub removed_rows : s.removed.rows ≡ rows_behind_old p sw (rows_of p.new.tables sw)
-  pub removed_groups : s.removed.groups ≡ map (numbered_on (length (groups_of p.old.tables sw))) (groups_of p.new.tables sw)
+  pub before_rows : s.before.rows ≡ rows_of old.tables sw
+  pub before_groups : s.before.groups ≡ groups_of old.tables sw
+  pub added_rows : s.added.rows ≡ rows_of old.tables sw ++ rows_behind old sw (tagged_rows (tag_digits old tag) tag (rows_of new.tables sw))
+  pub added_groups : s.added.groups ≡ groups_of old.tables sw ++ groups_behind old sw (groups_of new.tables sw)
+  pub replaced_rows : s.replaced.rows ≡ tagged_rows (tag_digits old tag) tag (rows_of old.tables sw) ++ rows_behind old sw (rows_of new.tables sw)
+  pub replaced_groups : s.replaced.groups ≡ groups_of old.tables sw ++ groups_behind old sw (groups_of new.tables sw)
+  pub removed_rows : s.removed.rows ≡ rows_behind old sw (rows_of new.tables sw)
+  pub removed_groups : s.removed.groups ≡ groups_behind old sw (groups_of new.tables sw)

@@ -4,8 +4,9 @@
 mod groups;
 pub mod laws;
 mod planning;
-pub mod plans;
+mod plans;
 mod rows;
 mod tables;
 
 pub use planning::plan;
+pub use plans::{Plan, PlanTables};

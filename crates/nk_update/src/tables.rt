@@ -22,26 +22,24 @@ fn groups_at<'a>(tables: &'a [Table], switch: u16) -> &'a [Group]
     &[]
 }
 
-/// The table of a switch after so many plan steps: the old one before the first, the new one after the third. The greatest
-/// of the old tags changes nothing. The only error is that memory ran out.
+/// The table of a switch after so many plan steps: the old one before the first, the new one after the third. The only
+/// error is that memory ran out.
 #[tactic(auto, using(crate::proofs::Numbers::numbers_within))]
 pub(crate) fn plan_table(
     alloc: Global,
     old: &Tables,
     new: &Tables,
-    old_tags: u64,
     tag: Fid,
     steps: u64,
     switch: u16,
 ) -> Result<Table, AllocError>
     requires { NumbersInOrder new.now }
-    ensures { IfOk result (λ t. t ≡ plans.plan_table record { old = old.now; new = new.now; old_tags = old_tags; tag = tag } steps switch) }
+    ensures { IfOk result (λ t. t ≡ plans.plan_table old.now new.now tag steps switch) }
 {
     let old_groups = groups_at(old.tables.as_slice(), switch);
     let new_groups = groups_at(new.tables.as_slice(), switch);
     let old_rows = rows_at(old.tables.as_slice(), switch);
     let new_rows = rows_at(new.tables.as_slice(), switch);
-    let _greatest = old_tags;
     let n = old_groups.len() as u64;
     let most = new_groups.len() as u64;
     let digits = digits_at(&old.fields, tag);

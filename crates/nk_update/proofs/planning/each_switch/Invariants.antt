@@ -6,4 +6,4 @@ use Rattle.nk_update.proofs.planning.each_switch.Given as goal
 
 -- the tables of the switches passed
 abbrev pub invariant-loop-switch : goal.invariant-loop-switch
-invariant-loop-switch l = l.all ≡ map (steps_of record { old = l.old; new = l.new; old_tags = l.old_tags; tag = l.tag }) (take l.switch-index (switches_of l.old))
+invariant-loop-switch l = l.all ≡ map (steps_of l.old l.new l.tag) (take l.switch-index (switches_of l.old))
