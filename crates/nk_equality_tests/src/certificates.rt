@@ -237,10 +237,10 @@ fn verdict(
 
 /// Two policies of a program: the name of the second one, and both.
 #[derive(Clone, Copy)]
-struct Pair<'a> {
-    program: &'a Program,
-    right: &'a str,
-    sides: Sides<'a>,
+struct Pair<'p, 's> {
+    program: &'p Program,
+    right: &'p str,
+    sides: Sides<'s>,
 }
 
 /// Whether what is found of these rows is what the definition says.
@@ -277,21 +277,23 @@ fn holds_of(alloc: Global, program: &Program, c: &Certificate) -> Result<bool, F
         return Ok(false);
     };
     let (l, r, s) = (l.written(alloc)?, r.written(alloc)?, s.written(alloc)?);
+    let of_same = Sides {
+        left: &l,
+        right: &s,
+    };
+    let of_other = Sides {
+        left: &l,
+        right: &r,
+    };
     let same = Pair {
         program,
         right: "s",
-        sides: Sides {
-            left: &l,
-            right: &s,
-        },
+        sides: of_same,
     };
     let other = Pair {
         program,
         right: "r",
-        sides: Sides {
-            left: &l,
-            right: &r,
-        },
+        sides: of_other,
     };
     let rows = rows_of(alloc, c)?;
     let rows = rows.as_slice();
