@@ -143,15 +143,14 @@ all_below ss levels n r many b = record {
   in_order = b.in_order;
 }
 
--- more than may be
-pub too_many : (ss : List (List ℕ)) (levels : ℕ → List (ℕ × ℕ)) (n : ℕ) (r : List ℕ) (max : ℕ) → AreBelow levels ss n r
-    → max < length r → AtLeast (max + 1) (IsNamedAt levels)
-too_many ss levels n r max b lt =
-    let le : max + 1 ≤ length r = omega (arith, lt) in
-    let f = front_apart (max + 1) r (apart_of r b.once) in (
-      take (max + 1) r,
-      length-take-le (max + 1) r le,
-      without_doubles (take (max + 1) r) f.0,
-      all_from_members (IsNamedAt levels) (take (max + 1) r) (λ s i.
+-- at least as many as are wanted
+pub too_many : (ss : List (List ℕ)) (levels : ℕ → List (ℕ × ℕ)) (n : ℕ) (r : List ℕ) (most : ℕ) → AreBelow levels ss n r
+    → most ≤ length r → AtLeast most (IsNamedAt levels)
+too_many ss levels n r most b le =
+    let f = front_apart most r (apart_of r b.once) in (
+      take most r,
+      length-take-le most r le,
+      without_doubles (take most r) f.0,
+      all_from_members (IsNamedAt levels) (take most r) (λ s i.
           let h = (b.exactly s).0 (contains_from_in r s (f.1 s i)) in (h.0, h.2)),
     )

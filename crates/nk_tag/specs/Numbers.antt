@@ -9,3 +9,9 @@ use Rattle.nk_tag.specs.declared.error.NumberError.TheVariants.{NoMemory, TooMan
 abbrev pub IsFault : List (List (ℕ × ℕ)) → ℕ → NumberError → Type 0
 IsFault ls max NoMemory = Unit {0}
 IsFault ls max (TooManyTags found) = (found ≡ max + 1) × AtLeast found (IsAtOdd ls)
+
+-- why there are no numbers behind the first so many tags: memory ran out, or with so many of the sets the tags are as many as
+-- are told, one more than may be
+abbrev pub IsFaultBehind : List (List (ℕ × ℕ)) → (first max : ℕ) → NumberError → Type 0
+IsFaultBehind ls first max NoMemory = Unit {0}
+IsFaultBehind ls first max (TooManyTags found) = (found ≡ max + 1) × ((n : ℕ) × AtLeast n (IsAtOdd ls) × (first + n ≡ found))

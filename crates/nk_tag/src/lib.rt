@@ -5,4 +5,4 @@ mod error;
 mod numbers;
 
 pub use error::NumberError;
-pub use numbers::{Tags, later_sets, number};
+pub use numbers::{Tags, later_sets, number, number_from};

@@ -3,7 +3,7 @@ ghost use Rattle.std.specs.Prelude.{◌≡◌, ◌≤◌, ◌<◌, ◌+◌, ◌*
 ghost use Rattle.std.specs.List.Sorted.{IsPermutation, IsSorted};
 ghost use Rattle.nk_determ.specs.Pairs.{Once};
 ghost use Rattle.indexmap.specs.IndexSet.{insert_all};
-ghost use Rattle.nk_tag.specs.Numbers.{AreEntries, AreNumbers, AreLaterSets, IsFault};
+ghost use Rattle.nk_tag.specs.Numbers.{AreEntries, AreNumbers, AreLaterSets, IsFault, IsFaultBehind};
 ghost use Rattle.nk_tag.specs.Steps.{unseen, set_cmp, IsAdded};
 
 use crate::error::NumberError;
@@ -13,7 +13,7 @@ use nk_field::List;
 use nk_store::Id;
 use std::alloc::{AllocError, Global};
 
-/// The sets that tags stand for: tag t's at place t - 1.
+/// The sets that tags stand for: tag t's at place t - 1, or, behind `first` other tags, at place t - 1 - `first`.
 #[derive(Drop)]
 pub struct Tags {
     /// The sets in the order of the tags, each once.
@@ -30,11 +30,25 @@ pub fn number(ss: &Sets, lv: &Levels, max: u64) -> Result<Tags, NumberError>
     ensures few { IfOk result (λ t. length t.sets ≤ max) }
     ensures err { IfErr result (λ e. IsFault lv.now.levels max e) }
 {
+    number_from(ss, lv, 0, max)
+}
+
+/// The sets at odd levels as `number` gives them, for tags behind `first` others: the set of tag t stands at place
+/// t - 1 - `first`. Where `first` and they together are more than `max`, the error is `TooManyTags` with `max` + 1.
+pub fn number_from(ss: &Sets, lv: &Levels, first: u64, max: u64) -> Result<Tags, NumberError>
+    requires not_broken { lv.now.broken ≡ false }
+    requires entries { AreEntries ss.now lv.now.levels }
+    requires first { first ≤ max }
+    requires below_last { max + 1 < 2 ^ 64 }
+    ensures ok { IfOk result (λ t. AreNumbers ss.now lv.now.levels t.sets) }
+    ensures few { IfOk result (λ t. first + length t.sets ≤ max) }
+    ensures err { IfErr result (λ e. IsFaultBehind lv.now.levels first max e) }
+{
     let alloc = lv.levels.alloc();
     let mut all = IndexSet::new(alloc);
     for j in 0..lv.levels.len() / 2 {
         add_level(alloc, ss, lv, 2 * j + 1, &mut all)?;
-        if all.len() as u64 > max {
+        if all.len() as u64 > max - first {
             return Err(NumberError::TooManyTags { found: max + 1 });
         }
     }
