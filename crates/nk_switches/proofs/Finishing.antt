@@ -61,7 +61,7 @@ module _ (first st : Held) (old ss : List (List ℕ)) (states tags : List ℕ) (
     λ h. (h.0, h.1, λ l. let r = leads_grown first st states members g ids inside pk y l in (λ c. let q = (h.2 l).0 c in (q.0, r.0 q.1), λ q. (h.2 l).1 (q.0, r.1 q.1))),
   )
 
-  module _ (table : List (Option ℕ)) (is : IsTagTable (length tags) tags table) where
+  module _ (table : List (Option ℕ)) (is : IsTagTable (length tags) ss tags table) where
     -- the tree of a tag
     tree_is : (sw : ℕ) (x : TagState) (e : TagTree) → IsTagAt first old states tags tag sw x.tag → IsTagState st ss states tags sw x → IsTreeBy st table tag sw x e →
         IsTagTree first old states tags tag sw e

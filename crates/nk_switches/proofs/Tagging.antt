@@ -5,7 +5,7 @@ use Rattle.nk_store.specs.Held.{Held, IsPacket}
 use Rattle.nk_determ.specs.Exact.{Sends}
 use Rattle.nk_determ.specs.Sets.{Differ, Ascend, SetsGrow}
 use Rattle.nk_switches.specs.States.{IsStateAt}
-use Rattle.nk_switches.specs.Tagged.{set_of, LeadsWith, SendsBy, IsTagTable}
+use Rattle.nk_switches.specs.Tagged.{set_of, LeadsWith, SendsBy, IsTagTable, AreOnce}
 use Rattle.nk_switches.proofs.Growing.{tag_set_kept}
 use Rattle.nk_switches.proofs.Printing.{some_member, one_set}
 
@@ -13,9 +13,13 @@ use Rattle.nk_switches.proofs.Printing.{some_member, one_set}
 pub same_some : (a b : ℕ) → Some a ≡ Some b → a ≡ b
 same_some a b e = cc
 
+-- tags stay once while the sets grow
+pub once_kept : (ss more : List (List ℕ)) (tags : List ℕ) → SetsGrow ss more → All (λ s. s < length ss) tags → AreOnce ss tags → AreOnce more tags
+once_kept ss more tags g known once i j a b some e = once i j a b (λ none. some (tag_set_kept ss more tags i g known a ∙ none)) e
+
 module _ (st : Held) (first ss : List (List ℕ)) (states tags members : List ℕ) (sw d : ℕ) (table : List (Option ℕ)) (differ : Differ ss) (ascend : Ascend ss)
     (grew : SetsGrow first ss) (known : All (λ s. s < length first) tags) (more : length first ≤ length ss)
-    (is : IsTagTable (length tags) tags table) (state : IsStateAt st ss states members sw d) where
+    (is : IsTagTable (length tags) ss tags table) (state : IsStateAt st ss states members sw d) where
   -- a tag's set is the one of the beginning
   same_set : (i : ℕ) → i < length tags → get_or ss (get_or tags i 0) [] ≡ set_of first tags i
   same_set i lt = tag_set_kept first ss tags i grew known lt
@@ -50,4 +54,4 @@ module _ (st : Held) (first ss : List (List ℕ)) (states tags members : List �
       (λ x c. subst (λ z. Contains z x) (sym same) ((h.2 x).1 ((l.every x).0 c)))
       (λ x c. (l.every x).1 ((h.2 x).0 (subst (λ z. Contains z x) same c))) in
       let next : t + 1 ≡ suc t = omega arith in
-      (i.0 + 1, i.1, ap (λ u. get_or table (u + 1) None) one ∙ is.tagged t h.0 ∙ ap Some next)
+      (i.0 + 1, i.1, ap (λ u. get_or table (u + 1) None) one ∙ is.tagged t h.0 (λ e. h.1 (sym same ∙ e)) ∙ ap Some next)

@@ -24,9 +24,14 @@ LeadsWith st ss states tags members pk y (suc t) =
 abbrev pub SendsBy : Held → List (Option ℕ) → ℕ → List ℕ → List ℕ → ℕ → Type 0
 SendsBy st table d pk y t = (u : ℕ) × Sends st d pk y u × (slice_index_or table u None ≡ Some t)
 
--- The tags of targets, for the first so many tags: 0 for 0, t + 1 for 1 + the number of the set of that tag, and none for
--- every other set.
-pub record IsTagTable (count : ℕ) (tags : List ℕ) (table : List (Option ℕ)) : Type 0 where
+-- The tags of targets, for the first so many tags: 0 for 0, t + 1 for 1 + the number of the set of that tag where the set has
+-- labels, and none for a set that stands at no tag.
+pub record IsTagTable (count : ℕ) (ss : List (List ℕ)) (tags : List ℕ) (table : List (Option ℕ)) : Type 0 where
   pub zero_is : slice_index_or table 0 None ≡ Some 0
-  pub tagged : (t : ℕ) → t < count → slice_index_or table (slice_index tags t + 1) None ≡ Some (t + 1)
+  pub tagged : (t : ℕ) → t < count → ¬ (set_of ss tags t ≡ []) → slice_index_or table (slice_index tags t + 1) None ≡ Some (t + 1)
   pub only : (u t : ℕ) → slice_index_or table u None ≡ Some t → ((u ≡ 0) × (t ≡ 0)) ⊎ ((i : ℕ) × (i < count) × (u ≡ slice_index tags i + 1) × (t ≡ i + 1))
+
+-- two tags with the same set are one, where the set has labels; the set without labels may stand at many tags
+abbrev pub AreOnce : List (List ℕ) → List ℕ → Type 0
+AreOnce ss tags =
+    (i j : ℕ) → i < length tags → j < length tags → ¬ (set_of ss tags i ≡ []) → slice_index tags i ≡ slice_index tags j → i ≡ j

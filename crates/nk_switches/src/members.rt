@@ -1,6 +1,6 @@
 //! The states that a tag stands for, and the tags of targets.
 ghost use Rattle.std.specs.Prelude.{◌≡◌, ℕ, ◌+◌, ◌<◌, ◌≤◌, None, List as Items, [], ◌∷◌, All, IfOk, OnOk, length, map, slice_index, slice_index_or, slice_set};
-ghost use Rattle.nk_switches.specs.Tagged.{members_of, set_of, IsTagTable};
+ghost use Rattle.nk_switches.specs.Tagged.{members_of, IsTagTable, AreOnce};
 
 use nk_determ::{SetId, Sets};
 use nk_field::List;
@@ -49,12 +49,12 @@ fn behind(alloc: Global, ss: &Sets, s: SetId, count: usize) -> Result<List<u64>,
     Ok(ls)
 }
 
-/// The tag of each target, by place: 0 for target 0; tag t + 1 for the target of the set at place t of `tags`;
-/// none for a set without a tag. The only error is that memory ran out.
+/// The tag of each target, by place: 0 for target 0; tag t + 1 for the target of the set at place t of `tags`, where that
+/// set has labels; none for a set without a tag. The only error is that memory ran out.
 pub fn tag_table(alloc: Global, ss: &Sets, tags: &[SetId]) -> Result<List<Option<u64>>, AllocError>
     requires known { All (λ s. s < length ss.now) tags.now }
-    requires once { (i j : ℕ) → i < length tags.now → j < length tags.now → slice_index tags.now i ≡ slice_index tags.now j → i ≡ j }
-    ensures { IfOk result (λ table. IsTagTable (length tags.now) tags.now table) }
+    requires once { AreOnce ss.now tags.now }
+    ensures { IfOk result (λ table. IsTagTable (length tags.now) ss.now tags.now table) }
 {
     let mut table = untagged(alloc, ss.len())?;
     let mut tag = 0;

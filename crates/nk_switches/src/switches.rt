@@ -1,10 +1,11 @@
 //! The tables of all switches.
-ghost use Rattle.std.specs.Prelude.{◌≡◌, ℕ, ◌<◌, Some, All, IfOk, length, slice_index};
+ghost use Rattle.std.specs.Prelude.{◌≡◌, ℕ, ◌<◌, Some, All, IfOk, length};
 ghost use Rattle.nk_store.specs.Held.{Grows};
 ghost use Rattle.nk_algebra.specs.Unions.{AreIds};
 ghost use Rattle.nk_extract.specs.RowsOf.{IsFrame};
 ghost use Rattle.nk_switches.specs.Matched.{Matched};
 ghost use Rattle.nk_switches.specs.Made.{IsStop, IsTableAt};
+ghost use Rattle.nk_switches.specs.Tagged.{AreOnce};
 
 use crate::members::tag_table;
 use crate::stop::Stop;
@@ -20,8 +21,8 @@ use std::alloc::AllocError;
 /// which they end leaves with tag 0; one that they record next leaves with the tag of the set of all labels that record
 /// it, and is left out where that set has no tag. Equal bucket lists of a switch are one group.
 ///
-/// `states` are the diagrams of an automaton, `tags` the numbers of the tags' sets of labels in order. The only error is
-/// that memory ran out.
+/// `states` are the diagrams of an automaton, `tags` the numbers of the tags' sets of labels in order: a set with labels
+/// once, the one without any as often as tags are left free. The only error is that memory ran out.
 pub fn switch_tables(
     st: &mut Store,
     ss: &mut Sets,
@@ -32,7 +33,7 @@ pub fn switch_tables(
     requires frame { (tag : ℕ) × (st.old.tag ≡ Some tag) × IsFrame st.old st.old.width tag }
     requires states { AreIds st.old states.now }
     requires known { All (λ s. s < length ss.old) tags.now }
-    requires once { (i j : ℕ) → i < length tags.now → j < length tags.now → slice_index tags.now i ≡ slice_index tags.now j → i ≡ j }
+    requires once { AreOnce ss.old tags.now }
     requires stops { (tag : ℕ) → st.old.tag ≡ Some tag → All (IsStop st.old ss.old states.now tags.now tag) stops.now }
     ensures { IfOk result (λ ts. (tag : ℕ) → st.old.tag ≡ Some tag →
         Matched (IsTableAt st.old ss.old states.now tags.now tag) stops.now ts) }

@@ -7,5 +7,5 @@ abbrev pub invariant-loop-s : goal.invariant-loop-s
 invariant-loop-s l = record {
   tag : l.tag ≡ l.s-index;
   len : length l.table ≡ length l.ss + 1;
-  is : IsTagTable l.s-index l.tags l.table;
+  is : IsTagTable l.s-index l.ss l.tags l.table;
 }

@@ -4,7 +4,7 @@ use Rattle.std.proofs.lemmas.Result.{IfOk-weaker}
 use Rattle.nk_switches.specs.Matched.{Matched}
 use Rattle.nk_switches.specs.Made.{ArePrintableStates, AreStatesAt}
 use Rattle.nk_switches.specs.Tagged.{IsTagTable}
-use Rattle.nk_switches.proofs.Tagging.{same_some}
+use Rattle.nk_switches.proofs.Tagging.{same_some, once_kept}
 use Rattle.nk_switches.proofs.Trees.{frame_grown}
 use Rattle.nk_switches.proofs.Finishing.{stop_places, tables_are, all_printable}
 use Rattle.nk_switches.proofs.switches.switch_tables.Goals as goal
@@ -12,6 +12,10 @@ use Rattle.nk_switches.proofs.switches.switch_tables.Goals as goal
 pub all_states-requires-clause-places : goal.all_states-requires-clause-places
 all_states-requires-clause-places c = λ k d lt.
     stop_places c.args.st.now c.args.ss.now c.args.states.now c.args.tags.now c.requires.frame.0 _ (c.requires.stops c.requires.frame.0 c.requires.frame.1 k d lt)
+
+pub tag_table-requires-clause-once : goal.tag_table-requires-clause-once
+tag_table-requires-clause-once c =
+    once_kept c.args.ss.now c.all_states.new.ss c.args.tags.now c.all_states.ensures.sets c.requires.known c.requires.once
 
 pub all_tables-requires-clause-frame : goal.all_tables-requires-clause-frame
 all_tables-requires-clause-frame c =
@@ -30,7 +34,7 @@ pub returns : goal.returns
 returns c = IfOk-weaker c.all_tables.result _ _ (λ ts k tag is.
     tables_are c.args.st.now c.all_states.new.st c.args.ss.now c.all_states.new.ss c.args.states.now c.args.tags.now tag c.all_states.ensures.grows c.all_states.ensures.sets c.requires.states c.requires.known
     c.differ.ensures.differ c.differ.ensures.ascend c.as_slice.result.now
-    (subst (IsTagTable (length c.args.tags.now) c.args.tags.now) (sym c.as_slice.ensures) c.in_ok-table.ensures)
+    (subst (IsTagTable (length c.args.tags.now) c.all_states.new.ss c.args.tags.now) (sym c.as_slice.ensures) c.in_ok-table.ensures)
     c.args.stops.now c.as_slice-2.result.now ts (c.requires.stops tag is)
     (subst (Matched (AreStatesAt c.all_states.new.st c.all_states.new.ss c.args.states.now c.args.tags.now) c.args.stops.now) (sym c.as_slice-2.ensures) c.in_ok-tag_states.ensures.tag_states)
     (k tag (c.all_states.ensures.grows.tag ∙ is))) c.all_tables.ensures.tables
