@@ -40,7 +40,7 @@ apart_fit {X} (x ∷ xs) ys a h =
         (in_either s.before (x ∷ s.after) y (subst (λ l. In l y) s.is (h y (inr i))))
 
 -- elements in an order in which none is before itself have no doubles
-apart_from :
+pub apart_from :
     {X : Type 0} (R : X → X → Type 0) → ((x : X) → R x x → ⊥) → (xs : List X) → AllPairs R xs → Apart xs
 apart_from R never [] h = tt
 apart_from R never (x ∷ xs) h = (λ i. never x (first_before R x xs h x i), apart_from R never xs (rest_in_order R x xs h))

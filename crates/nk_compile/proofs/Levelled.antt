@@ -15,14 +15,12 @@ use Rattle.nk_policy.specs.Distinct.{HasDistinct}
 use Rattle.nk_policy.specs.Labels.{IsTagSet, AtMost, AtLeast}
 use Rattle.nk_policy.specs.Tags.{AreTags, IsShortest, IsTagBefore}
 use Rattle.nk_policy.proofs.Numbering.{numbered_distinct}
-use Rattle.nk_names.specs.Accepted.{IsStart, most_tags}
+use Rattle.nk_names.specs.Accepted.{IsStart, IsCompilable, most_tags}
 use Rattle.nk_store.specs.declared.node.Out.{Out}
 use Rattle.nk_store.specs.Held.{Held, Grows, IsOver, HasFields, IsPacket}
 use Rattle.nk_store.proofs.Stores.{grows_on}
 use Rattle.nk_store.proofs.InRange.{packet_in_range, over_grown}
 use Rattle.nk_determ.specs.Sets.{Differ, Ascend}
-use Rattle.nk_table.specs.declared.Table.{Table}
-use Rattle.nk_table.specs.declared.Tables.{Tables}
 use Rattle.nk_auto.specs.Automaton.{IsAutomaton}
 use Rattle.nk_tag.specs.Numbers.{IsAtOdd, AreEntries, AreNumbers}
 use Rattle.nk_runs.specs.Labels.{IsAmong}
@@ -36,12 +34,17 @@ use Rattle.nk_runs.proofs.TagSets.{are_tags, many_tags}
 use Rattle.nk_places.specs.Edges.{is_start, is_no_edge}
 use Rattle.nk_compile.specs.Levelled.{IsLevelled, IsLeastOff}
 use Rattle.nk_places.specs.PacketSets.{IsSetInRange}
-use Rattle.nk_compile.specs.OffEdge.{EndsOffEdge}
+use Rattle.nk_compile.specs.NumberedBehind.{tags_behind}
+use Rattle.nk_compile.specs.OffEdge.{EndsOffEdge, EndsOnEdges}
+use Rattle.nk_compile.specs.PairAnswers.{IsUnopposed}
+use Rattle.nk_compile.specs.Preparing.{IsPrepared}
+use Rattle.nk_compile.specs.declared.prepared.Prepared.{Prepared}
 use Rattle.nk_compile.specs.Ready.{sets_of, IsClear, IsReady}
-use Rattle.nk_compile.specs.Answers.{AreMade}
 use Rattle.nk_compile.specs.Counted.{HasTagSets}
-use Rattle.nk_compile.specs.WholeTable.{IsTableOf}
-use Rattle.nk_compile.proofs.Making.{is_compilable}
+use Rattle.nk_compile.proofs.Carried.{without_doubles}
+use Rattle.nk_compile.proofs.FewTags.{apart_from}
+use Rattle.nk_compile.proofs.Making.{is_compilable, none_seen}
+use Rattle.nk_compile.proofs.TagPlaces.{never_itself}
 use Rattle.nk_compile.proofs.Whole.{IsSetUp, start_of, test_of, not_both}
 use Rattle.nk_compile.proofs.Fitting.{set_up}
 
@@ -200,36 +203,77 @@ module _ (old st : Held) (ss : List (List ℕ)) (states : List ℕ) (set start :
         | inr past ↦ absurd (subst (λ (l : List (ℕ × ℕ)). Named l s) (none_past ls i (omega (arith, past.1))) h)
       ]
 
-module _ (fields : FieldTable) (topo : Topology) (tag : ℕ) (p : Policy) (old : Held) (states : List ℕ) (new : Held) (ss : List (List ℕ)) (ls : List (List (ℕ × ℕ))) (broken : Bool)
-    (clear : IsClear fields topo tag p) (over : IsOver fields old) (auto : IsAutomaton old states 1 p) (lv : IsLevelled topo tag old states new ss ls broken)
-    (whole : broken ≡ false) (differ : Differ ss) (ascend : Ascend ss) (has : HasFields new) (r : List ℕ) (numbers : AreNumbers ss ls r) where
-  grown : Grows old new
-  grown = grows_on old lv.first new lv.grew lv.grows
+-- at least as many tag sets as there are tags
+pub tags_many : (p : Policy) (Start : Packet → Type 0) (tags : List (List ℕ)) → AreTags p Start tags → AtLeast (length tags) (IsTagSet p Start)
+tags_many p Start tags k = (
+  tags,
+  refl,
+  without_doubles tags (apart_from (IsTagBefore p Start) (never_itself p Start) tags k.in_order),
+  all_from_members (IsTagSet p Start) tags (λ s i. (k.exactly s).0 (contains_from_in tags s i)),
+)
 
-  in_order : AreTags p (IsStart fields topo) (sets_of ss r)
-  in_order = numbers_are_tags fields topo tag p old states new ss ls broken clear over auto lv whole differ r numbers
+module _ (fields : FieldTable) (topo : Topology) (tag : ℕ) (p : Policy) (b : Prepared) (k : IsPrepared fields topo tag p b) where
+  prepared_states : IsAutomaton k.before b.states 1 p
+  prepared_states = k.begun.automaton
 
-  -- all that the tables are made of is there
-  pub is_ready : IsReady fields topo p new ss states r
-  is_ready = record {
-    over = over_grown fields old new over grown;
-    has = has;
-    automaton = stands old new states 1 p auto grown;
-    ascend = ascend;
-    known = numbers_known lv.first new ss states lv.set lv.start lv.bad ls broken lv.are r numbers;
-    in_order = in_order;
-  }
+  -- where all its histories end at edge ports
+  pub prepared_ends : EndsOnEdges fields topo p
+  prepared_ends pk w last start gives =
+      all_end fields topo tag p k.before b.states b.store b.sets b.levels.levels b.levels.broken k.begun.clear k.begun.over prepared_states k.levelled k.whole pk w last start gives
 
-  -- and they are those of an accepted policy
-  pub are_made : (most : ℕ) → length r ≤ most → most ≡ slice_index fields.maxima tag → (ts : List Table) →
-      ((t : Tables) → t.fields ≡ fields → t.topo ≡ topo → t.tables ≡ ts → IsTableOf fields topo (IsStart fields topo) p t) → AreMade fields topo p ts
-  are_made most few is ts printed = record {
-    compilable = is_compilable fields topo tag p clear (λ pk w last start gives. all_end fields topo tag p old states new ss ls broken clear over auto lv whole pk w last start gives);
-    few = tags_few p (IsStart fields topo) (sets_of ss r) (most_tags fields fields.tag) in_order
-        (subst (λ n. n ≤ most_tags fields fields.tag) (sym (length-map r (λ s. get_or ss s []))) (subst (λ n. length r ≤ n) (is ∙ sym (ap (most_tags fields) clear.tag_is)) few));
-    printed = printed;
-  }
+  -- its entries are of known sets, a set once
+  pub prepared_entries : AreEntries b.sets b.levels.levels
+  prepared_entries = let l = k.levelled in entries_are l.first b.store b.sets b.states l.set l.start l.bad b.levels.levels b.levels.broken l.are
 
-  -- there are as many tag sets as numbers
-  pub tags_counted : (n : ℕ) → n ≡ length r → HasTagSets fields topo p n
-  tags_counted n e = (sets_of ss r, in_order, e ∙ sym (length-map r (λ s. get_or ss s [])))
+  -- it is compilable
+  pub prepared_compilable : IsCompilable fields topo p
+  prepared_compilable = is_compilable fields topo tag p k.begun.clear prepared_ends
+
+  -- nothing stands against it
+  pub prepared_unopposed : IsUnopposed fields topo p
+  prepared_unopposed = (none_seen fields topo tag p k.begun.clear.tag_is k.begun.seen, prepared_ends)
+
+  -- where so many sets are at odd levels, there are as many tag sets
+  pub prepared_many : (least : ℕ) → AtLeast least (IsAtOdd b.levels.levels) → AtLeast least (IsTagSet p (IsStart fields topo))
+  prepared_many least h =
+      many_are_tags fields topo tag p k.before b.states b.store b.sets b.levels.levels b.levels.broken k.begun.clear k.begun.over prepared_states k.levelled k.whole k.differ least h
+
+  module _ (r : List ℕ) (numbers : AreNumbers b.sets b.levels.levels r) where
+    -- the sets at odd levels in order are the tag sets
+    pub prepared_tags : AreTags p (IsStart fields topo) (sets_of b.sets r)
+    prepared_tags =
+        numbers_are_tags fields topo tag p k.before b.states b.store b.sets b.levels.levels b.levels.broken k.begun.clear k.begun.over prepared_states k.levelled k.whole k.differ r numbers
+
+    -- they are known
+    pub prepared_known : All (λ s. s < length b.sets) r
+    prepared_known = let l = k.levelled in numbers_known l.first b.store b.sets b.states l.set l.start l.bad b.levels.levels b.levels.broken l.are r numbers
+
+    -- all that the tables are made of is there, behind so many tags that stand for none
+    pub prepared_ready : (first : ℕ) (more : List (List ℕ)) (tags : List ℕ) → Ascend more → HasFields b.store → All (λ s. s < length more) tags →
+        sets_of more tags ≡ tags_behind first (sets_of b.sets r) → IsReady first fields topo p b.store more b.states tags
+    prepared_ready first more tags ascend has known numbered =
+        let grown = grows_on k.before k.levelled.first b.store k.levelled.grew k.levelled.grows in
+        record {
+          over = over_grown fields k.before b.store k.begun.over grown;
+          has = has;
+          automaton = stands k.before b.store b.states 1 p prepared_states grown;
+          ascend = ascend;
+          known = known;
+          sets = sets_of b.sets r;
+          numbered = numbered;
+          in_order = prepared_tags;
+        }
+
+    -- there are as many tag sets as numbers
+    pub prepared_counted : HasTagSets fields topo p (length r)
+    prepared_counted = (sets_of b.sets r, prepared_tags, sym (length-map r (λ s. get_or b.sets s [])))
+
+    -- at least
+    pub prepared_least : AtLeast (length r) (IsTagSet p (IsStart fields topo))
+    prepared_least = subst (λ n. AtLeast n (IsTagSet p (IsStart fields topo))) (length-map r (λ s. get_or b.sets s [])) (tags_many p (IsStart fields topo) (sets_of b.sets r) prepared_tags)
+
+    -- and no more than the tag has values above 0, where the numbers are not
+    pub prepared_few : (most : ℕ) → most ≡ slice_index fields.maxima tag → length r ≤ most → AtMost (most_tags fields fields.tag) (IsTagSet p (IsStart fields topo))
+    prepared_few most is few =
+        tags_few p (IsStart fields topo) (sets_of b.sets r) (most_tags fields fields.tag) prepared_tags
+        (subst (λ n. n ≤ most_tags fields fields.tag) (sym (length-map r (λ s. get_or b.sets s []))) (subst (λ n. length r ≤ n) (is ∙ sym (ap (most_tags fields) k.begun.clear.tag_is)) few))

@@ -1,4 +1,5 @@
 pub mod Begun
+pub mod Behind
 pub mod Carried
 pub mod ComingEnds
 pub mod ComingSteps
@@ -11,7 +12,12 @@ pub mod Levelled
 pub mod LinkEnds
 pub mod Making
 pub mod Naming
+pub mod Padding
+pub mod PairRows
+pub mod PairTags
+pub mod Pairing
 pub mod Printed
+pub mod PrintedRows
 pub mod Reached
 pub mod Results
 pub mod RowsFor

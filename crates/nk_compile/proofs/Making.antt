@@ -1,5 +1,5 @@
 -- From what is seen of a policy, its levels and its tag sets to its tables or the reason of a refusal.
-use Rattle.std.proofs.Common.{◌≡◌, ℕ, ◌+◌, Bool, true, false, List, refl, sym, ap, subst, ◌∙◌, Some, None}
+use Rattle.std.proofs.Common.{◌≡◌, ℕ, ◌+◌, Bool, true, false, List, refl, sym, ap, subst, ◌∙◌, Some, None, arith}
 use Rattle.std.specs.Prelude.{Option, Result, Ok, Err, IfErr, IsErrAnd, if◌then◌else◌, slice_index}
 use Rattle.nk_field.specs.Order.{Found, IsLeast}
 use Rattle.nk_field.specs.Packet.{FieldTable, IsFieldTable}
@@ -14,6 +14,8 @@ use Rattle.nk_compile.specs.Refusals.{seen_with, seen_for, seen, found_from}
 use Rattle.nk_compile.specs.Answers.{IsError}
 use Rattle.nk_compile.specs.Levelled.{IsLeastOff, IsOffFault, IsTagFault}
 use Rattle.nk_compile.specs.OffEdge.{EndsOffEdge, EndsOnEdges}
+use Rattle.nk_compile.specs.PairAnswers.{IsUnopposed}
+use Rattle.nk_compile.specs.Preparing.{IsEarlyError}
 use Rattle.nk_compile.specs.Ready.{IsClear}
 use Rattle.nk_compile.specs.declared.refusal.Refusal.{Refusal}
 use Rattle.nk_compile.specs.declared.refusal.Refusal.TheVariants.{NoPolicy, NoTag, TagUsed, LooseDup, SwitchSet, NoSuchLink, OffEdge, TooManyTags}
@@ -102,12 +104,12 @@ is_compilable fields topo tag p k ends = record {
 
 module _ (fields : FieldTable) (topo : Topology) (tag : ℕ) (p : Policy) (is : fields.tag ≡ Some tag) (none : seen_with tag topo p ≡ None) where
   -- nothing is seen
-  none_seen : seen fields topo p ≡ None
+  pub none_seen : seen fields topo p ≡ None
   none_seen = ap (λ o. seen_for o topo p) is ∙ none
 
   -- the least history off each edge port is a reason
   pub off_error : (old : Held) (states : List ℕ) (e : CompileError) → ((f : Found) → IsLeastOff topo tag old states f → IsLeast (EndsOffEdge fields topo p) f) →
-      IsOffFault topo tag old states e → IsError fields topo p e
+      IsOffFault topo tag old states e → IsEarlyError fields topo p e
   off_error old states NoMemory to h = tt
   off_error old states (Refused (OffEdge start history)) to h = (none_seen, to (found_from start history) h)
   off_error old states (Refused NoPolicy) to h = absurd h
@@ -118,16 +120,45 @@ module _ (fields : FieldTable) (topo : Topology) (tag : ℕ) (p : Policy) (is : 
   off_error old states (Refused NoSuchLink) to h = absurd h
   off_error old states (Refused (TooManyTags found)) to h = absurd h
 
-  -- so are too many sets
-  pub many_error : (levels : List (List (ℕ × ℕ))) (max : ℕ) (e : CompileError) → EndsOnEdges fields topo p → max ≡ slice_index fields.maxima tag →
-      ((least : ℕ) → AtLeast least (IsAtOdd levels) → AtLeast least (IsTagSet p (IsStart fields topo))) → IsTagFault levels max e → IsError fields topo p e
-  many_error levels max NoMemory ends most to h = tt
-  many_error levels max (Refused (TooManyTags found)) ends most to h =
-      (none_seen, ends, h.0 ∙ ap (λ n. n + 1) (most ∙ sym (ap (most_tags fields) is)), to found h.1)
-  many_error levels max (Refused NoPolicy) ends most to h = absurd h
-  many_error levels max (Refused NoTag) ends most to h = absurd h
-  many_error levels max (Refused TagUsed) ends most to h = absurd h
-  many_error levels max (Refused LooseDup) ends most to h = absurd h
-  many_error levels max (Refused SwitchSet) ends most to h = absurd h
-  many_error levels max (Refused NoSuchLink) ends most to h = absurd h
-  many_error levels max (Refused (OffEdge start history)) ends most to h = absurd h
+-- what is seen is a reason before tags are numbered
+pub seen_early : (fields : FieldTable) (topo : Topology) (tag : ℕ) (p : Policy) (r : Refusal) → fields.tag ≡ Some tag → seen_with tag topo p ≡ Some r →
+    IsEarlyError fields topo p (Refused r)
+seen_early fields topo tag p TagUsed is h = ap (λ o. seen_for o topo p) is ∙ h
+seen_early fields topo tag p LooseDup is h = ap (λ o. seen_for o topo p) is ∙ h
+seen_early fields topo tag p SwitchSet is h = ap (λ o. seen_for o topo p) is ∙ h
+seen_early fields topo tag p NoSuchLink is h = ap (λ o. seen_for o topo p) is ∙ h
+seen_early fields topo tag p NoPolicy is h = absurd (seen_is tag topo p NoPolicy h)
+seen_early fields topo tag p NoTag is h = absurd (seen_is tag topo p NoTag h)
+seen_early fields topo tag p (OffEdge start history) is h = absurd (seen_is tag topo p (OffEdge start history) h)
+seen_early fields topo tag p (TooManyTags found) is h = absurd (seen_is tag topo p (TooManyTags found) h)
+
+-- a reason before tags are numbered is one
+pub early_error : (fields : FieldTable) (topo : Topology) (p : Policy) (e : CompileError) → IsEarlyError fields topo p e → IsError fields topo p e
+early_error fields topo p NoMemory h = tt
+early_error fields topo p (Refused NoPolicy) h = absurd h
+early_error fields topo p (Refused NoTag) h = absurd h
+early_error fields topo p (Refused TagUsed) h = h
+early_error fields topo p (Refused LooseDup) h = h
+early_error fields topo p (Refused SwitchSet) h = h
+early_error fields topo p (Refused NoSuchLink) h = h
+early_error fields topo p (Refused (OffEdge start history)) h = h
+early_error fields topo p (Refused (TooManyTags found)) h = absurd h
+
+-- so are too many sets
+pub many_error : (fields : FieldTable) (topo : Topology) (tag : ℕ) (p : Policy) → fields.tag ≡ Some tag → IsUnopposed fields topo p →
+    (levels : List (List (ℕ × ℕ))) (max : ℕ) (e : CompileError) → max ≡ slice_index fields.maxima tag →
+    ((least : ℕ) → AtLeast least (IsAtOdd levels) → AtLeast least (IsTagSet p (IsStart fields topo))) → IsTagFault levels 0 max e → IsError fields topo p e
+many_error fields topo tag p is alone levels max NoMemory most to h = tt
+many_error fields topo tag p is alone levels max (Refused (TooManyTags found)) most to h = (
+  alone.0,
+  alone.1,
+  h.0 ∙ ap (λ n. n + 1) (most ∙ sym (ap (most_tags fields) is)),
+  subst (λ n. AtLeast n (IsTagSet p (IsStart fields topo))) (let e = h.1.2 in omega (arith, e)) (to h.1.0 h.1.1),
+)
+many_error fields topo tag p is alone levels max (Refused NoPolicy) most to h = absurd h
+many_error fields topo tag p is alone levels max (Refused NoTag) most to h = absurd h
+many_error fields topo tag p is alone levels max (Refused TagUsed) most to h = absurd h
+many_error fields topo tag p is alone levels max (Refused LooseDup) most to h = absurd h
+many_error fields topo tag p is alone levels max (Refused SwitchSet) most to h = absurd h
+many_error fields topo tag p is alone levels max (Refused NoSuchLink) most to h = absurd h
+many_error fields topo tag p is alone levels max (Refused (OffEdge start history)) most to h = absurd h

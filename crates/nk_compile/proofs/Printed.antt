@@ -1,13 +1,16 @@
--- The printed table of a compilable policy carries it.
-use Rattle.std.proofs.Common.{◌≡◌, ℕ, ◌*◌, Bool, true, false, inl, inr, Some, None, List, [], ◌∷◌, length, refl, subst}
-use Rattle.std.specs.Prelude.{◌↔◌, All, Contains, if◌then◌else◌, map}
+-- The printed table of a compilable policy carries it, whatever tags its own are numbered behind.
+use Rattle.std.proofs.Common.{◌≡◌, ℕ, suc, ◌+◌, ◌*◌, ◌<◌, ◌≤◌, Bool, true, false, inl, inr, Some, None, List, [], ◌∷◌, length, refl, sym, subst, ◌∙◌, arith}
+use Rattle.std.specs.Prelude.{◌↔◌, All, Contains, if◌then◌else◌, map, slice_index}
+use Rattle.std.proofs.lemmas.Option.{slice_get_within}
 use Rattle.nk_field.specs.Packet.{FieldTable, IsFieldTable, IsUntagged}
+use Rattle.nk_field.proofs.Lists.{In}
+use Rattle.nk_field.proofs.Ascending.{all_from_members}
 use Rattle.nk_topo.specs.Topology.{Topology, AreLinks}
 use Rattle.nk_policy.specs.Policy.{Policy}
 use Rattle.nk_policy.specs.Meaning.{Gives}
 use Rattle.nk_policy.specs.Distinct.{HasDistinct}
 use Rattle.nk_policy.specs.Ranges.{IsInRange}
-use Rattle.nk_policy.specs.Labels.{IsWithoutDoubles}
+use Rattle.nk_policy.specs.Labels.{IsWithoutDoubles, IsTagSet, AtMost}
 use Rattle.nk_policy.proofs.Numbering.{numbered_distinct}
 use Rattle.nk_names.specs.declared.Program.{Program}
 use Rattle.nk_names.specs.Accepted.{IsStart, IsCompilable, IsAccepted}
@@ -15,21 +18,31 @@ use Rattle.nk_names.specs.Named.{policy_named}
 use Rattle.nk_names.specs.ProgramValue.{IsLet, IsProgram}
 use Rattle.nk_names.proofs.Named.{let_named}
 use Rattle.nk_table.specs.declared.Tables.{Tables}
-use Rattle.nk_table.specs.Hops.{left_after}
+use Rattle.nk_table.specs.Hops.{Copy, waiting, left_after}
+use Rattle.nk_compile.specs.NumberedBehind.{tags_behind, IsTableBehind}
 use Rattle.nk_compile.specs.WholeTable.{IsTableOf}
 use Rattle.nk_compile.specs.Carries.{erased_copy, Carries}
-use Rattle.nk_compile.proofs.Reached.{Setting}
+use Rattle.nk_compile.proofs.Behind.{from_behind, stand_behind, behind_none}
+use Rattle.nk_compile.proofs.FewTags.{tags_fit}
+use Rattle.nk_compile.proofs.Reached.{Setting, same_some}
+use Rattle.nk_compile.proofs.TagPlaces.{tags_stand}
 use Rattle.nk_compile.proofs.Emitted.{emitted, emitted_apart}
 use Rattle.nk_compile.proofs.RowsFor.{has_buckets}
 use Rattle.nk_compile.proofs.Carried.{once, exactly, none_tagged}
+use Rattle.nk_compile.proofs.Waits.{crossed_tag}
 
--- what is asked of fields, topology, policy and tables
-abbrev pub Asked : Policy → Tables → FieldTable → Topology → Type 0
-Asked p t fields topo =
-    IsFieldTable fields × AreLinks topo × HasDistinct p × IsInRange p fields × IsCompilable fields topo p × IsTableOf fields topo (IsStart fields topo) p t
+-- what is asked of fields, topology, policy and tables, whose tags are numbered behind the first ones
+abbrev pub Asked : ℕ → Policy → Tables → FieldTable → Topology → Type 0
+Asked first p t fields topo =
+    IsFieldTable fields
+    × AreLinks topo
+    × HasDistinct p
+    × IsInRange p fields
+    × IsCompilable fields topo p
+    × IsTableBehind first fields topo (IsStart fields topo) p t
 
 -- from each start, after each number of crossings
-record Facts (p : Policy) (t : Tables) (fields : FieldTable) (topo : Topology) : Type 0 where
+record Facts (first : ℕ) (p : Policy) (t : Tables) (fields : FieldTable) (topo : Topology) : Type 0 where
   leave_once :
       (k : ℕ) (pk : List ℕ) → IsStart fields topo pk
       → IsWithoutDoubles (map (erased_copy t) (left_after t k pk))
@@ -37,46 +50,78 @@ record Facts (p : Policy) (t : Tables) (fields : FieldTable) (topo : Topology) :
   leave_untagged :
       (k : ℕ) (pk : List ℕ) → IsStart fields topo pk
       → All (λ c. IsUntagged t.fields c.packet) (left_after t k pk)
+  cross_tagged :
+      (tag most : ℕ) → fields.tag ≡ Some tag → AtMost most (IsTagSet p (IsStart fields topo)) → (k : ℕ) (pk : List ℕ)
+      → IsStart fields topo pk
+      → All (λ (c : Copy). (first < slice_index c.packet tag) × (slice_index c.packet tag ≤ first + most)) (waiting t (suc k) pk)
 
--- over the tables' own fields and topology
-here : (p : Policy) (t : Tables) → Asked p t t.fields t.topo → Facts p t t.fields t.topo
-here p t a =
-    let table : IsTableOf t.fields t.topo (IsStart t.fields t.topo) p t = a.5 in
-    let g : Setting t p table.tag table.tags = record {
-      fields_ok = a.0;
-      links_ok = a.1;
-      distinct = a.2;
-      in_range = a.3;
-      compilable = a.4;
-      tag_is = table.tag_declared;
-      in_order = table.in_order;
-    } in
-    let buckets = has_buckets t p table.tag table.tags g table.switches table.each in
-    let emits = emitted t p table.tag table.tags g buckets in
-    let apart = emitted_apart t p table.tag table.tags g buckets in
-    record {
-      leave_once = λ k pk start. once t p table.tag table.tags g emits apart pk start k;
-      leave_exactly = λ k pk start w last. exactly t p table.tag table.tags g emits apart pk start k w last;
-      leave_untagged = λ k pk start. none_tagged t p table.tag table.tags g emits apart pk start k;
-    }
+module _ (first : ℕ) (p : Policy) (t : Tables) (a : Asked first p t t.fields t.topo) where
+  table : IsTableBehind first t.fields t.topo (IsStart t.fields t.topo) p t
+  table = a.5
+
+  setting : Setting t p table.tag (tags_behind first table.tags)
+  setting = record {
+    fields_ok = a.0;
+    links_ok = a.1;
+    distinct = a.2;
+    in_range = a.3;
+    compilable = a.4;
+    tag_is = table.tag_declared;
+    stand = stand_behind first p (IsStart t.fields t.topo) table.tags (tags_stand p (IsStart t.fields t.topo) table.tags table.in_order);
+  }
+
+  -- over the tables' own fields and topology
+  here : Facts first p t t.fields t.topo
+  here =
+      let tags = tags_behind first table.tags in
+      let g = setting in
+      let buckets = has_buckets t p table.tag tags g table.switches table.each in
+      let emits = emitted t p table.tag tags g buckets in
+      let apart = emitted_apart t p table.tag tags g buckets in
+      record {
+        leave_once = λ k pk start. once t p table.tag tags g emits apart pk start k;
+        leave_exactly = λ k pk start w last. exactly t p table.tag tags g emits apart pk start k w last;
+        leave_untagged = λ k pk start. none_tagged t p table.tag tags g emits apart pk start k;
+        cross_tagged = λ tag most declared few k pk start.
+            all_from_members (λ (c : Copy). (first < slice_index c.packet tag) × (slice_index c.packet tag ≤ first + most)) (waiting t (suc k) pk) (λ c i.
+            let d = crossed_tag t p table.tag tags g emits apart pk start k c i in
+            let b = from_behind first table.tags d.0 d.1 d.3 d.2 in
+            let fit = tags_fit p (IsStart t.fields t.topo) table.tags most table.in_order few in
+            let inside : b.0 < length table.tags = slice_get_within table.tags b.0 d.1 b.2 in
+            let same : tag ≡ table.tag = same_some tag table.tag (sym declared ∙ table.tag_declared) in
+            let value : slice_index c.packet table.tag ≡ suc d.0 = d.4 in
+            let place : d.0 ≡ first + b.0 = b.1 in
+            subst (λ f. (first < slice_index c.packet f) × (slice_index c.packet f ≤ first + most)) (sym same)
+            (omega (arith, value, place), omega (arith, value, place, inside, fit)));
+      }
 
 -- over equal ones
 facts :
-    (p : Policy) (t : Tables) (fields : FieldTable) (topo : Topology) → t.fields ≡ fields → t.topo ≡ topo
-    → Asked p t fields topo → Facts p t fields topo
-facts p t fields topo e f =
+    (first : ℕ) (p : Policy) (t : Tables) (fields : FieldTable) (topo : Topology) → t.fields ≡ fields → t.topo ≡ topo
+    → Asked first p t fields topo → Facts first p t fields topo
+facts first p t fields topo e f =
     subst
-    (λ i. Asked p t i topo → Facts p t i topo)
+    (λ i. Asked first p t i topo → Facts first p t i topo)
     e
-    (subst (λ o. Asked p t t.fields o → Facts p t t.fields o) f (here p t))
+    (subst (λ o. Asked first p t t.fields o → Facts first p t t.fields o) f (here first p t))
+
+-- the copies that have crossed a link have the policy's own tags
+pub crossing_tags :
+    (first : ℕ) (p : Policy) (t : Tables) (fields : FieldTable) (topo : Topology) → Asked first p t fields topo
+    → (tag most : ℕ) → fields.tag ≡ Some tag → AtMost most (IsTagSet p (IsStart fields topo)) → (k : ℕ) (pk : List ℕ)
+    → IsStart fields topo pk
+    → All (λ (c : Copy). (first < slice_index c.packet tag) × (slice_index c.packet tag ≤ first + most)) (waiting t (suc k) pk)
+crossing_tags first p t fields topo a =
+    let printed : IsTableBehind first fields topo (IsStart fields topo) p t = a.5 in
+    (facts first p t fields topo printed.same_fields printed.same_topology a).cross_tagged
 
 -- over a program
-pub printed_carries :
-    (program : Program) (p : Policy) (t : Tables) → IsFieldTable program.fields → AreLinks program.topo
+pub behind_carries :
+    (program : Program) (first : ℕ) (p : Policy) (t : Tables) → IsFieldTable program.fields → AreLinks program.topo
     → HasDistinct p → IsInRange p program.fields → IsCompilable program.fields program.topo p
-    → IsTableOf program.fields program.topo (IsStart program.fields program.topo) p t → Carries program p t
-printed_carries program p t fields_ok links_ok distinct in_range compilable table =
-    let h = facts p t program.fields program.topo table.same_fields table.same_topology (fields_ok, links_ok, distinct, in_range, compilable, table) in
+    → IsTableBehind first program.fields program.topo (IsStart program.fields program.topo) p t → Carries program p t
+behind_carries program first p t fields_ok links_ok distinct in_range compilable table =
+    let h = facts first p t program.fields program.topo table.same_fields table.same_topology (fields_ok, links_ok, distinct, in_range, compilable, table) in
     record {
       same_fields = table.same_fields;
       same_topology = table.same_topology;
@@ -85,11 +130,28 @@ printed_carries program p t fields_ok links_ok distinct in_range compilable tabl
       untagged = h.leave_untagged;
     }
 
+-- where no tags stand before
+pub printed_carries :
+    (program : Program) (p : Policy) (t : Tables) → IsFieldTable program.fields → AreLinks program.topo
+    → HasDistinct p → IsInRange p program.fields → IsCompilable program.fields program.topo p
+    → IsTableOf program.fields program.topo (IsStart program.fields program.topo) p t → Carries program p t
+printed_carries program p t fields_ok links_ok distinct in_range compilable table =
+    behind_carries program 0 p t fields_ok links_ok distinct in_range compilable
+    (behind_none program.fields program.topo (IsStart program.fields program.topo) p t table)
+
 -- of a program's policy that is accepted
+pub accepted_behind_carries :
+    (program : Program) (name : List ℕ) (first : ℕ) (p : Policy) (t : Tables)
+    → IsProgram program.fields program.topo program.lets → policy_named program name ≡ Some p → IsAccepted program p
+    → IsTableBehind first program.fields program.topo (IsStart program.fields program.topo) p t → Carries program p t
+accepted_behind_carries program name first p t ok named accepted table =
+    let is : IsLet program.fields p = let_named program name p ok named in
+    behind_carries program first p t ok.table ok.topology.links (numbered_distinct p 1 is.numbered) is.in_range accepted.0 table
+
 pub accepted_carries :
     (program : Program) (name : List ℕ) (p : Policy) (t : Tables)
     → IsProgram program.fields program.topo program.lets → policy_named program name ≡ Some p → IsAccepted program p
     → IsTableOf program.fields program.topo (IsStart program.fields program.topo) p t → Carries program p t
 accepted_carries program name p t ok named accepted table =
-    let is : IsLet program.fields p = let_named program name p ok named in
-    printed_carries program p t ok.table ok.topology.links (numbered_distinct p 1 is.numbered) is.in_range accepted.0 table
+    accepted_behind_carries program name 0 p t ok named accepted
+    (behind_none program.fields program.topo (IsStart program.fields program.topo) p t table)

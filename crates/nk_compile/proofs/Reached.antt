@@ -14,7 +14,6 @@ use Rattle.nk_policy.specs.Distinct.{HasDistinct}
 use Rattle.nk_policy.specs.Ranges.{IsInRange, AssignsOnly}
 use Rattle.nk_policy.specs.Labels.{IsAt, HasExactly}
 use Rattle.nk_policy.specs.Leaves.{has_leaf, is_on_field}
-use Rattle.nk_policy.specs.Tags.{AreTags}
 use Rattle.nk_policy.specs.Literals.{Literal, HoldsLiteral, moved_by}
 use Rattle.nk_policy.specs.Crossings.{IsBetween}
 use Rattle.nk_policy.proofs.Kept
@@ -31,6 +30,7 @@ use Rattle.nk_table.specs.Hops.{moved_to}
 use Rattle.nk_compile.specs.PrintedTable.{IsOfTag, StateRecords, IsResult}
 use Rattle.nk_compile.specs.WholeTable.{HasRowsAt, link_end}
 use Rattle.nk_compile.proofs.LinkEnds.{end_of_literal}
+use Rattle.nk_compile.proofs.TagPlaces.{StandOnce}
 
 -- equal options have equal values
 pub same_some : {A : Type 0} (a b : A) → Some a ≡ Some b → a ≡ b
@@ -44,7 +44,7 @@ pub record Setting (t : Tables) (p : Policy) (tag : ℕ) (tags : List (List ℕ)
   pub in_range : IsInRange p t.fields
   pub compilable : IsCompilable t.fields t.topo p
   pub tag_is : t.fields.tag ≡ Some tag
-  pub in_order : AreTags p (IsStart t.fields t.topo) tags
+  pub stand : StandOnce p (IsStart t.fields t.topo) tags
 
 -- a policy that is left between two crossings, with what its runs keep
 pub record IsRest (t : Tables) (p : Policy) (tag : ℕ) (s : Policy) : Type 0 where

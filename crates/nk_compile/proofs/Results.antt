@@ -56,7 +56,7 @@ set_contained ss tags t lt = contains_from_in _ _ (there tags t lt)
     there (x ∷ is) zero l = inl refl
     there (x ∷ is) (suc i) l = inr (there is i (omega (arith, l)))
 
-module _ (fields : FieldTable) (topo : Topology) (tag : ℕ) (p : Policy) (st : Held) (ss : List (List ℕ)) (states tags : List ℕ) (clear : IsClear fields topo tag p) (ready : IsReady fields topo p st ss states tags)
+module _ (first : ℕ) (fields : FieldTable) (topo : Topology) (tag : ℕ) (p : Policy) (st : Held) (ss : List (List ℕ)) (states tags : List ℕ) (clear : IsClear fields topo tag p) (ready : IsReady first fields topo p st ss states tags)
     (tagged : (i : ℕ) → i < length tags → IsTagged p ss tags i) where
   distinct : HasDistinct p
   distinct = numbered_distinct p 1 clear.numbered

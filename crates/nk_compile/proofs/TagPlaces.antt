@@ -1,11 +1,12 @@
 -- Each tag set has one place in the list of the tag sets.
-use Rattle.std.proofs.Common.{◌≡◌, ℕ, zero, suc, ◌<◌, inl, inr, ⊎_elim, Some, List, [], ◌∷◌, refl, sym, ap, subst, arith}
+use Rattle.std.proofs.Common.{◌≡◌, ◌≢◌, ℕ, zero, suc, ◌<◌, inl, inr, ⊎_elim, Some, List, [], ◌∷◌, refl, sym, ap, subst, arith}
 use Rattle.std.specs.Prelude.{AllPairs, slice_get}
 use Rattle.nk_field.specs.Order.{IsListedBefore}
-use Rattle.nk_field.proofs.Lists.{In}
+use Rattle.nk_field.proofs.Lists.{In, in_from_contains}
 use Rattle.nk_field.proofs.Ascending.{first_before, rest_in_order}
 use Rattle.nk_policy.specs.Policy.{Policy}
-use Rattle.nk_policy.specs.Tags.{IsShortest, IsTagBefore}
+use Rattle.nk_policy.specs.Labels.{IsTagSet}
+use Rattle.nk_policy.specs.Tags.{IsShortest, IsTagBefore, AreTags}
 
 -- no list stands before itself
 pub never_before : (xs : List ℕ) → IsListedBefore xs xs → ⊥
@@ -50,3 +51,15 @@ pub place_of : {X : Type 0} (xs : List X) (x : X) → In xs x → (i : ℕ) × (
 place_of [] x h = absurd h
 place_of (y ∷ ys) x h =
     ⊎_elim (λ e. (0, ap Some (sym e))) (λ r. let s = place_of ys x r in (suc s.0, s.1)) h
+
+-- each tag set stands at a place, and a set that isn't empty at one place alone
+pub record StandOnce (p : Policy) (Start : List ℕ → Type 0) (tags : List (List ℕ)) : Type 0 where
+  pub stands : (s : List ℕ) → IsTagSet p Start s → (i : ℕ) × (slice_get tags i ≡ Some s)
+  pub once : (s : List ℕ) (i j : ℕ) → s ≢ [] → slice_get tags i ≡ Some s → slice_get tags j ≡ Some s → i ≡ j
+
+-- so it is in the list of the tag sets
+pub tags_stand : (p : Policy) (Start : List ℕ → Type 0) (tags : List (List ℕ)) → AreTags p Start tags → StandOnce p Start tags
+tags_stand p Start tags k = record {
+  stands = λ s h. place_of tags s (in_from_contains tags s ((k.exactly s).1 h));
+  once = λ s i j some e f. one_place (IsTagBefore p Start) (never_itself p Start) tags k.in_order i j s e f;
+}

@@ -1,8 +1,8 @@
 -- The tables that are made of the states and the tag sets of a policy are the printed ones.
 use Rattle.std.proofs.Common.{◌≡◌, ◌≢◌, ℕ, zero, suc, ◌<◌, ◌↔◌, Option, Some, None, true, List, [], ◌∷◌, length, get_or, inl, refl, sym, ap, subst, ◌∙◌}
-use Rattle.std.specs.Prelude.{All, map, Contains}
+use Rattle.std.specs.Prelude.{All, map, Contains, slice_get}
 use Rattle.nk_field.specs.Packet.{FieldTable}
-use Rattle.nk_field.proofs.Lists.{contains_from_in}
+use Rattle.nk_field.proofs.Lists.{In, contains_from_in, in_from_contains}
 use Rattle.nk_field.proofs.Ascending.{all_from_members, members_from_all}
 use Rattle.nk_topo.specs.Topology.{Topology, numbers_of}
 use Rattle.nk_policy.specs.Policy.{Policy}
@@ -18,15 +18,18 @@ use Rattle.nk_table.specs.declared.Table.{Table}
 use Rattle.nk_table.specs.declared.Tables.{Tables}
 use Rattle.nk_switches.specs.declared.stop.Stop.{Stop}
 use Rattle.nk_switches.specs.Matched.{Matched}
-use Rattle.nk_switches.specs.Tagged.{set_of}
+use Rattle.nk_switches.specs.Tagged.{set_of, AreOnce}
 use Rattle.nk_switches.specs.Made.{IsTableAt, IsStop}
 use Rattle.nk_switches.proofs.Matching.{of_second, matched_maps}
-use Rattle.nk_compile.specs.WholeTable.{HasRowsAt, IsSwitchTable, IsTableOf, link_end}
+use Rattle.nk_compile.specs.NumberedBehind.{tags_behind, IsTableBehind}
+use Rattle.nk_compile.specs.WholeTable.{HasRowsAt, IsSwitchTable, link_end}
 use Rattle.nk_compile.specs.Ready.{sets_of, IsClear, IsReady}
 use Rattle.nk_compile.specs.Comings.{first_end, ComesTo, HasComing}
 use Rattle.nk_compile.proofs.Standing.{IsTagged}
-use Rattle.nk_compile.proofs.TagPlaces.{never_itself, one_place}
-use Rattle.nk_compile.proofs.TagSets.{literal_of, one_end, not_empty}
+use Rattle.nk_compile.proofs.Padding.{behind_in, behind_once}
+use Rattle.nk_compile.proofs.TagPlaces.{never_itself}
+use Rattle.nk_compile.proofs.Reasons.{none_some}
+use Rattle.nk_compile.proofs.TagSets.{literal_of, one_end}
 use Rattle.nk_compile.proofs.Results.{set_there, set_within, set_contained, dup_place, tag_at, switch_table_is}
 
 -- the first of some marks is one of them
@@ -34,67 +37,83 @@ first_of : (ends : List (Option ℕ)) (s : List ℕ) → s ≢ [] → (l : ℕ) 
 first_of ends [] h = absurd (h refl)
 first_of ends (l ∷ ls) h = (l, contains_from_in (l ∷ ls) l (inl refl), refl)
 
-module _ (fields : FieldTable) (topo : Topology) (tag : ℕ) (p : Policy) (st : Held) (ss : List (List ℕ)) (states tags : List ℕ) (clear : IsClear fields topo tag p) (ready : IsReady fields topo p st ss states tags) where
+-- a set with a member has labels
+some_labels : (s : List ℕ) (l : ℕ) → Contains s l → s ≡ [] → ⊥
+some_labels s l c e = in_from_contains [] l (subst (λ z. Contains z l) e c)
+
+-- the set without labels leads nowhere
+some_end : (ends : List (Option ℕ)) (s : List ℕ) (sw : ℕ) → first_end ends s ≡ Some sw → s ≡ [] → ⊥
+some_end ends s sw h e = absurd (none_some sw (sym (ap (first_end ends) e) ∙ h))
+
+module _ (first : ℕ) (fields : FieldTable) (topo : Topology) (tag : ℕ) (p : Policy) (st : Held) (ss : List (List ℕ)) (states tags : List ℕ) (clear : IsClear fields topo tag p) (ready : IsReady first fields topo p st ss states tags) where
   distinct : HasDistinct p
   distinct = numbered_distinct p 1 clear.numbered
 
-  -- each tag's set is a tag set
-  tag_set : (i : ℕ) → i < length tags → IsTagSet p (IsStart fields topo) (set_of ss tags i)
-  tag_set i lt = (ready.in_order.exactly (set_of ss tags i)).0 (set_contained ss tags i lt)
+  -- each tag's set with labels is a tag set
+  tag_set : (i : ℕ) → i < length tags → (set_of ss tags i ≡ [] → ⊥) → IsTagSet p (IsStart fields topo) (set_of ss tags i)
+  tag_set i lt some =
+      let s = set_of ss tags i in
+      let among : In (tags_behind first ready.sets) s = in_from_contains _ s (subst (λ l. Contains l s) ready.numbered (set_contained ss tags i lt)) in
+      (ready.in_order.exactly s).0 (contains_from_in ready.sets s (behind_in first ready.sets s some among))
 
   -- so it has first dups of literals
   tagged : (i : ℕ) → i < length tags → IsTagged p ss tags i
   tagged i lt = record {
-    literal = λ l c. literal_of topo clear.topology.links p distinct clear.dups_in_links clear.links_declared (IsStart fields topo) (set_of ss tags i) (tag_set i lt) l c;
+    literal = λ l c. literal_of topo clear.topology.links p distinct clear.dups_in_links clear.links_declared (IsStart fields topo) (set_of ss tags i) (tag_set i lt (some_labels (set_of ss tags i) l c)) l c;
   }
 
-  -- no two tags have one set
-  pub tags_once : (i j : ℕ) → i < length tags → j < length tags → get_or tags i 0 ≡ get_or tags j 0 → i ≡ j
-  tags_once i j a b e =
-      one_place (IsTagBefore p (IsStart fields topo)) (never_itself p (IsStart fields topo)) (sets_of ss tags) ready.in_order.in_order i j (set_of ss tags i)
-      (set_there ss tags i a) (set_there ss tags j b ∙ ap (λ n. Some (get_or ss n [])) (sym e))
+  -- the set at a place
+  set_at : (i : ℕ) → i < length tags → slice_get (tags_behind first ready.sets) i ≡ Some (set_of ss tags i)
+  set_at i lt = subst (λ l. slice_get l i ≡ Some (set_of ss tags i)) ready.numbered (set_there ss tags i lt)
+
+  -- no two tags have one set with labels
+  pub tags_once : AreOnce ss tags
+  tags_once i j a b some e =
+      behind_once (IsTagBefore p (IsStart fields topo)) (never_itself p (IsStart fields topo)) first ready.sets ready.in_order.in_order i j (set_of ss tags i) some
+      (set_at i a) (set_at j b ∙ ap (λ n. Some (get_or ss n [])) (sym e))
 
   module _ (ends : List (Option ℕ)) (each : (l : ℕ) → l < length states → get_or ends l None ≡ link_end p l) where
     -- a member's place in the list of ends
     member_end : (i : ℕ) → i < length tags → (l : ℕ) → Contains (set_of ss tags i) l → get_or ends l None ≡ link_end p l
     member_end i lt l c =
         let k = (tagged i lt).literal l c in
-        each l (dup_place fields topo tag p st ss states tags clear ready tagged l (subst (λ n. has_dup p n ≡ true) k.2 (holds_first p k.0 k.1))).1
+        each l (dup_place first fields topo tag p st ss states tags clear ready tagged l (subst (λ n. has_dup p n ≡ true) k.2 (holds_first p k.0 k.1))).1
 
     -- a tag comes to a switch exactly where it has rows there
     comes_rows : (sw t : ℕ) → ComesTo ends ss tags (length tags) sw t ↔ HasRowsAt p (sets_of ss tags) sw t
     comes_rows sw zero = (λ u. tt, λ u. tt)
     comes_rows sw (suc i) = (
       λ h.
-          let f = first_of ends (set_of ss tags i) (not_empty topo clear.topology.links p distinct clear.dups_in_links clear.links_declared (IsStart fields topo) (set_of ss tags i) (tag_set i h.0)) in
+          let f = first_of ends (set_of ss tags i) (some_end ends (set_of ss tags i) sw h.1) in
           (set_of ss tags i, f.0, set_there ss tags i h.0, f.1, sym (member_end i h.0 f.0 f.1) ∙ sym f.2 ∙ h.1),
       λ h.
           let w = set_within ss tags i h.0 h.2 in
-          let f = first_of ends (set_of ss tags i) (not_empty topo clear.topology.links p distinct clear.dups_in_links clear.links_declared (IsStart fields topo) (set_of ss tags i) (tag_set i w.0)) in
-          let c : Contains (set_of ss tags i) h.1 = subst (λ s. Contains s h.1) (sym w.1) h.3 in (
+          let c : Contains (set_of ss tags i) h.1 = subst (λ s. Contains s h.1) (sym w.1) h.3 in
+          let some = some_labels (set_of ss tags i) h.1 c in
+          let f = first_of ends (set_of ss tags i) some in (
             w.0,
             f.2 ∙ member_end i w.0 f.0 f.1
-                ∙ one_end topo clear.topology.links p distinct clear.dups_in_links clear.links_declared (IsStart fields topo) (set_of ss tags i) (tag_set i w.0) f.0 h.1 f.1 c
+                ∙ one_end topo clear.topology.links p distinct clear.dups_in_links clear.links_declared (IsStart fields topo) (set_of ss tags i) (tag_set i w.0 some) f.0 h.1 f.1 c
                 ∙ h.4,
           ),
     )
 
     -- a switch's tags can be put into its table
     pub stop_is : (s : Stop) → HasComing ends ss tags (length tags) s → IsStop st ss states tags tag s
-    stop_is s k j d lt = tag_at fields topo tag p st ss states tags clear ready tagged s.switch (get_or s.tags j d) (k.within j d lt)
+    stop_is s k j d lt = tag_at first fields topo tag p st ss states tags clear ready tagged s.switch (get_or s.tags j d) (k.within j d lt)
 
     -- the table of a switch
     table_is : (s : Stop) (t : Table) → HasComing ends ss tags (length tags) s → IsTableAt st ss states tags tag s t → IsSwitchTable fields tag p (sets_of ss tags) t
     table_is s t k at =
-        switch_table_is fields topo tag p st ss states tags clear ready tagged s t k.ascend
+        switch_table_is first fields topo tag p st ss states tags clear ready tagged s t k.ascend
         (λ n. let a = k.exactly n in let b = comes_rows s.switch n in (λ c. b.0 (a.0 c), λ h. a.1 (b.1 h))) k.within at
 
     -- the tables of all switches
     pub tables_are : (stops : List Stop) (ts : List Table) → map (λ (s : Stop). s.switch) stops ≡ numbers_of topo → All (HasComing ends ss tags (length tags)) stops →
-        Matched (IsTableAt st ss states tags tag) stops ts → (t : Tables) → t.fields ≡ fields → t.topo ≡ topo → t.tables ≡ ts → IsTableOf fields topo (IsStart fields topo) p t
+        Matched (IsTableAt st ss states tags tag) stops ts → (t : Tables) → t.fields ≡ fields → t.topo ≡ topo → t.tables ≡ ts → IsTableBehind first fields topo (IsStart fields topo) p t
     tables_are stops ts switches coming m t same_fields same_topology are = record {
       tag = tag;
-      tags = sets_of ss tags;
+      tags = ready.sets;
       tag_declared = clear.tag_is;
       in_order = ready.in_order;
       same_fields = same_fields;
@@ -102,7 +121,8 @@ module _ (fields : FieldTable) (topo : Topology) (tag : ℕ) (p : Policy) (st : 
       switches =
           ap (map (λ (u : Table). u.switch)) are
           ∙ matched_maps (IsTableAt st ss states tags tag) (λ (s : Stop). s.switch) (λ (u : Table). u.switch) (λ s u k. k.switch) stops ts m ∙ switches;
-      each = subst (All (IsSwitchTable fields tag p (sets_of ss tags))) (sym are) (all_from_members (IsSwitchTable fields tag p (sets_of ss tags)) ts (λ u i.
+      each = subst (λ sets. All (IsSwitchTable fields tag p sets) t.tables) ready.numbered (
+          subst (All (IsSwitchTable fields tag p (sets_of ss tags))) (sym are) (all_from_members (IsSwitchTable fields tag p (sets_of ss tags)) ts (λ u i.
           let s = of_second (IsTableAt st ss states tags tag) stops ts u m i in
-          table_is s.0 u (members_from_all (HasComing ends ss tags (length tags)) stops coming s.0 s.1) s.2));
+          table_is s.0 u (members_from_all (HasComing ends ss tags (length tags)) stops coming s.0 s.1) s.2)));
     }

@@ -1,6 +1,6 @@
 -- Hop by hop against runs: the copies that wait after k crossings are the lists of 2 * k records that the policy can have,
 -- each once, each at the packet where the run is, with the tag of the set of dups that it crossed last.
-use Rattle.std.proofs.Common.{◌≡◌, ◌≢◌, ℕ, zero, suc, ◌+◌, ◌*◌, ◌<◌, Bool, true, false, inl, inr, ⊎_elim, Option, Some, None, List, [], ◌∷◌, ◌++◌, length, refl, sym, ap, subst, ◌∙◌, arith, append_assoc, append-nil, length-append}
+use Rattle.std.proofs.Common.{◌≡◌, ◌≢◌, ℕ, zero, suc, ◌+◌, ◌*◌, ◌<◌, Bool, true, false, inl, inr, ⊎_elim, Option, Some, None, List, [], ◌∷◌, ◌++◌, length, refl, sym, ap, subst, ◌∙◌, arith, append_assoc, append-nil, length-append, get_or-set_same}
 use Rattle.std.specs.Prelude.{◌&&◌, is_none, if◌then◌else◌, map, slice_get, slice_index, slice_set, Contains}
 use Rattle.std.proofs.lemmas.List.{set_comm, set-set}
 use Rattle.nk_field.specs.declared.packet.Packet.{Packet}
@@ -12,7 +12,6 @@ use Rattle.nk_policy.specs.Policy.{Policy}
 use Rattle.nk_policy.specs.Meaning.{Gives}
 use Rattle.nk_policy.specs.After.{after}
 use Rattle.nk_policy.specs.Labels.{IsAt, HasExactly}
-use Rattle.nk_policy.specs.Tags.{IsTagBefore}
 use Rattle.nk_policy.proofs.Untouched.{IsZeroAt}
 use Rattle.nk_policy.proofs.Splitting.{holds_dup}
 use Rattle.nk_policy.proofs.LabelSteps.{rest_gives_from}
@@ -24,7 +23,6 @@ use Rattle.nk_table.specs.Rules.{sent_for}
 use Rattle.nk_table.specs.Hops.{Copy, crossing, across, leaving, next_of, left_of, waiting, left_after, moved_to}
 use Rattle.nk_compile.specs.PrintedTable.{IsOfTag, StateRecords, IsResult}
 use Rattle.nk_compile.proofs.Reached.{Setting, AtState, Reached, Emits, past, erases, tagged_index, result_ok, next_literal, reached_first, reached_next}
-use Rattle.nk_compile.proofs.TagPlaces.{never_itself, one_place, place_of}
 
 -- the ends of two lists by two elements
 two_last : {A : Type 0} (u v : List A) (a b c d : A) → u ++ a ∷ b ∷ [] ≡ v ++ c ∷ d ∷ [] → (u ≡ v) × (a ≡ c)
@@ -293,6 +291,20 @@ module _ (t : Tables) (p : Policy) (tag : ℕ) (tags : List (List ℕ)) (g : Set
           packet_is = refl;
         }
 
+    -- a copy that has crossed a link has the tag of a set that isn't empty
+    pub crossed_tag :
+        (k : ℕ) (c : Copy) → In (waiting t (suc k) pk) c
+        → (n : ℕ) × (labels : List ℕ) × (slice_get tags n ≡ Some labels) × (labels ≢ []) × (slice_index c.packet tag ≡ suc n)
+    crossed_tag k c h =
+        let s = from_joined (next_of t) (waiting t k pk) c h in
+        let w = waits k s.0 s.1 in
+        let d = (crossed_from k s.0 w c s.2).2 in
+        let next = reached_next t p tag tags g pk start k s.0.records w.state w.place w.reached d.source d.next d.labels d.get d.any d.exact d.to d.leads in
+        let lt = (g.fields_ok.tag_past_port tag g.tag_is).1 in
+        let few = g.fields_ok.few in
+        let long : tag < length (moved_to d.to d.source) = omega (arith, next.at.packet.places, lt, few) in
+        (d.next, d.labels, d.get, d.any, ap (λ (e : Copy). slice_index e.packet tag) d.copy_is ∙ get_or-set_same (moved_to d.to d.source) tag (suc d.next) 0 long)
+
     -- two sets of one property are one
     same_set : (P : ℕ → Type 0) (a b : List ℕ) → HasExactly P a → HasExactly P b → a ≡ b
     same_set P a b h i =
@@ -307,7 +319,7 @@ module _ (t : Tables) (p : Policy) (tag : ℕ) (tags : List (List ℕ)) (g : Set
     same_source tg x u y y' d d' c c' e =
         let exact' = subst (λ z. HasExactly (StateRecords p tags tg x z) c'.labels) (sym e) c'.exact in
         let labels = same_set (StateRecords p tags tg x c.source) c.labels c'.labels c.exact exact' in
-        let places = one_place (IsTagBefore p (IsStart t.fields t.topo)) (never_itself p (IsStart t.fields t.topo)) tags g.in_order.in_order c.next c'.next c.labels c.get (c'.get ∙ ap Some (sym labels)) in
+        let places = g.stand.once c.labels c.next c'.next c.any c.get (c'.get ∙ ap Some (sym labels)) in
         c.sent_is ∙ ap (λ z. slice_set z tag (suc c.next)) e ∙ ap (λ n. slice_set c'.source tag (suc n)) places ∙ sym c'.sent_is
 
     -- what one copy leads to has different records
@@ -413,8 +425,7 @@ module _ (t : Tables) (p : Policy) (tag : ℕ) (tags : List (List ℕ)) (g : Set
         let any : N ≢ [] = λ f. empty_has a.0 (subst (λ n. Contains n a.0) f has) in
         let at : HasExactly (IsAt p pk (u ++ y ∷ [])) N = (rises, λ l. (λ c. (r.same y l).1 ((exact l).0 c), λ c. (exact l).1 ((r.same y l).0 c))) in
         let odd : length (u ++ y ∷ []) ≡ 2 * k + 1 = omega (arith, r.size, length-append u (y ∷ [])) in
-        let set = (g.in_order.exactly N).1 (pk, u ++ y ∷ [], k, start, odd, (any, at)) in
-        let place = place_of tags N (in_from_contains tags N set) in
+        let place = g.stand.stands N (pk, u ++ y ∷ [], k, start, odd, (any, at)) in
         let next = reached_next t p tag tags g pk start k u tg x r y place.0 N place.1 any (rises, exact) to lit.3 in
         let here = crosses k u tg x r y place.0 (N, place.1, any, (rises, exact)) to lit.3 in
         let there = in_joined (next_of t) (waiting t k pk) (tagged u tg x) (tagged (u ++ y ∷ moved_to to y ∷ []) (suc place.0) (moved_to to y)) i here in

@@ -6,19 +6,12 @@ use Rattle.nk_policy.specs.Policy.{Policy}
 use Rattle.nk_policy.specs.Labels.{IsTagSet, AtMost}
 use Rattle.nk_names.specs.declared.Program.{Program}
 use Rattle.nk_names.specs.Accepted.{IsStart, IsCompilable, most_tags}
-use Rattle.nk_table.specs.declared.Table.{Table}
 use Rattle.nk_table.specs.declared.Tables.{Tables}
 use Rattle.nk_compile.specs.Refusals.{IsReason, IsRefused}
 use Rattle.nk_compile.specs.WholeTable.{IsTableOf}
 use Rattle.nk_compile.specs.Headline.{IsCompiled}
 use Rattle.nk_compile.specs.declared.refusal.CompileError.{CompileError}
 use Rattle.nk_compile.specs.declared.refusal.CompileError.TheVariants.{NoMemory, Refused}
-
--- the switches' tables of a policy, which with its fields and topology are the printed ones
-pub record AreMade (fields : FieldTable) (topo : Topology) (p : Policy) (ts : List Table) : Type 0 where
-  pub compilable : IsCompilable fields topo p
-  pub few : AtMost (most_tags fields fields.tag) (IsTagSet p (IsStart fields topo))
-  pub printed : (t : Tables) → t.fields ≡ fields → t.topo ≡ topo → t.tables ≡ ts → IsTableOf fields topo (IsStart fields topo) p t
 
 -- the printed tables of a policy that is compiled
 pub record IsMade (fields : FieldTable) (topo : Topology) (p : Policy) (t : Tables) : Type 0 where

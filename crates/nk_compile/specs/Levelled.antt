@@ -54,8 +54,10 @@ abbrev pub compile_fault : NumberError → CompileError
 compile_fault number.NoMemory = compile.NoMemory
 compile_fault (number.TooManyTags found) = compile.Refused (refusal.TooManyTags found)
 
--- why there are no tags: memory ran out, or there are at least as many sets as are told, one more than may be
-abbrev pub IsTagFault : List (List (ℕ × ℕ)) → ℕ → CompileError → Type 0
-IsTagFault levels max compile.NoMemory = Unit {0}
-IsTagFault levels max (compile.Refused (refusal.TooManyTags found)) = (found ≡ max + 1) × AtLeast found (IsAtOdd levels)
-IsTagFault levels max (compile.Refused r) = ⊥
+-- why there are no tags behind the first so many: memory ran out, or with so many of the sets the tags are as many as are told,
+-- one more than may be
+abbrev pub IsTagFault : List (List (ℕ × ℕ)) → (first max : ℕ) → CompileError → Type 0
+IsTagFault levels first max compile.NoMemory = Unit {0}
+IsTagFault levels first max (compile.Refused (refusal.TooManyTags found)) =
+    (found ≡ max + 1) × ((n : ℕ) × AtLeast n (IsAtOdd levels) × (first + n ≡ found))
+IsTagFault levels first max (compile.Refused r) = ⊥

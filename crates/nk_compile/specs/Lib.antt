@@ -5,7 +5,11 @@ pub mod Counted
 pub mod DeclaredLinks
 pub mod Headline
 pub mod Levelled
+pub mod MadePair
+pub mod NumberedBehind
 pub mod OffEdge
+pub mod PairAnswers
+pub mod Preparing
 pub mod PrintedTable
 pub mod Ready
 pub mod Refusals

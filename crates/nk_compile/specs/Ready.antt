@@ -9,6 +9,7 @@ use Rattle.nk_names.specs.Accepted.{IsStart, is_link_outside}
 use Rattle.nk_store.specs.Held.{Held, IsOver, HasFields}
 use Rattle.nk_determ.specs.Sets.{Ascend}
 use Rattle.nk_auto.specs.Automaton.{IsAutomaton}
+use Rattle.nk_compile.specs.NumberedBehind.{tags_behind}
 use Rattle.nk_compile.specs.Refusals.{seen_with}
 
 -- a policy of which nothing is seen that stands against it, over these fields, where links are declared
@@ -26,14 +27,17 @@ pub record IsClear (fields : FieldTable) (topo : Topology) (tag : ℕ) (p : Poli
 abbrev pub sets_of : List (List ℕ) → List ℕ → List (List ℕ)
 sets_of ss tags = map (λ s. slice_index_or ss s []) tags
 
--- the automaton's states in a store over the fields, and the numbers of the tag sets in order
-pub record IsReady (fields : FieldTable) (topo : Topology) (p : Policy) (st : Held) (ss : List (List ℕ)) (states tags : List ℕ) : Type 0 where
+-- the automaton's states in a store over the fields, and the numbers of the tags' sets: for the first so many tags those of the
+-- set without labels, and behind them those of the tag sets in order
+pub record IsReady (first : ℕ) (fields : FieldTable) (topo : Topology) (p : Policy) (st : Held) (ss : List (List ℕ)) (states tags : List ℕ) : Type 0 where
   pub over : IsOver fields st
   pub has : HasFields st
   pub automaton : IsAutomaton st states 1 p
   pub ascend : Ascend ss
   pub known : All (λ s. s < length ss) tags
-  pub in_order : AreTags p (IsStart fields topo) (sets_of ss tags)
+  pub sets : List (List ℕ)
+  pub numbered : sets_of ss tags ≡ tags_behind first sets
+  pub in_order : AreTags p (IsStart fields topo) sets
 
 -- a clear policy of which nothing is seen, with its automaton's states in a store over the fields
 pub record IsBegun (fields : FieldTable) (topo : Topology) (tag : ℕ) (p : Policy) (st : Held) (states : List ℕ) : Type 0 where

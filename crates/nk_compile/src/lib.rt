@@ -1,10 +1,12 @@
-//! Compilation: the tables of a named policy of a program.
+//! Compilation: the tables of a named policy of a program, and of two of them for an update.
 #![tactic(auto)]
 
 mod compilation;
 mod counted;
 mod ends;
 pub mod laws;
+mod pair;
+mod prepared;
 mod refusal;
 mod sight;
 mod stops;
@@ -14,4 +16,5 @@ mod wrong_ends;
 
 pub use compilation::{compile, compile_counted, tag_count};
 pub use counted::Counted;
+pub use pair::{TablePair, compile_pair};
 pub use refusal::{CompileError, Refusal};

@@ -1,26 +1,26 @@
 //! The tables of a policy, by its automaton.
-ghost use Rattle.std.specs.Prelude.{◌≡◌, ◌≤◌, ◌<◌, ◌+◌, ◌^◌, ◌∷◌, [], ℕ, false, Some, None, slice_index, IfOk, IfErr, length};
-ghost use Rattle.nk_policy.specs.Policy.{marked_from, dups_of};
+ghost use Rattle.std.specs.Prelude.{◌≡◌, ◌≤◌, ◌<◌, ◌+◌, ◌^◌, ◌∷◌, [], ℕ, false, Some, slice_index, IfOk, IfErr, length};
+ghost use Rattle.nk_field.specs.Packet.{FieldTable};
+ghost use Rattle.nk_topo.specs.Topology.{Topology};
+ghost use Rattle.nk_policy.specs.Policy.{Policy, dups_of};
 ghost use Rattle.nk_policy.specs.Tree.{tree_of};
-ghost use Rattle.nk_policy.specs.Ranges.{IsInRange};
-ghost use Rattle.nk_names.specs.Complements.{NegatesPredicates};
+ghost use Rattle.nk_names.specs.ProgramValue.{IsLet};
 ghost use Rattle.nk_store.specs.Held.{Grows};
 ghost use Rattle.nk_determ.specs.Sets.{SetsGrow};
 ghost use Rattle.nk_reach.specs.Pairs.{AreStates};
-ghost use Rattle.nk_tag.specs.Numbers.{AreEntries, AreNumbers};
-ghost use Rattle.nk_field.specs.Packet.{FieldTable};
-ghost use Rattle.nk_compile.specs.Ready.{IsBegun};
-ghost use Rattle.nk_compile.specs.Refusals.{seen_with};
+ghost use Rattle.nk_tag.specs.Numbers.{AreNumbers};
 ghost use Rattle.nk_compile.specs.Levelled.{IsLevelled, IsOffFault, IsTagFault, compile_fault};
 ghost use Rattle.nk_compile.specs.declared.refusal.CompileError.TheVariants as compile;
 ghost use Rattle.nk_compile.specs.declared.refusal.Refusal.TheVariants as refusal;
-ghost use Rattle.nk_compile.specs.Answers.{AreMade, IsMade, IsError};
+ghost use Rattle.nk_compile.specs.Answers.{IsMade, IsError};
 ghost use Rattle.nk_compile.specs.Counted.{HasTagSets};
+ghost use Rattle.nk_compile.specs.Preparing.{IsPrepared, IsEarlyError};
 
 use crate::counted::Counted;
+use crate::prepared::Prepared;
 use crate::refusal::{CompileError, Refusal};
 use crate::sight::seen;
-use crate::tagging::tag_tables;
+use crate::tagging::printed;
 use crate::wrong_ends::wrong_ends;
 use nk_auto::policy_automaton;
 use nk_determ::{SetId, Sets};
@@ -29,8 +29,7 @@ use nk_places::{off_edges, starts};
 use nk_policy::Pol;
 use nk_reach::{Found, Levels, least_history, levels};
 use nk_store::{Id, Store};
-use nk_table::{Table, Tables};
-use nk_tag::{NumberError, number};
+use nk_tag::{NumberError, number_from};
 use nk_topo::Topo;
 use std::alloc::{AllocError, Global};
 
@@ -85,16 +84,16 @@ fn start_alone(alloc: Global) -> Result<List<u64>, AllocError>
     Ok(ls)
 }
 
-/// The numbers of the sets at odd levels in order, of which there are at most so many.
-fn numbers(ss: &Sets, lv: &Levels, max: u64) -> Result<List<SetId>, CompileError>
-    requires whole { lv.now.broken ≡ false }
-    requires entries { AreEntries ss.now lv.now.levels }
+/// The numbers of a prepared policy's sets at odd levels in order, behind so many tags; with them there are at most `max`.
+pub fn numbers(b: &Prepared, first: u64, max: u64) -> Result<List<SetId>, CompileError>
+    requires prepared { (fields : FieldTable) × (topo : Topology) × (tag : ℕ) × (p : Policy) × IsPrepared fields topo tag p b.now }
+    requires first { first ≤ max }
     requires room { max + 1 < 2 ^ 64 }
-    ensures ok { IfOk result (λ r. AreNumbers ss.now lv.now.levels r) }
-    ensures few { IfOk result (λ r. length r ≤ max) }
-    ensures err { IfErr result (IsTagFault lv.now.levels max) }
+    ensures ok { IfOk result (λ r. AreNumbers b.now.sets b.now.levels.levels r) }
+    ensures few { IfOk result (λ r. first + length r ≤ max) }
+    ensures err { IfErr result (IsTagFault b.now.levels.levels first max) }
 {
-    match number(ss, lv, max) {
+    match number_from(&b.sets, &b.levels, first, max) {
         Ok(tags) => Ok(tags.sets),
         Err(e) => Err(fault(e)),
     }
@@ -110,56 +109,38 @@ fn fault(e: NumberError) -> CompileError
     }
 }
 
-/// The tables of all switches for a policy of which nothing is seen that stands against it, by its automaton's states, and the
-/// number of its tag sets.
-fn tables_from(
-    st: &mut Store,
-    topo: &Topo,
-    tag: Fid,
-    p: &Pol,
-    states: &[Id],
-) -> Result<(List<Table>, u64), CompileError>
-    requires begun { (fields : FieldTable) × IsBegun fields topo.now tag (tree_of p.now) st.old states.now }
-    ensures made { IfOk result (λ r. (fields : FieldTable) → IsBegun fields topo.now tag (tree_of p.now) st.old states.now
-        → AreMade fields topo.now (tree_of p.now) r.0) }
-    ensures counted { IfOk result (λ r. (fields : FieldTable) → IsBegun fields topo.now tag (tree_of p.now) st.old states.now
-        → HasTagSets fields topo.now (tree_of p.now) r.1) }
-    ensures error { IfErr result (λ e. (fields : FieldTable) → IsBegun fields topo.now tag (tree_of p.now) st.old states.now
-        → IsError fields topo.now (tree_of p.now) e) }
-{
-    let mut ss = Sets::new(st.alloc());
-    let lv = levels_from(st, &mut ss, topo, tag, states)?;
-    ss.differ();
-    st.laws();
-    let tags = numbers(&ss, &lv, st.max(tag))?;
-    let tables = tag_tables(st, &mut ss, topo, p, states, tags.as_slice())?;
-    Ok((tables, tags.len() as u64))
-}
-
-/// The tables of all switches for a policy of which nothing is seen that stands against it, and the number of its tag sets.
-fn tables_of(
+/// The automaton of a policy and the levels of its states. What its text shows against it is the refusal, or else the least
+/// history with an end at no edge port.
+pub fn prepare(
     alloc: Global,
     fields: &Fields,
     topo: &Topo,
     tag: Fid,
     p: &Pol,
-) -> Result<(List<Table>, u64), CompileError>
+) -> Result<Prepared, CompileError>
     requires tag { fields.now.tag ≡ Some tag }
-    requires numbered { marked_from (tree_of p.now) 1 ≡ tree_of p.now }
+    requires held { IsLet fields.now (tree_of p.now) }
     requires few { 1 + dups_of (tree_of p.now) ≤ 2 ^ 32 }
     requires room { slice_index fields.now.maxima tag + 1 < 2 ^ 64 }
-    requires complements { NegatesPredicates (tree_of p.now) }
-    requires range { IsInRange (tree_of p.now) fields.now }
-    requires seen { seen_with tag topo.now (tree_of p.now) ≡ None }
-    ensures made { IfOk result (λ r. AreMade fields.now topo.now (tree_of p.now) r.0) }
-    ensures counted { IfOk result (λ r. HasTagSets fields.now topo.now (tree_of p.now) r.1) }
-    ensures error { IfErr result (IsError fields.now topo.now (tree_of p.now)) }
+    ensures ok { IfOk result (IsPrepared fields.now topo.now tag (tree_of p.now)) }
+    ensures err { IfErr result (IsEarlyError fields.now topo.now (tree_of p.now)) }
 {
+    if let Some(reason) = seen(p, topo, tag) {
+        return Err(CompileError::Refused(reason));
+    }
     let _few = fields.declared();
     let _switches = topo.switches();
-    let mut st = Store::new(alloc, fields)?;
-    let states = policy_automaton(&mut st, p, 1)?;
-    tables_from(&mut st, topo, tag, p, states.as_slice())
+    let mut store = Store::new(alloc, fields)?;
+    let states = policy_automaton(&mut store, p, 1)?;
+    let mut sets = Sets::new(alloc);
+    let levels = levels_from(&mut store, &mut sets, topo, tag, states.as_slice())?;
+    sets.differ();
+    Ok(Prepared {
+        store,
+        states,
+        sets,
+        levels,
+    })
 }
 
 /// The printed tables of a policy and the number of its tag sets, or the first reason to refuse it.
@@ -169,11 +150,9 @@ pub fn policy_tables(
     topo: &Topo,
     p: &Pol,
 ) -> Result<Counted, CompileError>
-    requires numbered { marked_from (tree_of p.now) 1 ≡ tree_of p.now }
+    requires held { IsLet fields.now (tree_of p.now) }
     requires few { 1 + dups_of (tree_of p.now) ≤ 2 ^ 32 }
     requires room { (f : ℕ) → slice_index fields.now.maxima f + 1 < 2 ^ 64 }
-    requires complements { NegatesPredicates (tree_of p.now) }
-    requires range { IsInRange (tree_of p.now) fields.now }
     ensures made { IfOk result (λ c. IsMade fields.now topo.now (tree_of p.now) c.tables) }
     ensures counted { IfOk result (λ c. HasTagSets fields.now topo.now (tree_of p.now) c.tag_sets) }
     ensures error { IfErr result (IsError fields.now topo.now (tree_of p.now)) }
@@ -181,14 +160,10 @@ pub fn policy_tables(
     let Some(tag) = fields.tag() else {
         return Err(CompileError::Refused(Refusal::NoTag));
     };
-    if let Some(reason) = seen(p, topo, tag) {
-        return Err(CompileError::Refused(reason));
-    }
-    let (tables, tag_sets) = tables_of(alloc, fields, topo, tag, p)?;
-    let tables = Tables {
-        fields: fields.copy()?,
-        topo: topo.copy()?,
-        tables,
-    };
+    let _few = fields.declared();
+    let prepared = prepare(alloc, fields, topo, tag, p)?;
+    let tags = numbers(&prepared, 0, fields.max(tag))?;
+    let tag_sets = tags.len() as u64;
+    let tables = printed(prepared, fields, topo, p, 0, tags.as_slice())?;
     Ok(Counted { tables, tag_sets })
 }

@@ -1,25 +1,30 @@
 //! The tables of all switches, by a policy's states and tag sets.
-ghost use Rattle.std.specs.Prelude.{◌≡◌, ℕ, IfOk};
+ghost use Rattle.std.specs.Prelude.{◌≡◌, ◌<◌, ℕ, All, IfOk, length, ◌++◌, replicate};
 ghost use Rattle.nk_field.specs.Packet.{FieldTable};
 ghost use Rattle.nk_policy.specs.Tree.{tree_of};
 ghost use Rattle.nk_table.specs.declared.Tables.{Tables};
 ghost use Rattle.nk_names.specs.Accepted.{IsStart};
-ghost use Rattle.nk_compile.specs.Ready.{IsClear, IsReady};
-ghost use Rattle.nk_compile.specs.WholeTable.{IsTableOf};
+ghost use Rattle.nk_determ.specs.Sets.{SetsGrow};
+ghost use Rattle.nk_tag.specs.Numbers.{AreNumbers};
+ghost use Rattle.nk_compile.specs.NumberedBehind.{tags_behind, IsTableBehind};
+ghost use Rattle.nk_compile.specs.Preparing.{IsPrepared};
+ghost use Rattle.nk_compile.specs.Ready.{sets_of, IsClear, IsReady};
 
 use crate::ends::link_ends;
+use crate::prepared::Prepared;
 use crate::stops::stops;
 use nk_determ::{SetId, Sets};
-use nk_field::List;
+use nk_field::{Fields, List};
 use nk_policy::Pol;
 use nk_store::{Id, Store};
 use nk_switches::switch_tables;
-use nk_table::Table;
+use nk_table::{Table, Tables};
 use nk_topo::Topo;
-use std::alloc::AllocError;
+use std::alloc::{AllocError, Global};
 
-/// The printed tables of all switches for a policy, by its automaton's states and the numbers of its tag sets.
-pub fn tag_tables(
+/// The printed tables of all switches for a policy, by its automaton's states and the numbers of its tags' sets: the set without
+/// labels for the first so many tags, and behind them the tag sets.
+fn tag_tables(
     st: &mut Store,
     ss: &mut Sets,
     topo: &Topo,
@@ -27,14 +32,73 @@ pub fn tag_tables(
     states: &[Id],
     tags: &[SetId],
 ) -> Result<List<Table>, AllocError>
-    requires ready { (fields : FieldTable) × (tag : ℕ) × IsClear fields topo.now tag (tree_of p.now)
-        × IsReady fields topo.now (tree_of p.now) st.old ss.old states.now tags.now }
-    ensures { IfOk result (λ ts. (fields : FieldTable) (tag : ℕ) → IsClear fields topo.now tag (tree_of p.now)
-        → IsReady fields topo.now (tree_of p.now) st.old ss.old states.now tags.now
+    requires ready { (first : ℕ) × (fields : FieldTable) × (tag : ℕ) × IsClear fields topo.now tag (tree_of p.now)
+        × IsReady first fields topo.now (tree_of p.now) st.old ss.old states.now tags.now }
+    ensures { IfOk result (λ ts. (first : ℕ) (fields : FieldTable) (tag : ℕ) → IsClear fields topo.now tag (tree_of p.now)
+        → IsReady first fields topo.now (tree_of p.now) st.old ss.old states.now tags.now
         → (t : Tables) → t.fields ≡ fields → t.topo ≡ topo.now → t.tables ≡ ts
-        → IsTableOf fields topo.now (IsStart fields topo.now) (tree_of p.now) t) }
+        → IsTableBehind first fields topo.now (IsStart fields topo.now) (tree_of p.now) t) }
 {
     let ends = link_ends(st.alloc(), p, states.len())?;
     let stops = stops(st.alloc(), topo, ends.as_slice(), ss, tags)?;
     switch_tables(st, ss, states, tags, stops.as_slice())
+}
+
+/// So many times one set, and these behind.
+fn padded(alloc: Global, none: SetId, first: u64, tags: &[SetId]) -> Result<List<SetId>, AllocError>
+    ensures { IfOk result (λ r. r ≡ replicate first none ++ tags.now) }
+{
+    let mut all = List::new(alloc);
+    for i in 0..first {
+        all.push(none)?;
+    }
+    for s in tags {
+        all.push(*s)?;
+    }
+    Ok(all)
+}
+
+/// The numbers of the sets of so many tags that stand for none, and of these sets behind them.
+fn behind(
+    alloc: Global,
+    ss: &mut Sets,
+    first: u64,
+    tags: &[SetId],
+) -> Result<List<SetId>, AllocError>
+    requires { All (λ s. s < length ss.old) tags.now }
+    ensures grows { SetsGrow ss.old ss.new }
+    ensures known { IfOk result (λ r. All (λ s. s < length ss.new) r) }
+    ensures sets { IfOk result (λ r. sets_of ss.new r ≡ tags_behind first (sets_of ss.old tags.now)) }
+{
+    let none = ss.intern(List::new(alloc))?;
+    padded(alloc, none, first, tags)
+}
+
+/// The printed tables of a prepared policy, its tags behind so many others. These are the numbers of its tag sets in order.
+pub fn printed(
+    prepared: Prepared,
+    fields: &Fields,
+    topo: &Topo,
+    p: &Pol,
+    first: u64,
+    tags: &[SetId],
+) -> Result<Tables, AllocError>
+    requires prepared { (tag : ℕ) × IsPrepared fields.now topo.now tag (tree_of p.now) prepared }
+    requires numbers { AreNumbers prepared.sets prepared.levels.levels tags.now }
+    ensures { IfOk result (IsTableBehind first fields.now topo.now (IsStart fields.now topo.now) (tree_of p.now)) }
+{
+    let mut st = prepared.store;
+    let mut ss = prepared.sets;
+    let all = behind(st.alloc(), &mut ss, first, tags)?;
+    ss.differ();
+    st.laws();
+    let states = prepared.states.as_slice();
+    let tables = tag_tables(&mut st, &mut ss, topo, p, states, all.as_slice())?;
+    let fields = fields.copy()?;
+    let topo = topo.copy()?;
+    Ok(Tables {
+        fields,
+        topo,
+        tables,
+    })
 }

@@ -1,16 +1,16 @@
 use Rattle.std.proofs.Common.{ℕ, ◌+◌, ◌<◌, Some, sym, ap, subst, ◌∙◌}
 use Rattle.std.specs.Prelude.{IfOk, IfErr, slice_index}
-use Rattle.nk_policy.specs.Ranges.{IsInRange}
-use Rattle.nk_names.specs.ProgramValue.{ProgramValue}
+use Rattle.nk_names.specs.ProgramValue.{ProgramValue, IsLet}
 use Rattle.nk_compile.specs.Answers.{IsMade, IsError}
 use Rattle.nk_compile.specs.Counted.{HasTagSets}
 use Rattle.nk_policy.specs.Tree.{tree_of}
 use Rattle.nk_compile.proofs.Naming.{let_named, answer_named, has_few_dups, has_room}
 use Rattle.nk_compile.proofs.compilation.compile_counted.Goals as goal
 
-pub policy_tables-requires-clause-numbered : goal.policy_tables-requires-clause-numbered
-policy_tables-requires-clause-numbered c =
-    (let_named c.args.program.now c.args.name.now (tree_of c.in_ok-p.p) c.find.ensures.is (sym c.in-Some.ensures.found ∙ ap Some (sym c.in_ok-p.ensures))).numbered
+pub policy_tables-requires-clause-held : goal.policy_tables-requires-clause-held
+policy_tables-requires-clause-held c =
+    subst (λ (v : ProgramValue). IsLet v.fields (tree_of c.in_ok-p.p)) (sym c.program.view_is)
+    (let_named c.args.program.now c.args.name.now (tree_of c.in_ok-p.p) c.find.ensures.is (sym c.in-Some.ensures.found ∙ ap Some (sym c.in_ok-p.ensures)))
 
 pub policy_tables-requires-clause-few : goal.policy_tables-requires-clause-few
 policy_tables-requires-clause-few c =
@@ -20,15 +20,6 @@ policy_tables-requires-clause-few c =
 pub policy_tables-requires-clause-room : goal.policy_tables-requires-clause-room
 policy_tables-requires-clause-room c =
     subst (λ (v : ProgramValue). (f : ℕ) → slice_index v.fields.maxima f + 1 < 18446744073709551616) (sym c.program.view_is) (has_room c.args.program.now c.find.ensures.is)
-
-pub policy_tables-requires-clause-complements : goal.policy_tables-requires-clause-complements
-policy_tables-requires-clause-complements c =
-    (let_named c.args.program.now c.args.name.now (tree_of c.in_ok-p.p) c.find.ensures.is (sym c.in-Some.ensures.found ∙ ap Some (sym c.in_ok-p.ensures))).complements
-
-pub policy_tables-requires-clause-range : goal.policy_tables-requires-clause-range
-policy_tables-requires-clause-range c =
-    subst (λ (v : ProgramValue). IsInRange (tree_of c.in_ok-p.p) v.fields) (sym c.program.view_is)
-    (let_named c.args.program.now c.args.name.now (tree_of c.in_ok-p.p) c.find.ensures.is (sym c.in-Some.ensures.found ∙ ap Some (sym c.in_ok-p.ensures))).in_range
 
 pub returns : goal.returns
 returns c =

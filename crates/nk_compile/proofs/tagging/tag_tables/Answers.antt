@@ -20,24 +20,24 @@ all_coming : (c : goal.After-as_slice-2) → All (HasComing c.as_slice.result.no
 all_coming c = subst (All (HasComing c.as_slice.result.now c.args.ss.now c.args.tags.now (length c.args.tags.now))) (sym c.as_slice-2.ensures.value) c.in_ok-stops.ensures.coming
 
 pub switch_tables-requires-clause-states : goal.switch_tables-requires-clause-states
-switch_tables-requires-clause-states c = state_ids c.args.st.now c.args.states.now (tree_of c.args.p.now) c.requires.ready.3.automaton
+switch_tables-requires-clause-states c = state_ids c.args.st.now c.args.states.now (tree_of c.args.p.now) c.requires.ready.4.automaton
 
 pub switch_tables-requires-clause-once : goal.switch_tables-requires-clause-once
 switch_tables-requires-clause-once c =
-    tags_once c.requires.ready.0 c.args.topo.now c.requires.ready.1 (tree_of c.args.p.now) c.args.st.now c.args.ss.now c.args.states.now c.args.tags.now c.requires.ready.2 c.requires.ready.3
+    tags_once c.requires.ready.0 c.requires.ready.1 c.args.topo.now c.requires.ready.2 (tree_of c.args.p.now) c.args.st.now c.args.ss.now c.args.states.now c.args.tags.now c.requires.ready.3 c.requires.ready.4
 
 pub switch_tables-requires-clause-stops : goal.switch_tables-requires-clause-stops
 switch_tables-requires-clause-stops c = λ tag is k d lt.
     let r = c.requires.ready in
-    let one = same_some r.1 tag (sym (r.3.over.tag ∙ r.2.tag_is) ∙ is) in
+    let one = same_some r.2 tag (sym (r.4.over.tag ∙ r.3.tag_is) ∙ is) in
     subst (λ t. IsStop c.args.st.now c.args.ss.now c.args.states.now c.args.tags.now t (get_or c.as_slice-2.result.now k d)) one
-    (stop_is r.0 c.args.topo.now r.1 (tree_of c.args.p.now) c.args.st.now c.args.ss.now c.args.states.now c.args.tags.now r.2 r.3 c.as_slice.result.now (each_end c)
+    (stop_is r.0 r.1 c.args.topo.now r.2 (tree_of c.args.p.now) c.args.st.now c.args.ss.now c.args.states.now c.args.tags.now r.3 r.4 c.as_slice.result.now (each_end c)
     (get_or c.as_slice-2.result.now k d) (all_coming c k d lt))
 
 pub returns : goal.returns
 returns c =
-    IfOk-weaker c.switch_tables.result _ _ (λ ts m fields tag clear ready.
-    tables_are fields c.args.topo.now tag (tree_of c.args.p.now) c.args.st.now c.args.ss.now c.args.states.now c.args.tags.now clear ready c.as_slice.result.now
+    IfOk-weaker c.switch_tables.result _ _ (λ ts m first fields tag clear ready.
+    tables_are first fields c.args.topo.now tag (tree_of c.args.p.now) c.args.st.now c.args.ss.now c.args.states.now c.args.tags.now clear ready c.as_slice.result.now
     (λ l lt. ap (λ e. get_or e l None) c.as_slice.ensures ∙ c.in_ok-ends.ensures.each l lt)
     c.as_slice-2.result.now ts (ap (map (λ (s : Stop). s.switch)) c.as_slice-2.ensures.value ∙ c.in_ok-stops.ensures.switches)
     (subst (All (HasComing c.as_slice.result.now c.args.ss.now c.args.tags.now (length c.args.tags.now))) (sym c.as_slice-2.ensures.value) c.in_ok-stops.ensures.coming)

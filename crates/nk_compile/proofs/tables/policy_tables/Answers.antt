@@ -1,0 +1,47 @@
+use Rattle.std.proofs.Common.{◌≡◌, ◌∙◌, sym, ap, subst, length, arith}
+use Rattle.nk_policy.specs.Tree.{tree_of}
+use Rattle.nk_names.specs.Accepted.{IsStart}
+use Rattle.nk_compile.specs.Answers.{IsError}
+use Rattle.nk_compile.specs.Counted.{HasTagSets}
+use Rattle.nk_compile.proofs.Levelled.{prepared_unopposed, prepared_many, prepared_compilable, prepared_counted, prepared_few}
+use Rattle.nk_compile.proofs.Making.{refused_with, early_error, many_error}
+use Rattle.nk_compile.proofs.Padding.{table_alone}
+use Rattle.nk_compile.proofs.tables.policy_tables.Goals as goal
+
+pub max-requires : goal.max-requires
+max-requires c = (c.declared-few.ensures.is.tag_past_port c.in-Some.tag (sym c.tag.ensures ∙ c.in-Some.is)).1
+
+pub numbers-requires-clause-prepared : goal.numbers-requires-clause-prepared
+numbers-requires-clause-prepared c = (c.args.fields.now, c.args.topo.now, c.in-Some.tag, tree_of c.args.p.now, c.in_ok-prepared.ensures.ok)
+
+pub printed-requires-clause-prepared : goal.printed-requires-clause-prepared
+printed-requires-clause-prepared c = (c.in-Some.tag, c.in_ok-prepared.ensures.ok)
+
+pub returns-in_err-prepared-clause-error : goal.returns-in_err-prepared-clause-error
+returns-in_err-prepared-clause-error c =
+    refused_with c.from_residual.result c.in_err-prepared.field-0.0 (IsError c.args.fields.now c.args.topo.now (tree_of c.args.p.now)) c.from_residual.ensures.1
+    (early_error c.args.fields.now c.args.topo.now (tree_of c.args.p.now) c.in_err-prepared.field-0.0 c.in_err-prepared.ensures.err)
+
+pub returns-in_err-tags-clause-error : goal.returns-in_err-tags-clause-error
+returns-in_err-tags-clause-error c =
+    let k = c.in_ok-prepared.ensures.ok in
+    refused_with c.from_residual-in_err-tags.result c.in_err-tags.field-0.0 (IsError c.args.fields.now c.args.topo.now (tree_of c.args.p.now)) c.from_residual-in_err-tags.ensures.1
+    (many_error c.args.fields.now c.args.topo.now c.in-Some.tag (tree_of c.args.p.now) k.begun.clear.tag_is
+    (prepared_unopposed c.args.fields.now c.args.topo.now c.in-Some.tag (tree_of c.args.p.now) c.in_ok-prepared.prepared k)
+    c.in_ok-prepared.prepared.levels.levels c.max.result c.in_err-tags.field-0.0 c.max.ensures
+    (prepared_many c.args.fields.now c.args.topo.now c.in-Some.tag (tree_of c.args.p.now) c.in_ok-prepared.prepared k) c.in_err-tags.ensures.err)
+
+pub returns-clause-made : goal.returns-clause-made
+returns-clause-made c =
+    let k = c.in_ok-prepared.ensures.ok in
+    let few = c.in_ok-tags.ensures.few in
+    record {
+      compilable = prepared_compilable c.args.fields.now c.args.topo.now c.in-Some.tag (tree_of c.args.p.now) c.in_ok-prepared.prepared k;
+      few = prepared_few c.args.fields.now c.args.topo.now c.in-Some.tag (tree_of c.args.p.now) c.in_ok-prepared.prepared k c.in_ok-tags.tags c.in_ok-tags.ensures.ok c.max.result c.max.ensures (omega (arith, few));
+      printed = table_alone c.args.fields.now c.args.topo.now (IsStart c.args.fields.now c.args.topo.now) (tree_of c.args.p.now) c.in_ok-tables.tables c.in_ok-tables.ensures;
+    }
+
+pub returns-clause-counted : goal.returns-clause-counted
+returns-clause-counted c =
+    subst (λ n. HasTagSets c.args.fields.now c.args.topo.now (tree_of c.args.p.now) n) (sym c.len-tag_sets.ensures)
+    (prepared_counted c.args.fields.now c.args.topo.now c.in-Some.tag (tree_of c.args.p.now) c.in_ok-prepared.prepared c.in_ok-prepared.ensures.ok c.in_ok-tags.tags c.in_ok-tags.ensures.ok)
