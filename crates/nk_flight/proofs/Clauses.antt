@@ -60,7 +60,7 @@ module _ (t : Tables) where
   put_apart false c cs a = a
 
   -- histories of which those of each number of crossings have no doubles have none
-  all_apart : (hs : List Copy) → ((k : ℕ) → Apart (all_erased t (with_crossings k hs))) → Apart (all_erased t hs)
+  pub all_apart : (hs : List Copy) → ((k : ℕ) → Apart (all_erased t (with_crossings k hs))) → Apart (all_erased t hs)
   all_apart [] a = tt
   all_apart (h ∷ hs) a = (
     λ i.

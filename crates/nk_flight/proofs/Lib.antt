@@ -1,6 +1,9 @@
 pub mod Blocks
 pub mod Clauses
+pub mod Counting
 pub mod Draws
+pub mod Entering
+pub mod Holding
 pub mod Mixture
 pub mod Noting
 pub mod Once

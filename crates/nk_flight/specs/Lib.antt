@@ -1,7 +1,9 @@
 pub mod Draws
 pub mod Flights
+pub mod Held
 pub mod Once
 pub mod Owed
+pub mod Progresses
 pub mod Trails
 pub mod Updates
 pub mod WorkedUpdates

@@ -1,6 +1,6 @@
 -- Packets in flight while new tables take the old ones' place: packets come in, copies are handled and plan steps are done,
 -- in whatever order.
-use Rattle.std.specs.Prelude.{◌≡◌, ℕ, zero, suc, ◌+◌, ◌==◌, ◌&&◌, nat_le, not, Bool, true, false, if◌then◌else◌, Option, Some, None, List, [], ◌∷◌, ◌++◌, slice_get, slice_index, remove}
+use Rattle.std.specs.Prelude.{◌≡◌, ℕ, zero, suc, ◌+◌, ◌==◌, ◌&&◌, nat_le, not, Bool, true, false, if◌then◌else◌, Option, Some, None, List, [], ◌∷◌, ◌++◌, slice_get, slice_index, slice_index_or, remove, map, sum}
 use Rattle.std.specs.List.{list_all, flat_map}
 use Rattle.std.specs.List.Sorted.{IsPermutation}
 use Rattle.nk_topo.specs.Topology.{is_switch, numbers_of}
@@ -52,6 +52,30 @@ pub record UpdateState : Type 0 where
 abbrev pub at_the_start : Stages → UpdateState
 at_the_start g = record { flight = nothing_in_flight g.before; done = λ sw. 0; versions = λ n. None }
 
+-- An update in flight as a value: its tables, the flight, of which the tables are those before the first plan step, how many
+-- steps each switch has done, by its number, and the version of each injection, the first one first.
+pub record UpdateValue : Type 0 where
+  pub stages : Stages
+  pub flight : FlightState
+  pub done : List ℕ
+  pub versions : List (Option Version)
+
+-- the count of a switch, and the version of an injection, by its number
+abbrev pub done_by : List ℕ → ℕ → ℕ
+done_by counts sw = slice_index counts sw
+
+abbrev pub version_by : List (Option Version) → ℕ → Option Version
+version_by vs zero = None
+version_by vs (suc n) = slice_index_or vs n None
+
+-- its state
+abbrev pub state_in : UpdateValue → UpdateState
+state_in u = record { flight = u.flight; done = done_by u.done; versions = version_by u.versions }
+
+-- the update after an event: its tables are as before, and this is its state
+abbrev pub Becomes : UpdateValue → UpdateValue → UpdateState → Type 0
+Becomes old new s = (new.stages ≡ old.stages) × (state_in new ≡ s)
+
 -- the value of the packet's tag
 abbrev pub tag_of : Stages → List ℕ → ℕ
 tag_of g pk = slice_index pk (place_of g.before.fields.tag)
@@ -69,6 +93,10 @@ switches_in g = numbers_of g.before.topo
 
 abbrev pub all_have_done : Stages → ℕ → (ℕ → ℕ) → Bool
 all_have_done g n done = list_all (λ sw. nat_le n (done sw)) (switches_in g)
+
+-- how many plan steps the declared switches have done together
+abbrev pub steps_done : Stages → UpdateState → ℕ
+steps_done g s = sum (map s.done (switches_in g))
 
 -- Whether a switch with so many steps done may do the next: the second needs the first done at every switch, the third the
 -- second at every switch and no copy in flight with an old tag.

@@ -150,7 +150,11 @@ impl Flight {
 }
 
 /// So many places from one on.
-fn places_from(alloc: Global, first: usize, count: usize) -> Result<Vec<usize>, AllocError>
+pub(crate) fn places_from(
+    alloc: Global,
+    first: usize,
+    count: usize,
+) -> Result<Vec<usize>, AllocError>
     requires { first + count ≤ usize.MAX }
     ensures { IfOk result (λ places. places.items ≡ range_with_len first count) }
 {

@@ -85,7 +85,7 @@ fn hop_in(hops: &[Hop], at: usize) -> Hop
 }
 
 /// Hops are no more than a place can tell.
-fn are_few(hops: &[Hop])
+pub(crate) fn are_few(hops: &[Hop])
     ensures { length hops.now ≤ usize.MAX }
 {
     let _held = hops.len();

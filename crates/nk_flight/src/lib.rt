@@ -6,10 +6,14 @@ mod drawn;
 mod flight;
 mod hops;
 pub mod laws;
+mod progress;
+mod stages;
+mod updating;
 mod versions;
 mod waiting;
 
 pub use copies::{Flying, Left};
 pub use drawn::fly;
 pub use flight::Flight;
+pub use updating::UpdateFlight;
 pub use versions::Version;
