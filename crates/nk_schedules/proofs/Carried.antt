@@ -10,23 +10,22 @@ use Rattle.nk_table.specs.Hops.{Copy, left_after}
 use Rattle.nk_compile.specs.Carries.{Carries}
 use Rattle.nk_flight.specs.Flights.{Event, nothing_in_flight, after_events}
 use Rattle.nk_flight.specs.Owed.{flying_from, crossings, left_from, with_crossings, erased_copy}
-use Rattle.nk_flight.specs.Once.{all_erased, LeaveOnce}
-use Rattle.nk_flight.proofs.Clauses.{once_in_flight, none_left_twice, in_kept}
+use Rattle.nk_flight.specs.Once.{all_erased, LeaveOnce, IsEachOnce}
+use Rattle.nk_flight.proofs.Clauses.{once_in_flight, all_apart, in_kept}
+use Rattle.nk_flight.proofs.Once.{apart_from_doubles, doubles_from_apart}
 use Rattle.nk_flight.proofs.Owing.{eq_true}
 use Rattle.nk_schedules.specs.Schedules.{IsOf, IsEachOnceOf, IsNoOther}
 
 -- what leaves the tables leaves once
-leave_once : (program : Program) (p : Policy) (t : Tables) (k : ℕ) (pk : List ℕ) → Carries program p t → IsStart program.fields program.topo pk
+pub leave_once : (program : Program) (p : Policy) (t : Tables) (k : ℕ) (pk : List ℕ) → Carries program p t → IsStart program.fields program.topo pk
     → LeaveOnce t k pk (all_erased t (left_after t k pk))
 leave_once program p t k pk carries start = record { once = carries.once k pk start; exactly = λ h. (λ c. c, λ c. c) }
 
--- each of the policy's histories has left once, or is owed by one copy alone
-pub each_once_of : (program : Program) (p : Policy) (t : Tables) (es : List Event) (i k : ℕ) (pk : List ℕ) → Carries program p t
-    → slice_get (after_events es (nothing_in_flight t)).packets i ≡ Some pk → IsStart program.fields program.topo pk
-    → IsEachOnceOf p pk t k (all_erased t (with_crossings k (left_from (i + 1) (after_events es (nothing_in_flight t)).left))) (flying_from (i + 1) (after_events es (nothing_in_flight t)).flying)
-each_once_of program p t es i k pk carries e start =
+-- where each history that leaves the tables has left once, or is owed by one copy, so has each of the policy's
+pub of_policy : (program : Program) (p : Policy) (t : Tables) (k : ℕ) (pk : List ℕ) (left copies : List Copy) → Carries program p t → IsStart program.fields program.topo pk
+    → IsEachOnce t k (all_erased t (left_after t k pk)) left copies → IsEachOnceOf p pk t k left copies
+of_policy program p t k pk left copies carries start each =
     let all = all_erased t (left_after t k pk) in
-    let each = once_in_flight t es i k pk all e (leave_once program p t k pk carries start) in
     let given : (h : Copy) → Contains all h → IsOf p pk k h = λ h. (carries.exactly k pk start h.records h.packet).0 in
     let leaves : (h : Copy) → IsOf p pk k h → Contains all h = λ h. (carries.exactly k pk start h.records h.packet).1 in
     record {
@@ -37,19 +36,33 @@ each_once_of program p t es i k pk carries e start =
       due_once = each.due_once;
     }
 
+-- where this holds for each number of crossings, nothing else has left
+pub none_else : (p : Policy) (t : Tables) (pk : List ℕ) (hs copies : List Copy)
+    → ((k : ℕ) → IsEachOnceOf p pk t k (all_erased t (with_crossings k hs)) copies) → IsNoOther p pk (all_erased t hs)
+none_else p t pk hs copies each = record {
+  known = λ h c.
+      let m = from_mapped (erased_copy t) hs h (in_from_contains (all_erased t hs) h c) in
+      let k = crossings m.0 in
+      let kept = with_crossings k hs in
+      let there : In kept m.0 = in_kept (λ d. crossings d == k) hs m.0 m.1 (eq_true k k refl) in
+      let here : In (all_erased t kept) h = subst (In (all_erased t kept)) (sym m.2) (in_mapped (erased_copy t) kept m.0 there) in
+      ((each k).known h (contains_from_in (all_erased t kept) h here)).0;
+  once = doubles_from_apart (all_erased t hs) (all_apart t hs (λ k. apart_from_doubles (all_erased t (with_crossings k hs)) (each k).once));
+}
+
+-- each of the policy's histories has left once, or is owed by one copy alone
+pub each_once_of : (program : Program) (p : Policy) (t : Tables) (es : List Event) (i k : ℕ) (pk : List ℕ) → Carries program p t
+    → slice_get (after_events es (nothing_in_flight t)).packets i ≡ Some pk → IsStart program.fields program.topo pk
+    → IsEachOnceOf p pk t k (all_erased t (with_crossings k (left_from (i + 1) (after_events es (nothing_in_flight t)).left))) (flying_from (i + 1) (after_events es (nothing_in_flight t)).flying)
+each_once_of program p t es i k pk carries e start =
+    let s = after_events es (nothing_in_flight t) in
+    of_policy program p t k pk (all_erased t (with_crossings k (left_from (i + 1) s.left))) (flying_from (i + 1) s.flying) carries start
+    (once_in_flight t es i k pk (all_erased t (left_after t k pk)) e (leave_once program p t k pk carries start))
+
 -- nothing else has left
 pub no_other : (program : Program) (p : Policy) (t : Tables) (es : List Event) (i : ℕ) (pk : List ℕ) → Carries program p t
     → slice_get (after_events es (nothing_in_flight t)).packets i ≡ Some pk → IsStart program.fields program.topo pk
     → IsNoOther p pk (all_erased t (left_from (i + 1) (after_events es (nothing_in_flight t)).left))
 no_other program p t es i pk carries e start =
-    let hs = left_from (i + 1) (after_events es (nothing_in_flight t)).left in
-    record {
-      known = λ h c.
-          let m = from_mapped (erased_copy t) hs h (in_from_contains (all_erased t hs) h c) in
-          let k = crossings m.0 in
-          let kept = with_crossings k hs in
-          let there : In kept m.0 = in_kept (λ d. crossings d == k) hs m.0 m.1 (eq_true k k refl) in
-          let here : In (all_erased t kept) h = subst (In (all_erased t kept)) (sym m.2) (in_mapped (erased_copy t) kept m.0 there) in
-          ((each_once_of program p t es i k pk carries e start).known h (contains_from_in (all_erased t kept) h here)).0;
-      once = none_left_twice t es i pk e (λ k. carries.once k pk start);
-    }
+    let s = after_events es (nothing_in_flight t) in
+    none_else p t pk (left_from (i + 1) s.left) (flying_from (i + 1) s.flying) (λ k. each_once_of program p t es i k pk carries e start)

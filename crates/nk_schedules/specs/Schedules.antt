@@ -6,6 +6,8 @@ use Rattle.nk_table.specs.declared.Tables.{Tables}
 use Rattle.nk_table.specs.Hops.{Copy}
 use Rattle.nk_flight.specs.Owed.{owed_by}
 use Rattle.nk_flight.specs.Once.{IsWithoutDoubles, all_erased, Owes, IsOwedByOne}
+use Rattle.nk_flight.specs.declared.versions.Version.{Version}
+use Rattle.nk_flight.specs.declared.versions.Version.TheVariants.{Old, New}
 
 -- a history of k crossings that the policy has from the packet
 abbrev pub IsOf : Policy → List ℕ → ℕ → Copy → Type 0
@@ -24,3 +26,8 @@ pub record IsEachOnceOf (p : Policy) (pk : List ℕ) (t : Tables) (k : ℕ) (lef
 pub record IsNoOther (p : Policy) (pk : List ℕ) (left : List Copy) : Type 0 where
   pub known : (h : Copy) → Contains left h → Gives p pk h.records h.packet
   pub once : IsWithoutDoubles left
+
+-- of an old and a new policy the one by which a version goes
+abbrev pub policy_by : Policy → Policy → Version → Policy
+policy_by p q Old = p
+policy_by p q New = q
