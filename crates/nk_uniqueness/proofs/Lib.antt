@@ -5,5 +5,6 @@ pub mod Answering
 pub mod Comparing
 pub mod Asking
 pub mod Having
+pub mod Pairs
 pub mod Texts
 pub mod Worked

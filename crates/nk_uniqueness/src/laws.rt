@@ -1,6 +1,6 @@
 //! Laws of what is answered: over the definitions, at most one answer is right. Two programs say the same where they have
 //! the same fields, the same topology and the same policies by the same names (`said_by`).
-ghost use Rattle.std.specs.Prelude.{◌≡◌, ◌⊎◌, ℕ, List, Ok, Err};
+ghost use Rattle.std.specs.Prelude.{◌≡◌, ◌⊎◌, ℕ, List, Some, Ok, Err};
 ghost use Rattle.std.specs.declared.result.Result.{Result};
 ghost use Rattle.nk_field.specs.Order.{Found};
 ghost use Rattle.nk_field.specs.Packet.{FieldTable, IsFieldTable};
@@ -18,6 +18,10 @@ ghost use Rattle.nk_compile.specs.declared.refusal.CompileError.{CompileError};
 ghost use Rattle.nk_compile.specs.declared.refusal.CompileError.TheVariants.{NoMemory, Refused};
 ghost use Rattle.nk_compile.specs.Answers.{IsAnswer};
 ghost use Rattle.nk_compile.specs.Headline.{IsAcceptedByName, IsCompiled};
+ghost use Rattle.nk_compile.specs.NumberedBehind.{IsTableBehind};
+ghost use Rattle.nk_compile.specs.PairAnswers.{FitTogether, IsCompiledPair, IsPairRefused, IsPairAnswer};
+ghost use Rattle.nk_names.specs.Named.{policy_named};
+ghost use Rattle.nk_compile.specs.declared.pair.TablePair.{TablePair};
 ghost use Rattle.nk_compile.specs.Refusals.{IsReason, IsRefused};
 ghost use Rattle.nk_compile.specs.Smallest.{tag_alone, one_port, one_row};
 ghost use Rattle.nk_compile.specs.WholeTable.{IsTableOf};
@@ -59,11 +63,13 @@ pub fn a_policy_has_one_reason()
         → IsRefused program name r → IsRefused other name s → r ≡ s }
 {}
 
-/// A policy has at most one printed table, where packets in range can be at each switch; and so has a name, in programs
-/// that say the same.
+/// A policy has at most one printed table, where packets in range can be at each switch, whatever number its tags go on
+/// behind; and so has a name, in programs that say the same.
 pub fn one_table_is_printed()
     ensures policy { (fields : FieldTable) (topo : Topology) (p : Policy) (t u : Tables) → HavePackets fields topo
         → IsTableOf fields topo (IsStart fields topo) p t → IsTableOf fields topo (IsStart fields topo) p u → t ≡ u }
+    ensures behind { (first : ℕ) (fields : FieldTable) (topo : Topology) (p : Policy) (t u : Tables) → HavePackets fields topo
+        → IsTableBehind first fields topo (IsStart fields topo) p t → IsTableBehind first fields topo (IsStart fields topo) p u → t ≡ u }
     ensures name { (program other : Program) (name : List ℕ) (t u : Tables) → said_by program ≡ said_by other
         → HavePackets program.fields program.topo
         → IsCompiled program name t → IsCompiled other name u → t ≡ u }
@@ -79,6 +85,29 @@ pub fn compiling_has_one_answer()
         → IsRefused program name r → IsAnswer other name a → (a ≡ Err NoMemory) ⊎ (a ≡ Err (Refused r)) }
     ensures one { (program other : Program) (name : List ℕ) (a b : Result Tables CompileError) → said_by program ≡ said_by other
         → HavePackets program.fields program.topo → IsAnswer program name a → IsAnswer other name b
+        → (a ≡ Err NoMemory) ⊎ ((b ≡ Err NoMemory) ⊎ (a ≡ b)) }
+{}
+
+/// Compiling two names for an update has one answer, unless memory runs out: where both are accepted and their tags fit
+/// together, the one pair of tables, and else the one reason.
+pub fn compiling_a_pair_has_one_answer()
+    ensures accepted { (program other : Program) (old new : List ℕ) (p q : Policy) (a : Result TablePair CompileError)
+        → said_by program ≡ said_by other
+        → policy_named program old ≡ Some p → policy_named program new ≡ Some q → IsAccepted program p → IsAccepted program q
+        → FitTogether program.fields program.topo p q → IsPairAnswer other old new a
+        → (a ≡ Err NoMemory) ⊎ ((r : TablePair) × (a ≡ Ok r) × IsCompiledPair other old new r) }
+    ensures refused_alone { (program other : Program) (old new : List ℕ) (r : Refusal) (a : Result TablePair CompileError)
+        → said_by program ≡ said_by other
+        → IsPairRefused program old new r → IsPairAnswer other old new a → (a ≡ Err NoMemory) ⊎ (a ≡ Err (Refused r)) }
+    ensures tables { (program other : Program) (old new : List ℕ) (a b : TablePair) → said_by program ≡ said_by other
+        → HavePackets program.fields program.topo
+        → IsCompiledPair program old new a → IsCompiledPair other old new b → a ≡ b }
+    ensures compiled { (program other : Program) (old new : List ℕ) (a : TablePair) (r : Refusal) → said_by program ≡ said_by other
+        → IsCompiledPair program old new a → IsPairRefused other old new r → ⊥ }
+    ensures refused { (program other : Program) (old new : List ℕ) (r s : Refusal) → said_by program ≡ said_by other
+        → IsPairRefused program old new r → IsPairRefused other old new s → r ≡ s }
+    ensures one { (program other : Program) (old new : List ℕ) (a b : Result TablePair CompileError) → said_by program ≡ said_by other
+        → HavePackets program.fields program.topo → IsPairAnswer program old new a → IsPairAnswer other old new b
         → (a ≡ Err NoMemory) ⊎ ((b ≡ Err NoMemory) ⊎ (a ≡ b)) }
 {}
 
