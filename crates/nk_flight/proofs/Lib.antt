@@ -1,6 +1,7 @@
 pub mod Blocks
 pub mod Clauses
 pub mod Counting
+pub mod Drawing
 pub mod Draws
 pub mod Entering
 pub mod Holding
@@ -13,3 +14,5 @@ pub mod Reached
 pub mod Schedules
 pub mod Steps
 pub mod Trails
+pub mod Turns
+pub mod Waits

@@ -5,5 +5,6 @@ pub mod Once
 pub mod Owed
 pub mod Progresses
 pub mod Trails
+pub mod UpdateDraws
 pub mod Updates
 pub mod WorkedUpdates

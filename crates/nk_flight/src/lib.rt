@@ -3,6 +3,7 @@
 
 mod copies;
 mod drawn;
+mod drawn_updates;
 mod flight;
 mod hops;
 pub mod laws;
@@ -14,6 +15,7 @@ mod waiting;
 
 pub use copies::{Flying, Left};
 pub use drawn::fly;
+pub use drawn_updates::update;
 pub use flight::Flight;
 pub use updating::UpdateFlight;
 pub use versions::Version;
