@@ -11,12 +11,12 @@ use Rattle.clap.specs.Simple.{subcommand_of}
 use Rattle.clap.specs.Faults.{fault_of}
 use Rattle.nk_words.specs.declared.words.Command.{Command}
 use Rattle.nk_words.specs.declared.words.Command.TheVariants.{Compile, Trace, Equal, Check, Fly}
-use Rattle.nk_words.specs.declared.words.Command.TheVariants.{Apart, Waypoint, CheckApart, CheckWaypoint, Gen, Job}
+use Rattle.nk_words.specs.declared.words.Command.TheVariants.{Apart, Waypoint, CheckApart, CheckWaypoint, Gen, Job, Update}
 use Rattle.nk_words.specs.declared.words.WordsError.{WordsError}
 use Rattle.nk_words.specs.App.{nk_app}
 use Rattle.nk_words.specs.Number.{is_number_upto, number_between}
 use Rattle.nk_words.specs.Words.{IsWithinLimits, Reads, command_found, command_of, command_with, fly_of, four_texts}
-use Rattle.nk_words.specs.Words.{network_numbers, argument_number, three_texts, trace_of}
+use Rattle.nk_words.specs.Words.{network_numbers, argument_number, three_texts, trace_of, update_of}
 use Rattle.nk_words.proofs.Numbers.{both}
 
 -- equal options have equal values
@@ -105,6 +105,30 @@ fly_within rows c h =
     (s.0, s.1, (number_within (codes "STEPS") 0 1000000 rows steps f).1))))
     h
 
+update_within : (rows : List Row) (c : Command) → update_of rows ≡ Some c → IsWithinLimits c
+update_within rows c h =
+    joined
+    (λ old. option_and_then (λ new. option_and_then (λ seed. option_and_then (λ steps.
+    option_map (λ packet. Update old new seed steps packet) (first_of (codes "PACKET") rows))
+    (argument_number (codes "STEPS") 0 1000000 rows)) (argument_number (codes "SEED") 1 2147483646 rows)) (first_of (codes "NEW") rows))
+    c (first_of (codes "OLD") rows)
+    (λ old d. joined
+    (λ new. option_and_then (λ seed. option_and_then (λ steps.
+    option_map (λ packet. Update old new seed steps packet) (first_of (codes "PACKET") rows))
+    (argument_number (codes "STEPS") 0 1000000 rows)) (argument_number (codes "SEED") 1 2147483646 rows))
+    c (first_of (codes "NEW") rows)
+    (λ new e. joined
+    (λ seed. option_and_then (λ steps. option_map (λ packet. Update old new seed steps packet) (first_of (codes "PACKET") rows))
+    (argument_number (codes "STEPS") 0 1000000 rows))
+    c (argument_number (codes "SEED") 1 2147483646 rows)
+    (λ seed f. joined (λ steps. option_map (λ packet. Update old new seed steps packet) (first_of (codes "PACKET") rows)) c
+    (argument_number (codes "STEPS") 0 1000000 rows)
+    (λ steps g. mapped (λ packet. Update old new seed steps packet) c (first_of (codes "PACKET") rows)
+    (λ packet i.
+    let s = number_within (codes "SEED") 1 2147483646 rows seed f in
+    (s.0, s.1, (number_within (codes "STEPS") 0 1000000 rows steps g).1))))))
+    h
+
 -- one of two commands, by a test
 either : (c : Command) (b : Bool) (x y : Option Command) → (x ≡ Some c → IsWithinLimits c) → (y ≡ Some c → IsWithinLimits c)
     → cond b x y ≡ Some c → IsWithinLimits c
@@ -130,7 +154,8 @@ with_within name rows c =
     (mapped (λ t. CheckWaypoint t.0 t.1 t.2 t.3) c (four_texts rows) (λ t e. tt))
     (either c (bytes_eq name (codes "gen")) _ _ (mapped (λ n. Gen n.0 n.1) c (network_numbers rows) (network_within rows))
     (either c (bytes_eq name (codes "job")) _ _ (mapped (λ n. Job n.0 n.1) c (network_numbers rows) (network_within rows))
-    (λ h. cc)))))))))))
+    (either c (bytes_eq name (codes "update")) _ _ (update_within rows c)
+    (λ h. cc))))))))))))
 
 -- the command that the words give
 pub command_within : (words : List Text) (c : Command) → command_of words ≡ Some c → IsWithinLimits c

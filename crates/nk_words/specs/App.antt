@@ -53,5 +53,7 @@ nk_without_generation = with_subcommand
 -- with all of its commands
 unfoldable pub nk_app : App
 nk_app = with_subcommand
+    (with_subcommand
     (with_subcommand nk_without_generation (leaf_shape (codes "gen") (codes "SIZE" ∷ codes "SEED" ∷ [])))
-    (leaf_shape (codes "job") (codes "SIZE" ∷ codes "SEED" ∷ []))
+    (leaf_shape (codes "job") (codes "SIZE" ∷ codes "SEED" ∷ [])))
+    (leaf_shape (codes "update") (codes "OLD" ∷ codes "NEW" ∷ codes "SEED" ∷ codes "STEPS" ∷ codes "PACKET" ∷ []))

@@ -9,7 +9,7 @@ use Rattle.clap.specs.Simple.{subcommand_of}
 use Rattle.clap.specs.Faults.{fault_of}
 use Rattle.nk_words.specs.declared.words.Command.{Command}
 use Rattle.nk_words.specs.declared.words.Command.TheVariants.{Compile, Trace, Equal, Check, Fly}
-use Rattle.nk_words.specs.declared.words.Command.TheVariants.{Apart, Waypoint, CheckApart, CheckWaypoint, Gen, Job}
+use Rattle.nk_words.specs.declared.words.Command.TheVariants.{Apart, Waypoint, CheckApart, CheckWaypoint, Gen, Job, Update}
 use Rattle.nk_words.specs.declared.words.WordsError.{WordsError}
 use Rattle.nk_words.specs.declared.words.WordsError.TheVariants.{NoMemory, Usage}
 use Rattle.nk_words.specs.App.{nk_app}
@@ -85,6 +85,14 @@ gen_of rows = option_map (λ n. Gen n.0 n.1) (network_numbers rows)
 abbrev pub job_of : List Row → Option Command
 job_of rows = option_map (λ n. Job n.0 n.1) (network_numbers rows)
 
+-- the command `update OLD NEW SEED STEPS PACKET`, from what was found of its arguments
+abbrev pub update_of : List Row → Option Command
+update_of rows =
+    option_and_then (λ old. option_and_then (λ new. option_and_then (λ seed. option_and_then (λ steps.
+    option_map (λ packet. Update old new seed steps packet) (first_of (codes "PACKET") rows))
+    (argument_number (codes "STEPS") 0 1000000 rows)) (argument_number (codes "SEED") 1 2147483646 rows))
+    (first_of (codes "NEW") rows)) (first_of (codes "OLD") rows)
+
 -- the command of this name, from what was found of its arguments
 abbrev pub command_with : Text → List Row → Option Command
 command_with name rows = if bytes_eq name (codes "compile") then compile_of rows
@@ -97,7 +105,8 @@ command_with name rows = if bytes_eq name (codes "compile") then compile_of rows
     else if bytes_eq name (codes "check_apart") then check_apart_of rows
     else if bytes_eq name (codes "check_waypoint") then check_waypoint_of rows
     else if bytes_eq name (codes "gen") then gen_of rows
-    else if bytes_eq name (codes "job") then job_of rows else None
+    else if bytes_eq name (codes "job") then job_of rows
+    else if bytes_eq name (codes "update") then update_of rows else None
 
 -- the command of the subcommand that was found
 abbrev pub command_found : Option (Text × List Row) → Option Command
@@ -118,6 +127,7 @@ Reads o (Err Usage) = o ≡ None
 abbrev pub IsWithinLimits : Command → Type 0
 IsWithinLimits (Trace hops packet) = hops ≤ 65535
 IsWithinLimits (Fly seed steps packet) = (1 ≤ seed) × (seed ≤ 2147483646) × (steps ≤ 1000000)
+IsWithinLimits (Update old new seed steps packet) = (1 ≤ seed) × (seed ≤ 2147483646) × (steps ≤ 1000000)
 IsWithinLimits (Gen size seed) = (2 ≤ size) × (size ≤ 1000) × (1 ≤ seed) × (seed ≤ 2147483646)
 IsWithinLimits (Job size seed) = (2 ≤ size) × (size ≤ 1000) × (1 ≤ seed) × (seed ≤ 2147483646)
 IsWithinLimits c = ⊤

@@ -8,7 +8,7 @@ ghost use Rattle.nk_words.specs.App.{leaf_app, leaf_shape, nk_app, nk_top, nk_wi
 ghost use Rattle.nk_words.specs.Words.{IsWithinLimits, Reads, command_found, command_of, command_with, compile_of};
 ghost use Rattle.nk_words.specs.Words.{apart_of, check_apart_of, check_of, check_waypoint_of, equal_of, fly_of};
 ghost use Rattle.nk_words.specs.Words.{gen_of, job_of, network_numbers};
-ghost use Rattle.nk_words.specs.Words.{four_texts, argument_number, texts, three_texts, trace_of, waypoint_of};
+ghost use Rattle.nk_words.specs.Words.{four_texts, argument_number, texts, three_texts, trace_of, update_of, waypoint_of};
 
 use crate::Bytes;
 use crate::number::number_from;
@@ -47,6 +47,10 @@ pub enum Command {
     /// `job SIZE SEED`: the counts of what belongs to that program's tables, and to the certificate that two of its
     /// policies do the same.
     Job(u64, u64),
+    /// `update OLD NEW SEED STEPS PACKET`: what has left after so many turns, 0 to 1000000, in which the tables of the
+    /// new policy take the place of the old one's; what happens in each is drawn from the seed, 1 to 2147483646. The
+    /// packet is a text such as `sw=1,pt=2,dst=3`.
+    Update(Bytes, Bytes, u64, u64, Bytes),
 }
 
 /// Why the words give no command.
@@ -147,7 +151,13 @@ fn application<'a>(alloc: Global) -> Result<clap::Command<'a>, AllocError>
 {
     let app = without_generation(alloc)?;
     let app = with_leaf(alloc, app, "gen", &["SIZE", "SEED"])?;
-    with_leaf(alloc, app, "job", &["SIZE", "SEED"])
+    let app = with_leaf(alloc, app, "job", &["SIZE", "SEED"])?;
+    with_leaf(
+        alloc,
+        app,
+        "update",
+        &["OLD", "NEW", "SEED", "STEPS", "PACKET"],
+    )
 }
 
 /// The command that the words give. `Usage` comes exactly where they give none.
@@ -201,6 +211,8 @@ fn command_named(alloc: Global, name: &str, found: &ArgMatches) -> Result<Comman
         generate(found)
     } else if name == "job" {
         job(found)
+    } else if name == "update" {
+        update(alloc, found)
     } else {
         Err(WordsError::Usage)
     }
@@ -297,6 +309,18 @@ fn job(found: &ArgMatches) -> Result<Command, WordsError>
 {
     let (size, seed) = size_and_seed(found)?;
     Ok(Command::Job(size, seed))
+}
+
+/// `update OLD NEW SEED STEPS PACKET`.
+fn update(alloc: Global, found: &ArgMatches) -> Result<Command, WordsError>
+    ensures { Reads (update_of (rows_of (found_of found.now))) result }
+{
+    let old = text(alloc, found, "OLD")?;
+    let new = text(alloc, found, "NEW")?;
+    let seed = number_at(found, "SEED", 1, 2147483646)?;
+    let steps = number_at(found, "STEPS", 0, 1000000)?;
+    let packet = text(alloc, found, "PACKET")?;
+    Ok(Command::Update(old, new, seed, steps, packet))
 }
 
 /// The numbers of the arguments `SIZE SEED`.
