@@ -6,7 +6,7 @@ use Rattle.nk.specs.declared.status.Status.TheVariants.{Done, Differs, Usage, Te
 use Rattle.nk.specs.declared.status.Status.TheVariants.{ReadFault, NoMemory, TooLong}
 use Rattle.nk_words.specs.declared.words.Command.{Command}
 use Rattle.nk_words.specs.declared.words.Command.TheVariants.{Compile, Trace, Equal, Check, Fly}
-use Rattle.nk_words.specs.declared.words.Command.TheVariants.{Apart, Waypoint, CheckApart, CheckWaypoint, Gen, Job}
+use Rattle.nk_words.specs.declared.words.Command.TheVariants.{Apart, Waypoint, CheckApart, CheckWaypoint, Gen, Job, Update}
 use Rattle.nk_query.specs.Asked.{apart, waypoint}
 use Rattle.nk.specs.Outcome.{Outcome, done, differs, text_refused, policy_refused}
 use Rattle.nk.specs.Asking.{IsAskAnswer}
@@ -17,6 +17,7 @@ use Rattle.nk.specs.Flying.{IsFlyAnswer}
 use Rattle.nk.specs.Generating.{IsGenAnswer, IsJobAnswer}
 use Rattle.nk.specs.Judging.{IsJudgeAnswer}
 use Rattle.nk.specs.Tracing.{IsTraceAnswer}
+use Rattle.nk.specs.Updating.{IsUpdateAnswer}
 
 -- a status and its text
 pub record Answer : Type 0 where
@@ -80,6 +81,7 @@ IsOutcome (CheckApart name from target) bytes outcome = IsJudgeAnswer (apart nam
 IsOutcome (CheckWaypoint name from middle target) bytes outcome = IsJudgeAnswer (waypoint name from middle target) bytes outcome
 IsOutcome (Gen size seed) bytes outcome = IsGenAnswer size seed outcome
 IsOutcome (Job size seed) bytes outcome = IsJobAnswer size seed outcome
+IsOutcome (Update old new seed steps packet) bytes outcome = IsUpdateAnswer old new seed steps packet bytes outcome
 
 -- the answer is one that the command has to the input
 abbrev pub IsOutcomeOf : Command → List ℕ → Answer → Type 0

@@ -21,4 +21,5 @@ pub mod Reply
 pub mod Status
 pub mod Succeeding
 pub mod Tracing
+pub mod Updating
 pub mod Use

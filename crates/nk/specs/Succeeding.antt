@@ -7,10 +7,12 @@ use Rattle.nk_policy.specs.After.{drop_policy}
 use Rattle.nk_policy.specs.Policy.{Policy, marked_from, dups_of}
 use Rattle.nk_names.specs.declared.Program.{Program}
 use Rattle.nk_names.specs.ProgramOf.{said_by}
+use Rattle.nk_names.specs.Accepted.{IsAccepted}
 use Rattle.nk_gen.specs.Text.{generated}
 use Rattle.nk_table.specs.declared.Tables.{Tables}
 use Rattle.nk_tabtext.specs.Values.{tables_of}
 use Rattle.nk_compile.specs.Headline.{IsAcceptedByName}
+use Rattle.nk_compile.specs.PairAnswers.{FitTogether}
 use Rattle.nk_cert.specs.Certificates.{CertificateValue, IsCertificate}
 use Rattle.nk_cert.specs.Equality.{AreSame}
 use Rattle.nk_query.specs.Asked.{Asked, apart, waypoint, Question, NoneBreaks}
@@ -18,7 +20,7 @@ use Rattle.nk_query.specs.Answers.{IsNamedQuestion, asked_policy}
 use Rattle.nk_words.specs.Words.{command_of}
 use Rattle.nk_words.specs.declared.words.Command.{Command}
 use Rattle.nk_words.specs.declared.words.Command.TheVariants.{Compile, Trace, Equal, Check, Fly}
-use Rattle.nk_words.specs.declared.words.Command.TheVariants.{Apart, Waypoint, CheckApart, CheckWaypoint, Gen, Job}
+use Rattle.nk_words.specs.declared.words.Command.TheVariants.{Apart, Waypoint, CheckApart, CheckWaypoint, Gen, Job, Update}
 use Rattle.nk.specs.declared.status.Status.{Status}
 use Rattle.nk.specs.declared.status.Status.TheVariants.{Done, Differs, NoMemory}
 use Rattle.nk.specs.Answer.{limit, reads}
@@ -32,6 +34,21 @@ pub record AcceptsNamed (name bytes : List ℕ) : Type 0 where
   pub program : Program
   pub declared : Declares bytes (said_by program)
   pub accepted : IsAcceptedByName program name
+
+-- The bytes are a program's text, the program accepts both of its policies of these names, the tags of both together are no
+-- more than the tag has values above 0, and the word gives a packet at one of the program's ports.
+pub record AcceptsUpdate (old new word bytes : List ℕ) : Type 0 where
+  pub program : Program
+  pub declared : Declares bytes (said_by program)
+  pub old_policy : Policy
+  pub new_policy : Policy
+  pub named : AreNamed program old new old_policy new_policy
+  pub accepted_old : IsAccepted program old_policy
+  pub accepted_new : IsAccepted program new_policy
+  pub fit : FitTogether program.fields program.topo old_policy new_policy
+  pub packet : Packet
+  pub given : packet_of program.fields word ≡ Ok packet
+  pub at_port : is_port program.topo (slice_index packet 0) (slice_index packet 1) ≡ true
 
 -- the bytes are a program's text, and it has policies of both names, of which this holds
 pub record HavePolicies (left right bytes : List ℕ) (Property : Program → Policy → Policy → Type 0) : Type 0 where
@@ -112,6 +129,7 @@ IsDone (CheckApart name from target) bytes = HasCertifiedQuestion (apart name fr
 IsDone (CheckWaypoint name from middle target) bytes = HasCertifiedQuestion (waypoint name from middle target) bytes IsCertified
 IsDone (Gen size seed) bytes = ⊤
 IsDone (Job size seed) bytes = HasJob (generated size seed) GiveSame
+IsDone (Update old new seed steps packet) bytes = AcceptsUpdate old new packet bytes
 
 -- the command differs over these bytes: the policies don't give the same histories, some history breaks the query, or what the
 -- text holds is no certificate
@@ -130,6 +148,7 @@ IsOtherwise (CheckWaypoint name from middle target) bytes =
     HasCertifiedQuestion (waypoint name from middle target) bytes (λ program x c. ¬ IsCertified program x c)
 IsOtherwise (Gen size seed) bytes = ⊥
 IsOtherwise (Job size seed) bytes = HasJob (generated size seed) (λ program p q. ¬ GiveSame program p q)
+IsOtherwise (Update old new seed steps packet) bytes = ⊥
 
 -- the status is `Done` exactly where the command is done over these bytes, and `Differs` exactly where it differs, but for want of
 -- memory

@@ -116,7 +116,7 @@ fn answer_to_tokens<F: Follow>(
 }
 
 /// The same over tables.
-fn answer_to_word<F: Follow>(
+pub(crate) fn answer_to_word<F: Follow>(
     alloc: Global,
     how: &F,
     t: &Tables,

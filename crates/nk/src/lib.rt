@@ -17,6 +17,7 @@ mod reply;
 mod status;
 mod top;
 mod tracing;
+mod updating;
 
 pub use reply::{Reply, Said};
 pub use status::Status;

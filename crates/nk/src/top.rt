@@ -18,6 +18,7 @@ use crate::generating::{gen_answer, job_answer};
 use crate::judging::judge_answer;
 use crate::reply::{Reply, Said, deliver};
 use crate::tracing::trace_reply;
+use crate::updating::update_answer;
 use nk_io::{LONGEST, Sink, Source, read_all};
 use nk_words::{Command, WordsError, read_words};
 use std::alloc::{AllocError, Global};
@@ -163,6 +164,15 @@ fn perform(alloc: Global, command: &Command, bytes: &[u8]) -> Result<Said, Alloc
         }
         Command::Gen(size, seed) => gen_answer(alloc, *size, *seed),
         Command::Job(size, seed) => job_answer(alloc, *size, *seed),
+        Command::Update(old, new, seed, steps, packet) => update_answer(
+            alloc,
+            old.as_str(),
+            new.as_str(),
+            *seed,
+            *steps,
+            packet.as_str(),
+            bytes,
+        ),
         Command::Trace(_, _) | Command::Fly(_, _, _) => unreachable!(),
     }
 }
