@@ -22,7 +22,7 @@ module _ (tells : Telling) (one : (t : Tables) (pk : Packet) (o p : Outcome) →
   by_port t pk o p q true h k = one t pk o p h k
   by_port t pk o p q false h k = h ∙ sym k
 
-  by_packet : (t : Tables) (r : Result Packet PacketError) (o p : Outcome) → ToPacket tells t r o → ToPacket tells t r p → o ≡ p
+  pub by_packet : (t : Tables) (r : Result Packet PacketError) (o p : Outcome) → ToPacket tells t r o → ToPacket tells t r p → o ≡ p
   by_packet t (Ok pk) o p h k = by_port t pk o p _ (is_port t.topo (slice_index pk 0) (slice_index pk 1)) h k
   by_packet t (Err (reading.BadPacket n)) o p h k = h ∙ sym k
   by_packet t (Err reading.NoMemory) o p h k = absurd h

@@ -3,3 +3,4 @@ pub mod Following
 pub mod Named
 pub mod OneJob
 pub mod Answers
+pub mod Updating
