@@ -8,7 +8,7 @@ use std::alloc::{AllocError, Global};
 use std::{fs, io};
 
 /// The words of a command, the file that is its input, and the file with the answer.
-const RUNS: [(&[&str], &str, &str); 38] = [
+const RUNS: [(&[&str], &str, &str); 39] = [
     (
         &["compile", "allow"],
         "access-list.nk",
@@ -63,6 +63,11 @@ const RUNS: [(&[&str], &str, &str); 38] = [
         &["fly", "7", "4", "sw=1,pt=9"],
         "ring.tables",
         "ring.flight",
+    ),
+    (
+        &["update", "upper", "lower", "20", "40", "sw=1,pt=1"],
+        "reroute.nk",
+        "reroute.update",
     ),
     (&["equal", "before", "after"], "change.nk", "change.equal"),
     (

@@ -56,7 +56,7 @@ use crate::trial::tried;
 use std::{fs, io};
 
 /// The files, in the order in which they are told. One that isn't named here isn't run.
-const FILES: [&str; 19] = [
+const FILES: [&str; 20] = [
     "words.rows",
     "texts.rows",
     "refused.rows",
@@ -67,6 +67,7 @@ const FILES: [&str; 19] = [
     "networks.rows",
     "traced.rows",
     "flown.rows",
+    "updated.rows",
     "pieces.rows",
     "generated.rows",
     "equal.rows",
