@@ -9,3 +9,5 @@ mod every_order;
 mod handled;
 #[cfg(test)]
 mod tables;
+#[cfg(test)]
+mod updates;

@@ -87,7 +87,7 @@ fn tables(alloc: Global, switches: &[Switch]) -> Result<List<Table>, AllocError>
 }
 
 /// The fields: the tag alone.
-fn fields(alloc: Global) -> Result<Fields, Fail> {
+pub fn fields(alloc: Global) -> Result<Fields, Fail> {
     let mut fields = Fields::new(alloc)?;
     let tag = fields.add("vlan", 7)?;
     fields.set_tag(tag);
@@ -95,7 +95,7 @@ fn fields(alloc: Global) -> Result<Fields, Fail> {
 }
 
 /// The switches with these links.
-fn topology(alloc: Global, switches: &[Switch], links: &[Link]) -> Result<Topo, Fail> {
+pub fn topology(alloc: Global, switches: &[Switch], links: &[Link]) -> Result<Topo, Fail> {
     let mut topo = Topo::new(alloc)?;
     for switch in switches {
         topo.add_switch(switch.number, switch.ports)?;
