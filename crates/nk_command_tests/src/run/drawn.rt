@@ -93,30 +93,44 @@ fn put_test(text: &mut Vec<u8>, draws: &mut Draws, largest: Largest) -> Result<(
     put_number(text, value(draws, place))
 }
 
-/// A range, at least every other one with the lesser value first.
-fn put_range(text: &mut Vec<u8>, draws: &mut Draws, largest: Largest) -> Result<(), AllocError> {
-    let place = one_place(draws, largest);
+/// Two values of a place, at least every other time with the lesser one first.
+fn two_values(draws: &mut Draws, place: Place) -> (u64, u64) {
     let x = value(draws, place);
     let y = value(draws, place);
-    let ascends = draws.below(2) > 0;
-    text.extend_from_slice(place.name)?;
-    text.extend_from_slice(b" in ")?;
-    put_number(text, if ascends { x.min(y) } else { x })?;
-    text.extend_from_slice(b"..")?;
-    put_number(text, if ascends { x.max(y) } else { y })
+    if draws.below(2) > 0 {
+        (x.min(y), x.max(y))
+    } else {
+        (x, y)
+    }
 }
 
-/// An assignment; of the port one that the switch has.
+/// A range.
+fn put_range(text: &mut Vec<u8>, draws: &mut Draws, largest: Largest) -> Result<(), AllocError> {
+    let place = one_place(draws, largest);
+    let (first, last) = two_values(draws, place);
+    text.extend_from_slice(place.name)?;
+    text.extend_from_slice(b" in ")?;
+    put_number(text, first)?;
+    text.extend_from_slice(b"..")?;
+    put_number(text, last)
+}
+
+/// A field and a value that it is set to; of the port one that the switch has.
+fn one_assignment(draws: &mut Draws, largest: Largest) -> (&'static [u8], u64) {
+    match draws.below(3) {
+        0 => (b"pt", draws.below(2).saturating_add(1)),
+        1 => (b"a", draws.below(largest.a.saturating_add(1))),
+        _ => (b"b", draws.below(largest.b.saturating_add(1))),
+    }
+}
+
+/// An assignment.
 fn put_assignment(
     text: &mut Vec<u8>,
     draws: &mut Draws,
     largest: Largest,
 ) -> Result<(), AllocError> {
-    let (name, number): (&[u8], u64) = match draws.below(3) {
-        0 => (b"pt", draws.below(2).saturating_add(1)),
-        1 => (b"a", draws.below(largest.a.saturating_add(1))),
-        _ => (b"b", draws.below(largest.b.saturating_add(1))),
-    };
+    let (name, number) = one_assignment(draws, largest);
     text.extend_from_slice(name)?;
     text.extend_from_slice(b":=")?;
     put_number(text, number)
@@ -144,7 +158,33 @@ fn put_two(
     text.extend_from_slice(b")")
 }
 
+/// The complement of one of the texts.
+fn put_complement(
+    text: &mut Vec<u8>,
+    texts: &[Vec<u8>],
+    draws: &mut Draws,
+) -> Result<(), AllocError> {
+    text.extend_from_slice(b"~")?;
+    text.extend_from_slice(one_of(texts, draws))
+}
+
 /// A predicate: a test, a range, or one that is made of those before it.
+/// Appends a predicate: a test, a range, or one that is made of those before it.
+fn put_predicate(
+    text: &mut Vec<u8>,
+    texts: &[Vec<u8>],
+    draws: &mut Draws,
+    largest: Largest,
+) -> Result<(), AllocError> {
+    match draws.below(8) {
+        0 | 1 => put_two(text, texts, b" + ", draws),
+        2 => put_two(text, texts, b";", draws),
+        3 => put_complement(text, texts, draws),
+        4 => put_test(text, draws, largest),
+        _ => put_range(text, draws, largest),
+    }
+}
+
 fn next_predicate(
     alloc: Global,
     texts: &[Vec<u8>],
@@ -152,20 +192,27 @@ fn next_predicate(
     largest: Largest,
 ) -> Result<Vec<u8>, AllocError> {
     let mut text = Vec::new(alloc);
-    match draws.below(8) {
-        0 | 1 => put_two(&mut text, texts, b" + ", draws)?,
-        2 => put_two(&mut text, texts, b";", draws)?,
-        3 => {
-            text.extend_from_slice(b"~")?;
-            text.extend_from_slice(one_of(texts, draws))?;
-        }
-        4 => put_test(&mut text, draws, largest)?,
-        _ => put_range(&mut text, draws, largest)?,
-    }
+    put_predicate(&mut text, texts, draws, largest)?;
     Ok(text)
 }
 
 /// A policy: an assignment, a predicate, or one that is made of those before it.
+/// Appends a policy: an assignment, a predicate, or one that is made of those before it.
+fn put_policy(
+    text: &mut Vec<u8>,
+    predicates: &[Vec<u8>],
+    texts: &[Vec<u8>],
+    draws: &mut Draws,
+    largest: Largest,
+) -> Result<(), AllocError> {
+    match draws.below(8) {
+        0 | 1 => put_two(text, texts, b" + ", draws),
+        2 | 3 => put_two(text, texts, b";", draws),
+        4 => put_assignment(text, draws, largest),
+        _ => text.extend_from_slice(one_of(predicates, draws)),
+    }
+}
+
 fn next_policy(
     alloc: Global,
     predicates: &[Vec<u8>],
@@ -174,12 +221,7 @@ fn next_policy(
     largest: Largest,
 ) -> Result<Vec<u8>, AllocError> {
     let mut text = Vec::new(alloc);
-    match draws.below(8) {
-        0 | 1 => put_two(&mut text, texts, b" + ", draws)?,
-        2 | 3 => put_two(&mut text, texts, b";", draws)?,
-        4 => put_assignment(&mut text, draws, largest)?,
-        _ => text.extend_from_slice(one_of(predicates, draws))?,
-    }
+    put_policy(&mut text, predicates, texts, draws, largest)?;
     Ok(text)
 }
 

@@ -2,10 +2,11 @@
 //! program of all histories.
 use super::done;
 use super::drawn::{Draws, Largest, largest_of, predicates, put_declarations};
-use super::random::{declared_by, is_flat, packet_of, packets};
+use super::random::{declared, is_flat, packet_of, packets};
 use nk::Status;
 use nk_field::Packet;
-use nk_lex::tokens;
+use nk_io::MemSink;
+use nk_names::Program;
 use nk_policy::{Pol, histories};
 use std::alloc::{AllocError, Global};
 use std::test::Fail;
@@ -68,34 +69,61 @@ fn agree(alloc: Global, p: &Pol, q: &Pol, largest: Largest) -> Result<bool, Allo
     Ok(true)
 }
 
-/// Whether what is printed of a predicate's packets is a predicate of the same ones.
-fn is_kept(alloc: Global, predicate: &[u8], largest: Largest) -> Result<bool, Fail> {
-    let input = recorded(alloc, predicate, largest)?;
-    let (status, out, _) = done(alloc, &["equal", "l", "r"], &input)?;
-    if status != Status::Done {
-        return Ok(false);
-    }
-    let Some(other) = printed(out.taken()) else {
-        return Ok(false);
-    };
-    let text = side_by_side(alloc, predicate, other, largest)?;
-    let read = tokens(alloc, &text)?;
-    let declared = declared_by(alloc, &read)?;
-    match (declared.find("p"), declared.find("q")) {
-        (Some(p), Some(q)) => Ok(agree(alloc, &p.written(alloc)?, &q.written(alloc)?, largest)?),
+/// Whether `p` and `q` of a program keep the same packets.
+fn both_agree(alloc: Global, program: &Program, largest: Largest) -> Result<bool, AllocError> {
+    match (program.find("p"), program.find("q")) {
+        (Some(p), Some(q)) => agree(alloc, &p.written(alloc)?, &q.written(alloc)?, largest),
         _ => Ok(false),
     }
 }
 
+/// Whether two predicates, given as texts, keep the same packets.
+fn texts_agree(
+    alloc: Global,
+    predicate: &[u8],
+    other: &[u8],
+    largest: Largest,
+) -> Result<bool, Fail> {
+    let text = side_by_side(alloc, predicate, other, largest)?;
+    let program = declared(alloc, &text)?;
+    Ok(both_agree(alloc, &program, largest)?)
+}
+
+/// The sink with the certificate of the packets of a predicate, where there is one.
+fn certificate(alloc: Global, predicate: &[u8], largest: Largest) -> Result<Option<MemSink>, Fail> {
+    let input = recorded(alloc, predicate, largest)?;
+    match done(alloc, &["equal", "l", "r"], &input)? {
+        (Status::Done, out) => Ok(Some(out)),
+        _ => Ok(None),
+    }
+}
+
+/// Whether what is printed of a predicate's packets is a predicate of the same ones.
+fn is_kept(alloc: Global, predicate: &[u8], largest: Largest) -> Result<bool, Fail> {
+    let Some(out) = certificate(alloc, predicate, largest)? else {
+        return Ok(false);
+    };
+    match printed(out.taken()) {
+        Some(other) => texts_agree(alloc, predicate, other, largest),
+        None => Ok(false),
+    }
+}
+
+/// Whether that holds of so many random predicates of a seed.
+fn are_kept(alloc: Global, count: u32, seed: u64) -> Result<bool, Fail> {
+    let largest = largest_of(seed);
+    for predicate in predicates(alloc, count, &mut Draws::new(seed), largest)?.iter() {
+        if !is_kept(alloc, predicate, largest)? {
+            return Ok(false);
+        }
+    }
+    Ok(true)
+}
+
 #[test]
 fn predicates_of_random_sets(rt: HostRuntime) -> Result<(), Fail> {
-    let alloc = rt.alloc();
     for seed in 1..=12 {
-        let mut draws = Draws::new(seed);
-        let largest = largest_of(seed);
-        for predicate in predicates(alloc, 16, &mut draws, largest)?.iter() {
-            assert!(rt; is_kept(alloc, predicate, largest)?, "seed {seed}");
-        }
+        assert!(rt; are_kept(rt.alloc(), 16, seed)?, "seed {seed}");
     }
     Ok(())
 }

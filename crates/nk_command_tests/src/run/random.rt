@@ -78,16 +78,27 @@ pub(super) fn packet_of(number: u64, largest: Largest) -> Packet {
     pk
 }
 
-/// Whether the tables send each packet exactly to where the policy ends, each once.
+/// Whether both lists have the same packets, where each is in the first once.
+fn are_same(sent: &[Packet], wanted: &[Packet]) -> bool {
+    sent.len() == wanted.len() && wanted.iter().all(|x| sent.contains(x))
+}
+
+/// Whether the tables send a packet exactly to where the policy ends, each once.
+fn agree_on(alloc: Global, p: &Pol, tables: &Tables, pk: &Packet) -> Result<bool, AllocError>
+    requires { IsFlat (tree_of p.now) }
+{
+    let wanted = ends(alloc, p, pk)?;
+    let sent = emit(alloc, tables, pk)?;
+    Ok(are_same(sent.as_slice(), wanted.as_slice()))
+}
+
+/// Whether they do so with each packet.
 fn agree(alloc: Global, p: &Pol, tables: &Tables, largest: Largest) -> Result<bool, AllocError> {
     if !is_flat(p) {
         return Ok(false);
     }
     for number in 0..packets(largest) {
-        let pk = packet_of(number, largest);
-        let wanted = ends(alloc, p, &pk)?;
-        let sent = emit(alloc, tables, &pk)?;
-        if sent.len() != wanted.len() || wanted.iter().any(|x| !sent.as_slice().contains(x)) {
+        if !agree_on(alloc, p, tables, &packet_of(number, largest))? {
             return Ok(false);
         }
     }
@@ -95,37 +106,64 @@ fn agree(alloc: Global, p: &Pol, tables: &Tables, largest: Largest) -> Result<bo
 }
 
 /// The program of the tokens of a text.
-pub(super) fn declared_by(alloc: Global, tokens: &[Token]) -> Result<Program, Fail>
+fn declared_by(alloc: Global, tokens: &[Token]) -> Result<Program, Fail>
     requires small { All (λ t. t.value ≤ largest) tokens.now }
 {
     let tree = file(alloc, tokens)?;
     Ok(program(alloc, &tree)?)
 }
 
-/// Whether the tables of a policy's text send each packet exactly to where the policy ends.
-fn is_carried(alloc: Global, policy: &[u8], largest: Largest) -> Result<bool, Fail> {
+/// The program of a text.
+pub(super) fn declared(alloc: Global, text: &[u8]) -> Result<Program, Fail> {
+    let read = tokens(alloc, text)?;
+    declared_by(alloc, &read)
+}
+
+/// The declarations, and the policy as `p`.
+fn program_text(alloc: Global, policy: &[u8], largest: Largest) -> Result<Vec<u8>, AllocError> {
     let mut text = Vec::new(alloc);
     put_declarations(&mut text, largest)?;
     text.extend_from_slice(b"let p = ")?;
     text.extend_from_slice(policy)?;
-    let read = tokens(alloc, &text)?;
-    let declared = declared_by(alloc, &read)?;
-    let tables = compile(alloc, &declared, "p")?;
-    match declared.find("p") {
-        Some(p) => Ok(agree(alloc, &p.written(alloc)?, &tables, largest)?),
+    Ok(text)
+}
+
+/// Whether the tables do what `p` of the program does.
+fn do_as_named(
+    alloc: Global,
+    program: &Program,
+    tables: &Tables,
+    largest: Largest,
+) -> Result<bool, AllocError> {
+    match program.find("p") {
+        Some(p) => agree(alloc, &p.written(alloc)?, tables, largest),
         None => Ok(false),
     }
 }
 
+/// Whether the tables of a policy's text send each packet exactly to where the policy ends.
+fn is_carried(alloc: Global, policy: &[u8], largest: Largest) -> Result<bool, Fail> {
+    let text = program_text(alloc, policy, largest)?;
+    let program = declared(alloc, &text)?;
+    let tables = compile(alloc, &program, "p")?;
+    Ok(do_as_named(alloc, &program, &tables, largest)?)
+}
+
+/// Whether that holds of so many random policies of a seed.
+fn are_carried(alloc: Global, count: u32, seed: u64) -> Result<bool, Fail> {
+    let largest = largest_of(seed);
+    for policy in policies(alloc, count, &mut Draws::new(seed), largest)?.iter() {
+        if !is_carried(alloc, policy, largest)? {
+            return Ok(false);
+        }
+    }
+    Ok(true)
+}
+
 #[test]
 fn tables_of_random_policies(rt: HostRuntime) -> Result<(), Fail> {
-    let alloc = rt.alloc();
     for seed in 1..=12 {
-        let mut draws = Draws::new(seed);
-        let largest = largest_of(seed);
-        for policy in policies(alloc, 16, &mut draws, largest)?.iter() {
-            assert!(rt; is_carried(alloc, policy, largest)?, "seed {seed}");
-        }
+        assert!(rt; are_carried(rt.alloc(), 16, seed)?, "seed {seed}");
     }
     Ok(())
 }

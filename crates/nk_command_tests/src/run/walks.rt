@@ -2,10 +2,10 @@
 //! policies by the plain program.
 use super::done;
 use super::drawn::Draws;
-use super::random::{declared_by, is_flat};
+use super::random::{declared, is_flat};
 use nk::Status;
 use nk_field::{Fid, History, Packet};
-use nk_lex::tokens;
+use nk_names::Program;
 use nk_policy::{Pol, histories};
 use nk_sim::trace;
 use nk_table::Tables;
@@ -43,11 +43,18 @@ const CROSSINGS: [&[u8]; 5] = [
 ];
 
 /// One of the texts.
-fn one_of<'a>(texts: &[&'a [u8]], draws: &mut Draws) -> &'a [u8] {
+pub(super) fn one_of<'a>(texts: &[&'a [u8]], draws: &mut Draws) -> &'a [u8] {
     match texts.get(draws.below(texts.len() as u64) as usize) {
         Some(text) => text,
         None => b"id",
     }
+}
+
+/// A way over one link.
+fn put_way(text: &mut Vec<u8>, draws: &mut Draws) -> Result<(), AllocError> {
+    text.extend_from_slice(one_of(&DEEDS, draws))?;
+    text.extend_from_slice(one_of(&CROSSINGS, draws))?;
+    text.extend_from_slice(one_of(&DEEDS, draws))
 }
 
 /// A sum of one to four ways, each over one link.
@@ -58,46 +65,55 @@ fn round(alloc: Global, draws: &mut Draws) -> Result<Vec<u8>, AllocError> {
         if part > 0 {
             text.extend_from_slice(b" + ")?;
         }
-        text.extend_from_slice(one_of(&DEEDS, draws))?;
-        text.extend_from_slice(one_of(&CROSSINGS, draws))?;
-        text.extend_from_slice(one_of(&DEEDS, draws))?;
+        put_way(&mut text, draws)?;
     }
     Ok(text)
 }
 
 /// A program of two policies: any number of rounds, and at most three of them, which is the same up to three crossings.
-fn program_text(alloc: Global, draws: &mut Draws) -> Result<Vec<u8>, AllocError> {
-    let round = round(alloc, draws)?;
-    let last = one_of(&DEEDS, draws);
-    let mut text = Vec::from_slice(alloc, NETWORK)?;
+fn put_program(text: &mut Vec<u8>, round: &[u8], last: &[u8]) -> Result<(), AllocError> {
     text.extend_from_slice(b"let r = ")?;
-    text.extend_from_slice(round.as_slice())?;
+    text.extend_from_slice(round)?;
     text.extend_from_slice(b"\nlet p = r*;")?;
     text.extend_from_slice(last)?;
     text.extend_from_slice(b";pt:=9\nlet q = (id + r;(id + r;(id + r)));")?;
     text.extend_from_slice(last)?;
-    text.extend_from_slice(b";pt:=9\n")?;
+    text.extend_from_slice(b";pt:=9\n")
+}
+
+/// The network with such a program.
+fn program_text(alloc: Global, draws: &mut Draws) -> Result<Vec<u8>, AllocError> {
+    let round = round(alloc, draws)?;
+    let last = one_of(&DEEDS, draws);
+    let mut text = Vec::from_slice(alloc, NETWORK)?;
+    put_program(&mut text, round.as_slice(), last)?;
     Ok(text)
+}
+
+/// A port where a packet may come in, by a number below 3.
+fn port_of(number: u64) -> u64 {
+    match number {
+        0 => 1,
+        1 => 2,
+        _ => 9,
+    }
 }
 
 /// A packet that may come in, by a number below 18.
 fn packet_of(number: u64) -> Packet {
     let mut pk = Packet::zero();
     pk.put(Fid::SWITCH, 1 + number % 3);
-    pk.put(
-        Fid::PORT,
-        match number / 3 % 3 {
-            0 => 1,
-            1 => 2,
-            _ => 9,
-        },
-    );
+    pk.put(Fid::PORT, port_of(number / 3 % 3));
     pk.put(Fid::new(2), number / 9);
     pk
 }
 
 /// The histories of the policy from a packet, each once.
-fn all_histories(alloc: Global, p: &Pol, pk: &Packet) -> Result<Vec<History>, AllocError> {
+pub(super) fn all_histories(
+    alloc: Global,
+    p: &Pol,
+    pk: &Packet,
+) -> Result<Vec<History>, AllocError> {
     if !is_flat(p) {
         return Ok(Vec::new(alloc));
     }
@@ -110,44 +126,63 @@ fn all_histories(alloc: Global, p: &Pol, pk: &Packet) -> Result<Vec<History>, Al
     Ok(each)
 }
 
-/// Whether each packet leaves with exactly the histories that the policy has, each once, over up to three links.
+/// Whether both lists have the same histories, where each is in the second once.
+fn are_same(left: &[History], wanted: &[History]) -> bool {
+    left.len() == wanted.len() && wanted.iter().all(|h| left.contains(h))
+}
+
+/// Whether a packet leaves with exactly the histories that the policy has, each once, over up to three links.
+fn agree_on(alloc: Global, p: &Pol, tables: &Tables, pk: &Packet) -> Result<bool, AllocError> {
+    let wanted = all_histories(alloc, p, pk)?;
+    let traced = trace(alloc, tables, 3, pk)?;
+    Ok(are_same(traced.histories.as_slice(), wanted.as_slice()))
+}
+
+/// Whether each packet does so.
 fn agree(alloc: Global, p: &Pol, tables: &Tables) -> Result<bool, AllocError> {
     for number in 0..18 {
-        let pk = packet_of(number);
-        let wanted = all_histories(alloc, p, &pk)?;
-        let traced = trace(alloc, tables, 3, &pk)?;
-        let left = traced.histories.as_slice();
-        if left.len() != wanted.len() || wanted.iter().any(|h| !left.contains(h)) {
+        if !agree_on(alloc, p, tables, &packet_of(number))? {
             return Ok(false);
         }
     }
     Ok(true)
 }
 
-/// Whether the printed tables of `p` do what `q` does.
-fn is_carried(alloc: Global, text: &[u8]) -> Result<bool, Fail> {
-    let read = tokens(alloc, text)?;
-    let declared = declared_by(alloc, &read)?;
-    let (status, out, _) = done(alloc, &["compile", "p"], text)?;
-    if status != Status::Done {
-        return Ok(false);
-    }
-    let Ok(tables) = read_tables(alloc, out.taken()) else {
-        return Ok(false);
-    };
-    match declared.find("q") {
-        Some(q) => Ok(agree(alloc, &q.written(alloc)?, &tables)?),
+/// Whether the tables do what `q` of the program does.
+fn do_as_named(alloc: Global, program: &Program, tables: &Tables) -> Result<bool, AllocError> {
+    match program.find("q") {
+        Some(q) => agree(alloc, &q.written(alloc)?, tables),
         None => Ok(false),
     }
 }
 
+/// The printed tables of `p`, where there are any.
+fn printed_tables(alloc: Global, text: &[u8]) -> Result<Option<Tables>, Fail> {
+    match done(alloc, &["compile", "p"], text)? {
+        (Status::Done, out) => Ok(read_tables(alloc, out.taken()).ok()),
+        _ => Ok(None),
+    }
+}
+
+/// Whether the printed tables of `p` do what `q` does.
+fn is_carried(alloc: Global, text: &[u8]) -> Result<bool, Fail> {
+    let program = declared(alloc, text)?;
+    match printed_tables(alloc, text)? {
+        Some(tables) => Ok(do_as_named(alloc, &program, &tables)?),
+        None => Ok(false),
+    }
+}
+
+/// Whether that holds of the random program of a seed.
+fn is_seed_carried(alloc: Global, seed: u64) -> Result<bool, Fail> {
+    let text = program_text(alloc, &mut Draws::new(seed))?;
+    is_carried(alloc, &text)
+}
+
 #[test]
 fn histories_of_random_policies(rt: HostRuntime) -> Result<(), Fail> {
-    let alloc = rt.alloc();
     for seed in 1..=40 {
-        let mut draws = Draws::new(seed);
-        let text = program_text(alloc, &mut draws)?;
-        assert!(rt; is_carried(alloc, &text)?, "seed {seed}");
+        assert!(rt; is_seed_carried(rt.alloc(), seed)?, "seed {seed}");
     }
     Ok(())
 }
