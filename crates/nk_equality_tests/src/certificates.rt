@@ -72,6 +72,14 @@ fn packets_of(alloc: Global, predicate: &Pol) -> Result<Vec<Packet>, AllocError>
     Ok(packets)
 }
 
+/// A row behind the start row.
+fn later_row(alloc: Global, positions: &[u64], predicate: &Pol) -> Result<Row, AllocError> {
+    Ok(Row {
+        positions: Some(Vec::from_slice(alloc, positions)?),
+        packets: packets_of(alloc, predicate)?,
+    })
+}
+
 /// The rows of a certificate.
 fn rows_of(alloc: Global, c: &Certificate) -> Result<Vec<Row>, AllocError> {
     let mut rows = Vec::new(alloc);
@@ -80,10 +88,7 @@ fn rows_of(alloc: Global, c: &Certificate) -> Result<Vec<Row>, AllocError> {
         packets: packets_of(alloc, &c.start)?,
     })?;
     for (positions, predicate) in c.rows.as_slice() {
-        rows.push(Row {
-            positions: Some(Vec::from_slice(alloc, positions.as_slice())?),
-            packets: packets_of(alloc, predicate)?,
-        })?;
+        rows.push(later_row(alloc, positions.as_slice(), predicate)?)?;
     }
     Ok(rows)
 }
@@ -106,21 +111,62 @@ fn predicate_of(alloc: Global, packets: &[Packet]) -> Result<Pol, AllocError> {
     Ok(Pol::Sum(Pols::new(terms)))
 }
 
-/// The certificate with these rows.
-fn certificate_with(alloc: Global, rows: &[Row]) -> Result<Certificate, AllocError> {
-    let mut start = Pol::Sum(Pols::new(Vec::new(alloc)));
-    let mut later = List::new(alloc);
-    for row in rows {
-        let predicate = predicate_of(alloc, row.packets.as_slice())?;
-        match &row.positions {
-            Some(positions) => {
-                let positions = Vec::from_slice(alloc, positions.as_slice())?;
-                later.push((List::from_vec(positions), predicate))?;
-            }
-            None => start = predicate,
+/// A certificate's row with these positions.
+fn later(alloc: Global, positions: &[u64], predicate: Pol) -> Result<(List<u64>, Pol), AllocError> {
+    let positions = Vec::from_slice(alloc, positions)?;
+    Ok((List::from_vec(positions), predicate))
+}
+
+/// Puts a row into a certificate: its start row, or one behind the others.
+fn put_row(alloc: Global, c: &mut Certificate, row: &Row) -> Result<(), AllocError> {
+    let predicate = predicate_of(alloc, row.packets.as_slice())?;
+    match &row.positions {
+        Some(positions) => {
+            let later = later(alloc, positions.as_slice(), predicate)?;
+            c.rows.push(later)
+        }
+        None => {
+            c.start = predicate;
+            Ok(())
         }
     }
-    Ok(Certificate { start, rows: later })
+}
+
+/// The certificate with these rows.
+fn certificate_with(alloc: Global, rows: &[Row]) -> Result<Certificate, AllocError> {
+    let mut certificate = Certificate {
+        start: Pol::Sum(Pols::new(Vec::new(alloc))),
+        rows: List::new(alloc),
+    };
+    for row in rows {
+        put_row(alloc, &mut certificate, row)?;
+    }
+    Ok(certificate)
+}
+
+/// The first position alone, if there is one.
+fn first_of(alloc: Global, positions: &[u64]) -> Result<Vec<u64>, AllocError> {
+    match positions.first() {
+        Some(first) => Vec::from_slice(alloc, &[*first]),
+        None => Ok(Vec::new(alloc)),
+    }
+}
+
+/// The positions and one more.
+fn one_more(alloc: Global, positions: &[u64], number: u64) -> Result<Vec<u64>, AllocError> {
+    let mut changed = Vec::from_slice(alloc, positions)?;
+    changed.push(number)?;
+    Ok(changed)
+}
+
+/// The positions from the last one to the first, and then as they are.
+fn backwards(alloc: Global, positions: &[u64]) -> Result<Vec<u64>, AllocError> {
+    let mut changed = Vec::new(alloc);
+    for number in positions.iter().rev() {
+        changed.push(*number)?;
+    }
+    changed.extend_from_slice(positions)?;
+    Ok(changed)
 }
 
 /// Positions after a change.
@@ -129,27 +175,13 @@ fn changed_positions(
     positions: &[u64],
     change: Change,
 ) -> Result<Vec<u64>, AllocError> {
-    let mut changed = Vec::new(alloc);
     match change {
-        Change::NoPosition => {}
-        Change::FirstAlone => {
-            if let Some(first) = positions.first() {
-                changed.push(*first)?;
-            }
-        }
-        Change::OneMore(number) => {
-            changed.extend_from_slice(positions)?;
-            changed.push(number)?;
-        }
-        Change::Backwards => {
-            for number in positions.iter().rev() {
-                changed.push(*number)?;
-            }
-            changed.extend_from_slice(positions)?;
-        }
-        _ => changed.extend_from_slice(positions)?,
+        Change::NoPosition => Ok(Vec::new(alloc)),
+        Change::FirstAlone => first_of(alloc, positions),
+        Change::OneMore(number) => one_more(alloc, positions, number),
+        Change::Backwards => backwards(alloc, positions),
+        _ => Vec::from_slice(alloc, positions),
     }
-    Ok(changed)
 }
 
 /// Packets after a change.
@@ -168,14 +200,53 @@ fn changed_packets(
     Ok(changed)
 }
 
+/// The positions of a row after a change, where it has some.
+fn changed_places(
+    alloc: Global,
+    positions: &Option<Vec<u64>>,
+    change: Change,
+) -> Result<Option<Vec<u64>>, AllocError> {
+    match positions {
+        Some(positions) => Ok(Some(changed_positions(alloc, positions.as_slice(), change)?)),
+        None => Ok(None),
+    }
+}
+
 /// The row after a change.
 fn changed_row(alloc: Global, row: &Row, change: Change) -> Result<Row, AllocError> {
-    let positions = match &row.positions {
-        Some(positions) => Some(changed_positions(alloc, positions.as_slice(), change)?),
-        None => None,
-    };
-    let packets = changed_packets(alloc, row.packets.as_slice(), change)?;
-    Ok(Row { positions, packets })
+    Ok(Row {
+        positions: changed_places(alloc, &row.positions, change)?,
+        packets: changed_packets(alloc, row.packets.as_slice(), change)?,
+    })
+}
+
+/// Puts the row after a change behind others.
+fn push_changed(
+    alloc: Global,
+    changed: &mut Vec<Row>,
+    row: &Row,
+    change: Change,
+) -> Result<(), AllocError> {
+    let row = changed_row(alloc, row, change)?;
+    changed.push(row)?;
+    Ok(())
+}
+
+/// Puts what a change makes of a row behind others: nothing, one row or two.
+fn push_rows(
+    alloc: Global,
+    changed: &mut Vec<Row>,
+    row: &Row,
+    change: Change,
+) -> Result<(), AllocError> {
+    match change {
+        Change::LeftOut => Ok(()),
+        Change::Twice => {
+            push_changed(alloc, changed, row, change)?;
+            push_changed(alloc, changed, row, change)
+        }
+        _ => push_changed(alloc, changed, row, change),
+    }
 }
 
 /// The rows after a change of the row at this place.
@@ -187,17 +258,10 @@ fn changed_rows(
 ) -> Result<Vec<Row>, AllocError> {
     let mut changed = Vec::new(alloc);
     for (place, row) in rows.iter().enumerate() {
-        if place != at {
-            changed.push(changed_row(alloc, row, Change::Nothing)?)?;
-            continue;
-        }
-        match change {
-            Change::LeftOut => {}
-            Change::Twice => {
-                changed.push(changed_row(alloc, row, change)?)?;
-                changed.push(changed_row(alloc, row, change)?)?;
-            }
-            _ => changed.push(changed_row(alloc, row, change)?)?,
+        if place == at {
+            push_rows(alloc, &mut changed, row, change)?;
+        } else {
+            push_rows(alloc, &mut changed, row, Change::Nothing)?;
         }
     }
     Ok(changed)
@@ -250,6 +314,18 @@ fn agrees(alloc: Global, pair: &Pair, rows: &[Row]) -> Result<bool, Fail> {
     Ok(verdict(alloc, pair.program, pair.right, &certificate)? == Some(wanted))
 }
 
+/// Whether that holds after a change of the row at this place.
+fn agrees_after(
+    alloc: Global,
+    pair: &Pair,
+    rows: &[Row],
+    at: usize,
+    change: Change,
+) -> Result<bool, Fail> {
+    let changed = changed_rows(alloc, rows, at, change)?;
+    agrees(alloc, pair, changed.as_slice())
+}
+
 /// Whether that holds after each of these changes of each row from a place on.
 fn all_agree(
     alloc: Global,
@@ -260,8 +336,7 @@ fn all_agree(
 ) -> Result<bool, Fail> {
     for at in from..rows.len() {
         for change in changes {
-            let changed = changed_rows(alloc, rows, at, *change)?;
-            if !agrees(alloc, pair, changed.as_slice())? {
+            if !agrees_after(alloc, pair, rows, at, *change)? {
                 return Ok(false);
             }
         }
@@ -269,42 +344,100 @@ fn all_agree(
     Ok(true)
 }
 
+/// Whether that holds after each change.
+fn agrees_changed(alloc: Global, pair: &Pair, rows: &[Row]) -> Result<bool, Fail> {
+    Ok(all_agree(alloc, pair, rows, 0, &OF_PACKETS)? && all_agree(alloc, pair, rows, 1, &OF_ROWS)?)
+}
+
+/// Whether the certificate is found valid for the pair.
+fn is_valid(alloc: Global, pair: &Pair, c: &Certificate) -> Result<bool, Fail> {
+    Ok(verdict(alloc, pair.program, pair.right, c)? == Some(Verdict::Valid))
+}
+
+/// Whether the certificate of the pair is found valid, with its rows by the definition too, and each change of it as the
+/// definition says.
+fn holds_of_same(alloc: Global, pair: &Pair, c: &Certificate, rows: &[Row]) -> Result<bool, Fail> {
+    Ok(
+        is_valid(alloc, pair, c)?
+            && found_of(alloc, &pair.sides, rows)? == Verdict::Valid
+            && agrees_changed(alloc, pair, rows)?,
+    )
+}
+
+/// The policy of the name, and nothing where there is none.
+fn written(alloc: Global, program: &Program, name: &str) -> Result<Option<Pol>, AllocError> {
+    match program.find(name) {
+        Some(p) => Ok(Some(p.written(alloc)?)),
+        None => Ok(None),
+    }
+}
+
+/// `l` and the policy of the name on the right.
+fn pair_with<'p, 's>(
+    program: &'p Program,
+    left: &'s Pol,
+    right: &'p str,
+    policy: &'s Pol,
+) -> Pair<'p, 's> {
+    Pair {
+        program,
+        right,
+        sides: Sides {
+            left,
+            right: policy,
+        },
+    }
+}
+
+/// Whether it is so for the certificate of `l` and `s`, which do the same.
+fn holds_beside_same(
+    alloc: Global,
+    program: &Program,
+    left: &Pol,
+    c: &Certificate,
+    rows: &[Row],
+) -> Result<bool, Fail> {
+    match written(alloc, program, "s")? {
+        Some(s) => holds_of_same(alloc, &pair_with(program, left, "s", &s), c, rows),
+        None => Ok(false),
+    }
+}
+
+/// Whether each change of the rows is found of `l` and `r` to be what the definition says.
+fn holds_beside_other(
+    alloc: Global,
+    program: &Program,
+    left: &Pol,
+    rows: &[Row],
+) -> Result<bool, Fail> {
+    match written(alloc, program, "r")? {
+        Some(r) => agrees_changed(alloc, &pair_with(program, left, "r", &r), rows),
+        None => Ok(false),
+    }
+}
+
+/// Whether both hold of rows.
+fn rows_hold(
+    alloc: Global,
+    program: &Program,
+    left: &Pol,
+    c: &Certificate,
+    rows: &[Row],
+) -> Result<bool, Fail> {
+    Ok(
+        holds_beside_same(alloc, program, left, c, rows)?
+            && holds_beside_other(alloc, program, left, rows)?,
+    )
+}
+
 /// Whether the certificate of two policies that do the same is found valid, and each change of it as the definition says,
 /// also for another policy on the right.
 fn holds_of(alloc: Global, program: &Program, c: &Certificate) -> Result<bool, Fail> {
-    let (Some(l), Some(r), Some(s)) = (program.find("l"), program.find("r"), program.find("s"))
-    else {
+    let Some(left) = written(alloc, program, "l")? else {
         return Ok(false);
     };
-    let (l, r, s) = (l.written(alloc)?, r.written(alloc)?, s.written(alloc)?);
-    let of_same = Sides {
-        left: &l,
-        right: &s,
-    };
-    let of_other = Sides {
-        left: &l,
-        right: &r,
-    };
-    let same = Pair {
-        program,
-        right: "s",
-        sides: of_same,
-    };
-    let other = Pair {
-        program,
-        right: "r",
-        sides: of_other,
-    };
     let rows = rows_of(alloc, c)?;
-    let rows = rows.as_slice();
-    Ok(
-        verdict(alloc, program, "s", c)? == Some(Verdict::Valid)
-            && found_of(alloc, &same.sides, rows)? == Verdict::Valid
-            && all_agree(alloc, &same, rows, 0, &OF_PACKETS)?
-            && all_agree(alloc, &same, rows, 1, &OF_ROWS)?
-            && all_agree(alloc, &other, rows, 0, &OF_PACKETS)?
-            && all_agree(alloc, &other, rows, 1, &OF_ROWS)?,
-    )
+    rows_hold(alloc, program, &left, c, rows.as_slice())
 }
 
 /// Whether the certificate of the first two policies is found valid, where they happen to do the same.

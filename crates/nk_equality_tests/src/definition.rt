@@ -44,7 +44,40 @@ fn push_steps(runs: &Runs, before: u64, steps: &mut Steps) -> Result<(), AllocEr
     Ok(())
 }
 
-/// What a policy does from a packet where a row stands; so many numbers come before those of its dups.
+/// Puts what a policy does behind a dup; so many numbers come before those of its dups.
+fn push_behind(
+    alloc: Global,
+    p: &Pol,
+    before: u64,
+    number: u64,
+    pk: &Packet,
+    steps: &mut Steps,
+) -> Result<(), AllocError> {
+    match number.checked_sub(before) {
+        Some(number) => push_steps(&runs_behind(alloc, p, number, pk, 0)?, before, steps),
+        None => Ok(()),
+    }
+}
+
+/// Puts what a policy does from a packet where a row stands; so many numbers come before those of its dups.
+fn push_from(
+    alloc: Global,
+    p: &Pol,
+    before: u64,
+    row: &Row,
+    pk: &Packet,
+    steps: &mut Steps,
+) -> Result<(), AllocError> {
+    let Some(positions) = &row.positions else {
+        return push_steps(&runs_from(alloc, p, pk, 0)?, before, steps);
+    };
+    for number in positions {
+        push_behind(alloc, p, before, *number, pk, steps)?;
+    }
+    Ok(())
+}
+
+/// What a policy does from there.
 fn steps_of_side(
     alloc: Global,
     p: &Pol,
@@ -56,16 +89,7 @@ fn steps_of_side(
         ends: Vec::new(alloc),
         records: Vec::new(alloc),
     };
-    match &row.positions {
-        Some(positions) => {
-            for number in positions {
-                if let Some(number) = number.checked_sub(before) {
-                    push_steps(&runs_behind(alloc, p, number, pk, 0)?, before, &mut steps)?;
-                }
-            }
-        }
-        None => push_steps(&runs_from(alloc, p, pk, 0)?, before, &mut steps)?,
-    }
+    push_from(alloc, p, before, row, pk, &mut steps)?;
     Ok(steps)
 }
 
@@ -128,16 +152,39 @@ fn meets_start(row: &Row) -> bool {
     true
 }
 
-/// Whether from each packet of the row both policies end at the same packets.
+/// Whether both lists have the same packets.
+fn are_same_packets(left: &[Packet], right: &[Packet]) -> bool {
+    are_packets_of(left, right) && are_packets_of(right, left)
+}
+
+/// Whether from a packet of the row both policies end at the same packets.
+fn ends_agree(alloc: Global, sides: &Sides, row: &Row, pk: &Packet) -> Result<bool, AllocError> {
+    let (left, right) = steps_of_both(alloc, sides, row, pk)?;
+    Ok(are_same_packets(left.ends.as_slice(), right.ends.as_slice()))
+}
+
+/// Whether that holds of each packet of the row.
 fn meets_finals(alloc: Global, sides: &Sides, row: &Row) -> Result<bool, AllocError> {
     for pk in &row.packets {
-        let (left, right) = steps_of_both(alloc, sides, row, pk)?;
-        let (left, right) = (left.ends.as_slice(), right.ends.as_slice());
-        if !are_packets_of(left, right) || !are_packets_of(right, left) {
+        if !ends_agree(alloc, sides, row, pk)? {
             return Ok(false);
         }
     }
     Ok(true)
+}
+
+/// Puts the numbers with which a packet is among these.
+fn push_numbers(
+    records: &[(Packet, u64)],
+    x: &Packet,
+    numbers: &mut Vec<u64>,
+) -> Result<(), AllocError> {
+    for (recorded, number) in records {
+        if recorded == x {
+            numbers.push(*number)?;
+        }
+    }
+    Ok(())
 }
 
 /// The numbers with which a packet is recorded by either policy.
@@ -148,16 +195,8 @@ fn numbers_of(
     x: &Packet,
 ) -> Result<Vec<u64>, AllocError> {
     let mut numbers = Vec::new(alloc);
-    for (recorded, number) in &left.records {
-        if recorded == x {
-            numbers.push(*number)?;
-        }
-    }
-    for (recorded, number) in &right.records {
-        if recorded == x {
-            numbers.push(*number)?;
-        }
-    }
+    push_numbers(left.records.as_slice(), x, &mut numbers)?;
+    push_numbers(right.records.as_slice(), x, &mut numbers)?;
     Ok(numbers)
 }
 
@@ -175,6 +214,31 @@ fn is_in_a_row(rows: &[Row], numbers: &[u64], x: &Packet) -> bool {
     false
 }
 
+/// Whether a packet is not recorded next, or in a row with exactly the numbers with which it is.
+fn goes_to_row(
+    alloc: Global,
+    steps: (&Steps, &Steps),
+    rows: &[Row],
+    x: &Packet,
+) -> Result<bool, AllocError> {
+    let numbers = numbers_of(alloc, steps.0, steps.1, x)?;
+    Ok(numbers.is_empty() || is_in_a_row(rows, numbers.as_slice(), x))
+}
+
+/// Whether that holds of all packets.
+fn all_go_to_rows(
+    alloc: Global,
+    steps: (&Steps, &Steps),
+    rows: &[Row],
+) -> Result<bool, AllocError> {
+    for number in 0..4 {
+        if !goes_to_row(alloc, steps, rows, &packet_of(number))? {
+            return Ok(false);
+        }
+    }
+    Ok(true)
+}
+
 /// Whether each packet that is recorded next from this one is in a row with exactly the numbers with which it is.
 fn goes_to_rows(
     alloc: Global,
@@ -184,14 +248,7 @@ fn goes_to_rows(
     pk: &Packet,
 ) -> Result<bool, AllocError> {
     let (left, right) = steps_of_both(alloc, sides, row, pk)?;
-    for number in 0..4 {
-        let x = packet_of(number);
-        let numbers = numbers_of(alloc, &left, &right, &x)?;
-        if !numbers.is_empty() && !is_in_a_row(rows, numbers.as_slice(), &x) {
-            return Ok(false);
-        }
-    }
-    Ok(true)
+    all_go_to_rows(alloc, (&left, &right), rows)
 }
 
 /// Whether that holds of each packet of the row.

@@ -48,6 +48,14 @@ const ATOMS: Atoms = Atoms {
     ],
 };
 
+/// A policy of a name.
+fn put_policy(text: &mut Vec<u8>, name: &[u8], policy: &[u8]) -> Result<(), AllocError> {
+    text.extend_from_slice(b" let ")?;
+    text.extend_from_slice(name)?;
+    text.extend_from_slice(b" = ")?;
+    text.extend_from_slice(policy)
+}
+
 /// The network with a policy and three predicates.
 fn network(
     alloc: Global,
@@ -55,14 +63,10 @@ fn network(
     predicates: (&[u8], &[u8], &[u8]),
 ) -> Result<Vec<u8>, AllocError> {
     let mut text = Vec::from_slice(alloc, NETWORK)?;
-    text.extend_from_slice(b"let p = ")?;
-    text.extend_from_slice(policy)?;
-    text.extend_from_slice(b" let a = ")?;
-    text.extend_from_slice(predicates.0)?;
-    text.extend_from_slice(b" let w = ")?;
-    text.extend_from_slice(predicates.1)?;
-    text.extend_from_slice(b" let z = ")?;
-    text.extend_from_slice(predicates.2)?;
+    put_policy(&mut text, b"p", policy)?;
+    put_policy(&mut text, b"a", predicates.0)?;
+    put_policy(&mut text, b"w", predicates.1)?;
+    put_policy(&mut text, b"z", predicates.2)?;
     Ok(text)
 }
 
@@ -111,23 +115,34 @@ fn breaks(alloc: Global, asked: Asked, start: &Packet, h: &History) -> Result<bo
     }
 }
 
+/// The lesser one of the least break so far and those of the histories from a packet.
+fn least_from(
+    alloc: Global,
+    asked: Asked,
+    start: Packet,
+    so_far: Option<Difference>,
+) -> Result<Option<Difference>, AllocError> {
+    let mut least = so_far;
+    for history in histories_from(alloc, asked.policy, &start, RECORDS)? {
+        if breaks(alloc, asked, &start, &history)? {
+            let new = Difference {
+                start,
+                history,
+                is_left: true,
+            };
+            least = lesser(least, new);
+        }
+    }
+    Ok(least)
+}
+
 /// The least history of at most so many records that breaks the query.
 fn least_break(alloc: Global, asked: Asked) -> Result<Option<Difference>, AllocError> {
     let mut least = None;
     for number in 0..18 {
         let start = packet_at(number);
-        if !keeps(alloc, asked.from, &start)? {
-            continue;
-        }
-        for history in histories_from(alloc, asked.policy, &start, RECORDS)? {
-            if breaks(alloc, asked, &start, &history)? {
-                let new = Difference {
-                    start,
-                    history,
-                    is_left: true,
-                };
-                least = lesser(least, new);
-            }
+        if keeps(alloc, asked.from, &start)? {
+            least = least_from(alloc, asked, start, least)?;
         }
     }
     Ok(least)
@@ -159,58 +174,93 @@ fn agrees(alloc: Global, program: &Program, query: &Query, asked: Asked) -> Resu
     }
 }
 
-/// Whether that holds of both queries of a policy with these predicates.
-fn both_agree(alloc: Global, text: &[u8]) -> Result<bool, Fail> {
-    let program = declared(alloc, text)?;
+/// The policy and the predicates of a network, written out.
+#[derive(Drop)]
+struct Written {
+    policy: Pol,
+    from: Pol,
+    middle: Pol,
+    target: Pol,
+}
+
+/// Those of a program, and nothing where one is missing.
+fn all_written(alloc: Global, program: &Program) -> Result<Option<Written>, AllocError> {
     let (Some(policy), Some(from), Some(middle), Some(target)) = (
         program.find("p"),
         program.find("a"),
         program.find("w"),
         program.find("z"),
     ) else {
-        return Ok(false);
+        return Ok(None);
     };
-    let policy = policy.written(alloc)?;
-    let from = from.written(alloc)?;
-    let middle = middle.written(alloc)?;
-    let target = target.written(alloc)?;
-    let apart = Query::Apart {
+    Ok(Some(Written {
+        policy: policy.written(alloc)?,
+        from: from.written(alloc)?,
+        middle: middle.written(alloc)?,
+        target: target.written(alloc)?,
+    }))
+}
+
+/// Whether that holds where no middle is asked for.
+fn apart_agrees(alloc: Global, program: &Program, all: &Written) -> Result<bool, Fail> {
+    let query = Query::Apart {
         name: "p",
         from: "a",
         target: "z",
     };
-    let waypoint = Query::Waypoint {
+    let asked = Asked {
+        policy: &all.policy,
+        from: &all.from,
+        middle: None,
+        target: &all.target,
+    };
+    agrees(alloc, program, &query, asked)
+}
+
+/// Whether that holds with `w` in the middle.
+fn waypoint_agrees(alloc: Global, program: &Program, all: &Written) -> Result<bool, Fail> {
+    let query = Query::Waypoint {
         name: "p",
         from: "a",
         middle: "w",
         target: "z",
     };
     let asked = Asked {
-        policy: &policy,
-        from: &from,
-        middle: None,
-        target: &target,
+        policy: &all.policy,
+        from: &all.from,
+        middle: Some(&all.middle),
+        target: &all.target,
     };
-    let passing = Asked {
-        policy: &policy,
-        from: &from,
-        middle: Some(&middle),
-        target: &target,
-    };
-    Ok(agrees(alloc, &program, &apart, asked)? && agrees(alloc, &program, &waypoint, passing)?)
+    agrees(alloc, program, &query, asked)
+}
+
+/// Whether that holds of both queries of the network of a text.
+fn both_agree(alloc: Global, text: &[u8]) -> Result<bool, Fail> {
+    let program = declared(alloc, text)?;
+    match all_written(alloc, &program)? {
+        Some(all) => {
+            Ok(apart_agrees(alloc, &program, &all)? && waypoint_agrees(alloc, &program, &all)?)
+        }
+        None => Ok(false),
+    }
+}
+
+/// Whether that holds of a policy with random predicates.
+fn drawn_agree(alloc: Global, policy: &[u8], draws: &mut Draws) -> Result<bool, Fail> {
+    let predicates = (
+        one_of(ATOMS.tests, draws),
+        one_of(ATOMS.tests, draws),
+        one_of(ATOMS.tests, draws),
+    );
+    let text = network(alloc, policy, predicates)?;
+    both_agree(alloc, text.as_slice())
 }
 
 /// Whether that holds of the random policies of a seed, each with random predicates.
 fn all_agree(alloc: Global, seed: u64) -> Result<bool, Fail> {
     let mut draws = Draws::new(seed);
-    for policy in policy_texts(alloc, ATOMS, 12, &mut draws)? {
-        let predicates = (
-            one_of(ATOMS.tests, &mut draws),
-            one_of(ATOMS.tests, &mut draws),
-            one_of(ATOMS.tests, &mut draws),
-        );
-        let text = network(alloc, policy.as_slice(), predicates)?;
-        if !both_agree(alloc, text.as_slice())? {
+    for policy in &policy_texts(alloc, ATOMS, 12, &mut draws)? {
+        if !drawn_agree(alloc, policy.as_slice(), &mut draws)? {
             return Ok(false);
         }
     }

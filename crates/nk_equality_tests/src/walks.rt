@@ -34,14 +34,20 @@ fn agree(alloc: Global, program: &Program, p: &Pol, q: &Pol, right: &str) -> Res
     Ok(is_as_enumerated(&answer, &least))
 }
 
+/// Whether that holds of `l` and the policy of the name.
+fn agree_with(alloc: Global, program: &Program, right: &str) -> Result<bool, Fail> {
+    match (program.find("l"), program.find(right)) {
+        (Some(l), Some(r)) => {
+            let (l, r) = (l.written(alloc)?, r.written(alloc)?);
+            agree(alloc, program, &l, &r, right)
+        }
+        _ => Ok(false),
+    }
+}
+
 /// Whether the answers for two policies, and for the first one in other words, are what their histories say.
 pub fn agree_on(alloc: Global, program: &Program) -> Result<bool, Fail> {
-    let (Some(l), Some(r), Some(s)) = (program.find("l"), program.find("r"), program.find("s"))
-    else {
-        return Ok(false);
-    };
-    let (l, r, s) = (l.written(alloc)?, r.written(alloc)?, s.written(alloc)?);
-    Ok(agree(alloc, program, &l, &r, "r")? && agree(alloc, program, &l, &s, "s")?)
+    Ok(agree_with(alloc, program, "r")? && agree_with(alloc, program, "s")?)
 }
 
 /// The answers for random policies are what their histories say.

@@ -49,25 +49,49 @@ fn agree(left: Result<Vec<Token>, LexError>, right: Result<Vec<Token>, LexError>
     }
 }
 
+/// Texts with and without faults.
+const TEXTS: [&[u8]; 5] = [
+    b"let go_1 = in:=07 -> 10..20 # a = > b\n=>= id9 ",
+    b"x = > 281474976710655",
+    b"a\n1 281474976710656 $",
+    b"a\n# -\n- > b $",
+    b"1.2..",
+];
+
+/// Whether the text in two pieces is the whole, wherever it is cut.
+fn is_cut_in_two(alloc: Global, text: &[u8]) -> bool {
+    for cut in 0..text.len() {
+        let pieces = in_pieces(alloc, &text[..cut], &text[cut..], text.len());
+        if !agree(tokens(alloc, text), pieces) {
+            return false;
+        }
+    }
+    true
+}
+
+/// Whether the text in pieces of so many bytes is the whole.
+fn is_cut_evenly(alloc: Global, text: &[u8], size: usize) -> bool
+    requires { 0 < size }
+{
+    agree(tokens(alloc, text), in_pieces(alloc, &[], text, size))
+}
+
+/// Whether each text in pieces is the whole.
+fn are_cut_anywhere(alloc: Global) -> bool {
+    for text in TEXTS {
+        if !is_cut_in_two(alloc, text)
+            || !is_cut_evenly(alloc, text, 1)
+            || !is_cut_evenly(alloc, text, 3)
+        {
+            return false;
+        }
+    }
+    true
+}
+
 #[test]
 fn a_text_is_cut_anywhere(rt: HostRuntime) -> Result<(), Fail> {
-    let alloc = rt.alloc();
-    let texts: [&[u8]; 5] = [
-        b"let go_1 = in:=07 -> 10..20 # a = > b\n=>= id9 ",
-        b"x = > 281474976710655",
-        b"a\n1 281474976710656 $",
-        b"a\n# -\n- > b $",
-        b"1.2..",
-    ];
-    for text in texts {
-        for cut in 0..text.len() {
-            let whole = tokens(alloc, text);
-            let pieces = in_pieces(alloc, &text[..cut], &text[cut..], text.len());
-            assert!(rt; agree(whole, pieces));
-        }
-        assert!(rt; agree(tokens(alloc, text), in_pieces(alloc, &[], text, 1)));
-        assert!(rt; agree(tokens(alloc, text), in_pieces(alloc, &[], text, 3)));
-    }
+    assert!(rt; are_cut_anywhere(rt.alloc()));
     Ok(())
 }
 

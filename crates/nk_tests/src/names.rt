@@ -3,34 +3,54 @@ use nk_field::{Fid, List};
 use nk_grammar::{Ast, File};
 use nk_lex::{Bytes, Number, Word};
 use nk_names::reading::program;
-use nk_names::{FaultKind, NamesError, resolve};
+use nk_names::{FaultKind, NamesError, Program, resolve};
 use nk_policy::Pol;
+use std::alloc::{AllocError, Global};
 use std::test::Fail;
 
-#[test]
-fn a_predicate_is_resolved(rt: HostRuntime) -> Result<(), Fail> {
-    let alloc = rt.alloc();
-    let empty = File {
+/// The program of no declaration.
+fn empty(alloc: Global) -> Result<Program, Fail> {
+    let file = File {
         decls: List::new(alloc),
         rows: List::new(alloc),
     };
-    let program = program(alloc, &empty)?;
+    Ok(program(alloc, &file)?)
+}
+
+/// `pt=7`, on line 4.
+fn port_is_seven(alloc: Global) -> Result<Ast, AllocError> {
     let field = Word {
         text: Bytes::of_text(alloc, "pt")?,
         line: 4,
     };
-    let test = Ast::Test(field, Number { value: 7, line: 4 });
-    let policy = resolve(alloc, &program, &test, 3)?;
-    let tests_the_port = match policy {
-        Pol::Test(field, value) => field == Fid::PORT && value == 7,
-        _ => false,
-    };
-    assert!(rt; tests_the_port);
-    let refused = resolve(alloc, &program, &Ast::Dup, 3).err();
+    Ok(Ast::Test(field, Number { value: 7, line: 4 }))
+}
+
+/// Whether `pt=7` is resolved.
+fn is_resolved(alloc: Global, program: &Program) -> Result<bool, Fail> {
+    let test = port_is_seven(alloc)?;
+    match resolve(alloc, program, &test, 3)? {
+        Pol::Test(field, value) => Ok(field == Fid::PORT && value == 7),
+        _ => Ok(false),
+    }
+}
+
+/// Whether `dup` is refused, on the line of what it stands for.
+fn dup_is_refused(alloc: Global, program: &Program) -> bool {
     let fault = NamesError::Fault {
         kind: FaultKind::NotAPredicate,
         line: 3,
     };
-    assert_eq!(rt; refused, Some(fault));
+    resolve(alloc, program, &Ast::Dup, 3).err() == Some(fault)
+}
+
+fn predicates_are_resolved(alloc: Global) -> Result<bool, Fail> {
+    let program = empty(alloc)?;
+    Ok(is_resolved(alloc, &program)? && dup_is_refused(alloc, &program))
+}
+
+#[test]
+fn a_predicate_is_resolved(rt: HostRuntime) -> Result<(), Fail> {
+    assert!(rt; predicates_are_resolved(rt.alloc())?);
     Ok(())
 }
