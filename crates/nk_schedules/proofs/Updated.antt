@@ -3,7 +3,6 @@ use Rattle.std.proofs.Common.{◌≡◌, ℕ, ◌+◌, Some, None, List, [], ◌
 use Rattle.std.specs.Prelude.{slice_get}
 use Rattle.nk_names.specs.declared.Program.{Program}
 use Rattle.nk_names.specs.Accepted.{IsStart}
-use Rattle.nk_table.specs.declared.Tables.{Tables}
 use Rattle.nk_table.specs.Hops.{left_after}
 use Rattle.nk_update.specs.Plans.{Pair, pair_of}
 use Rattle.nk_update.specs.Steps.{plan_of}

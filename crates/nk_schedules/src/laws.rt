@@ -14,6 +14,7 @@ ghost use Rattle.nk_flight.specs.Owed.{flying_from, left_from, with_crossings};
 ghost use Rattle.nk_flight.specs.Once.{all_erased};
 ghost use Rattle.nk_flight.specs.declared.versions.Version.{Version};
 ghost use Rattle.nk_flight.specs.Updates.{UpdateEvent, AreEntering, stages_of, tables_by, at_the_start, after_updates};
+ghost use Rattle.nk_flight.specs.UpdateDraws.{after_turns};
 ghost use Rattle.nk_schedules.specs.Schedules.{IsEachOnceOf, IsNoOther, policy_by};
 
 /// In whatever order packets are injected and copies are handled: of each injection of a packet on a declared port without
@@ -55,5 +56,28 @@ pub fn each_packet_keeps_to_one_policy()
         (events : List UpdateEvent) (i : ℕ) (pk : List ℕ)
         → let p = pair_of r.old r.new r.old_tags in let g = stages_of (plan_of p) in let s = after_updates g events (at_the_start g) in
         AreEntering r.old events → slice_get s.flight.packets i ≡ Some pk → s.versions (i + 1) ≡ None
+        → (flying_from (i + 1) s.flight.flying ≡ record { records = []; packet = pk } ∷ []) × (left_from (i + 1) s.flight.left ≡ []) }
+{}
+
+/// The same of an update in which draws from a seed say what happens in each of so many turns, and a packet comes in again and
+/// again: where that is in range, on a declared port and without a tag, each injection of it keeps to one policy.
+pub fn a_drawn_update_keeps_to_one_policy()
+    ensures each { (program : Program) (old new : List ℕ) (r : TablePair) (both : IsCompiledPair program old new r)
+        (seed turns i k : ℕ) (pk : List ℕ) (v : Version)
+        → let p = pair_of r.old r.new r.old_tags in let g = stages_of (plan_of p) in let s = after_turns g seed turns pk (at_the_start g) in
+        let t = tables_by p v in
+        IsStart program.fields program.topo pk → slice_get s.flight.packets i ≡ Some pk → s.versions (i + 1) ≡ Some v
+        → IsEachOnceOf (policy_by both.p both.q v) pk t k (all_erased t (with_crossings k (left_from (i + 1) s.flight.left)))
+        (flying_from (i + 1) s.flight.flying) }
+    ensures left { (program : Program) (old new : List ℕ) (r : TablePair) (both : IsCompiledPair program old new r)
+        (seed turns i : ℕ) (pk : List ℕ) (v : Version)
+        → let p = pair_of r.old r.new r.old_tags in let g = stages_of (plan_of p) in let s = after_turns g seed turns pk (at_the_start g) in
+        let t = tables_by p v in
+        IsStart program.fields program.topo pk → slice_get s.flight.packets i ≡ Some pk → s.versions (i + 1) ≡ Some v
+        → IsNoOther (policy_by both.p both.q v) pk (all_erased t (left_from (i + 1) s.flight.left)) }
+    ensures unstepped { (program : Program) (old new : List ℕ) (r : TablePair) (both : IsCompiledPair program old new r)
+        (seed turns i : ℕ) (pk : List ℕ)
+        → let p = pair_of r.old r.new r.old_tags in let g = stages_of (plan_of p) in let s = after_turns g seed turns pk (at_the_start g) in
+        IsStart program.fields program.topo pk → slice_get s.flight.packets i ≡ Some pk → s.versions (i + 1) ≡ None
         → (flying_from (i + 1) s.flight.flying ≡ record { records = []; packet = pk } ∷ []) × (left_from (i + 1) s.flight.left ≡ []) }
 {}
