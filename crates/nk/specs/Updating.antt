@@ -2,7 +2,7 @@
 -- refuse the two policies, or the first item at fault of the packet's word, or that the packet stands at no port. Else what has
 -- left after so many turns that are drawn from the seed, while the network goes from the old policy's tables to the new one's:
 -- the histories in the order of leaving, each with the number and the version of its injection, and the counts.
-use Rattle.std.specs.Prelude.{◌≡◌, ◌⊎◌, ◌*◌, ◌≤◌, ℕ, Option, Some, None, List, [], ◌++◌, codes, decimal, length, All}
+use Rattle.std.specs.Prelude.{◌≡◌, ◌⊎◌, ◌*◌, ℕ, Option, Some, None, List, [], ◌++◌, codes, decimal, length}
 use Rattle.std.specs.List.{flat_map}
 use Rattle.nk_field.specs.Packet.{FieldTable}
 use Rattle.nk_field.specs.Texts.{packet_of}
@@ -35,14 +35,6 @@ version_word None = []
 abbrev pub versioned_line : FieldTable → (ℕ → Option Version) → Left → List ℕ
 versioned_line fields versions l =
     decimal l.number ++ codes " " ++ version_word (versions l.number) ++ codes " " ++ history_line fields l.history
-
--- the injection of this number has come in, and it has a version
-abbrev pub IsNoted : UpdateState → ℕ → Type 0
-IsNoted s n = (1 ≤ n) × (n ≤ length s.flight.packets) × ((v : Version) × (s.versions n ≡ Some v))
-
--- each history that has left is of such an injection
-abbrev pub AreNoted : UpdateState → Type 0
-AreNoted s = All (λ (l : Left). IsNoted s l.number) s.flight.left
 
 -- how many plan steps are done, of how many
 abbrev pub progress_line : ℕ → ℕ → List ℕ

@@ -4,10 +4,10 @@ ghost use Rattle.std.specs.List.{flat_map};
 ghost use Rattle.nk_field.specs.Texts.{packet_of};
 ghost use Rattle.nk_names.specs.ProgramOf.{said_by};
 ghost use Rattle.nk_update.specs.Plans.{IsPlannable, pair_of};
-ghost use Rattle.nk_flight.specs.Updates.{state_in};
+ghost use Rattle.nk_flight.specs.Updates.{HaveVersions, state_in};
 ghost use Rattle.nk.specs.Following.{ToPacket};
 ghost use Rattle.nk.specs.Reply.{said};
-ghost use Rattle.nk.specs.Updating.{AreNoted, IsUpdateAnswer, ToPair, ToTurned, plan_for, progress_line, version_word, versioned_line};
+ghost use Rattle.nk.specs.Updating.{IsUpdateAnswer, ToPair, ToTurned, plan_for, progress_line, version_word, versioned_line};
 ghost use Rattle.nk.specs.Updating as told;
 
 use crate::Said;
@@ -114,7 +114,7 @@ fn updated_text(
     flight: &UpdateFlight,
 ) -> Result<Vec<u8>, AllocError>
     requires topo { topo.now ≡ flight.now.stages.before.topo }
-    requires noted { AreNoted (state_in flight.now) }
+    requires versions { HaveVersions (state_in flight.now) }
     ensures { IfOk result (λ text. text.items ≡ told.updated_text fields.now flight.now.stages (state_in flight.now)) }
 {
     let mut out = Vec::new(alloc);
@@ -131,7 +131,7 @@ fn push_left(
     fields: &Fields,
     flight: &UpdateFlight,
 ) -> Result<(), AllocError>
-    requires { AreNoted (state_in flight.now) }
+    requires { HaveVersions (state_in flight.now) }
     ensures { OnOk result (out.new.items
         ≡ out.old.items ++ flat_map (versioned_line fields.now (state_in flight.now).versions) flight.now.flight.left) }
 {

@@ -15,32 +15,33 @@ all_last : (P : List ℕ → Type 0) (xs ys : List (List ℕ)) → All P (xs ++ 
 all_last P [] ys a = a
 all_last P (x ∷ xs) ys a = all_last P xs ys (All-tail P x (xs ++ ys) a)
 
-module _ (t : Tables) (g : Stages) where
-  moved_packets : (i : ℕ) (s : UpdateState) → (moved g i s).flight.packets ≡ s.flight.packets
+module _ (g : Stages) where
+  pub moved_packets : (i : ℕ) (s : UpdateState) → (moved g i s).flight.packets ≡ s.flight.packets
   moved_packets i s = by (slice_get s.flight.flying i)
     where
       by : (o : Option Flying) → (handled_there g s o (remove s.flight.flying i)).flight.packets ≡ s.flight.packets
       by None = refl
       by (Some f) = refl
 
-  planned_packets : (sw : ℕ) (s : UpdateState) → (planned g sw s).flight.packets ≡ s.flight.packets
+  pub planned_packets : (sw : ℕ) (s : UpdateState) → (planned g sw s).flight.packets ≡ s.flight.packets
   planned_packets sw s = by (may_plan g s sw)
     where
       by : (b : Bool) → (if b then record s { done = one_more sw s.done } else s).flight.packets ≡ s.flight.packets
       by true = refl
       by false = refl
 
+module _ (t : Tables) (g : Stages) where
   all_enter : (es : List UpdateEvent) (s : UpdateState) → AreEntering t es → All (IsEntering t) s.flight.packets → All (IsEntering t) (after_updates g es s).flight.packets
   all_enter [] s a h = h
   all_enter (inject pk ∷ es) s a h = all_enter es (after_update g (inject pk) s) a.1 (All-append (IsEntering t) s.flight.packets (pk ∷ []) h (All-cons (IsEntering t) pk [] a.0 (All-nil (IsEntering t))))
-  all_enter (move i ∷ es) s a h = all_enter es (after_update g (move i) s) a (subst (λ pks. All (IsEntering t) pks) (sym (moved_packets i s)) h)
-  all_enter (plan sw ∷ es) s a h = all_enter es (after_update g (plan sw) s) a (subst (λ pks. All (IsEntering t) pks) (sym (planned_packets sw s)) h)
+  all_enter (move i ∷ es) s a h = all_enter es (after_update g (move i) s) a (subst (λ pks. All (IsEntering t) pks) (sym (moved_packets g i s)) h)
+  all_enter (plan sw ∷ es) s a h = all_enter es (after_update g (plan sw) s) a (subst (λ pks. All (IsEntering t) pks) (sym (planned_packets g sw s)) h)
 
   kept : (es : List UpdateEvent) (s : UpdateState) → All (IsEntering t) (after_updates g es s).flight.packets → All (IsEntering t) s.flight.packets
   kept [] s h = h
   kept (inject pk ∷ es) s h = all_first (IsEntering t) s.flight.packets (pk ∷ []) (kept es (after_update g (inject pk) s) h)
-  kept (move i ∷ es) s h = subst (λ pks. All (IsEntering t) pks) (moved_packets i s) (kept es (after_update g (move i) s) h)
-  kept (plan sw ∷ es) s h = subst (λ pks. All (IsEntering t) pks) (planned_packets sw s) (kept es (after_update g (plan sw) s) h)
+  kept (move i ∷ es) s h = subst (λ pks. All (IsEntering t) pks) (moved_packets g i s) (kept es (after_update g (move i) s) h)
+  kept (plan sw ∷ es) s h = subst (λ pks. All (IsEntering t) pks) (planned_packets g sw s) (kept es (after_update g (plan sw) s) h)
 
   each_entered : (es : List UpdateEvent) (s : UpdateState) → All (IsEntering t) (after_updates g es s).flight.packets → AreEntering t es
   each_entered [] s h = tt

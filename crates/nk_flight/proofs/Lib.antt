@@ -5,10 +5,12 @@ pub mod Drawing
 pub mod Draws
 pub mod Entering
 pub mod Holding
+pub mod Leaving
 pub mod Mixture
 pub mod Noting
 pub mod Once
 pub mod Owing
+pub mod Packets
 pub mod Pairs
 pub mod Reached
 pub mod Schedules

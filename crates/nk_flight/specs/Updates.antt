@@ -1,6 +1,6 @@
 -- Packets in flight while new tables take the old ones' place: packets come in, copies are handled and plan steps are done,
 -- in whatever order.
-use Rattle.std.specs.Prelude.{◌≡◌, ℕ, zero, suc, ◌+◌, ◌==◌, ◌&&◌, nat_le, not, Bool, true, false, if◌then◌else◌, Option, Some, None, List, [], ◌∷◌, ◌++◌, slice_get, slice_index, slice_index_or, remove, map, sum}
+use Rattle.std.specs.Prelude.{◌≡◌, ◌≤◌, ℕ, zero, suc, ◌+◌, ◌==◌, ◌&&◌, nat_le, not, Bool, true, false, if◌then◌else◌, Option, Some, None, List, [], ◌∷◌, ◌++◌, slice_get, slice_index, slice_index_or, remove, map, sum, length, All}
 use Rattle.std.specs.List.{list_all, flat_map}
 use Rattle.std.specs.List.Sorted.{IsPermutation}
 use Rattle.nk_topo.specs.Topology.{is_switch, numbers_of}
@@ -11,6 +11,7 @@ use Rattle.nk_update.specs.Plans.{Pair, place_of}
 use Rattle.nk_update.specs.Steps.{tables_after}
 use Rattle.nk_update.specs.Tags.{IsEntering}
 use Rattle.nk_flight.specs.declared.copies.Flying.{Flying}
+use Rattle.nk_flight.specs.declared.copies.Left.{Left}
 use Rattle.nk_flight.specs.declared.versions.Version.{Version}
 use Rattle.nk_flight.specs.declared.versions.Version.TheVariants.{Old, New}
 use Rattle.nk_flight.specs.Flights.{FlightState, nothing_in_flight, injected, flying_next, left_next}
@@ -191,3 +192,11 @@ left_or_owed_by t s n k = with_crossings k (left_from n s.left) ++ flat_map (owe
 abbrev pub ByVersion : Pair → FlightState → ℕ → List ℕ → Option Version → Type 0
 ByVersion p s n pk None = (flying_from n s.flying ≡ record { records = []; packet = pk } ∷ []) × (left_from n s.left ≡ [])
 ByVersion p s n pk (Some v) = (k : ℕ) → IsPermutation (left_after (tables_by p v) k pk) (left_or_owed_by (tables_by p v) s n k)
+
+-- the injection of this number has come in, and it has a version
+abbrev pub HasVersion : UpdateState → ℕ → Type 0
+HasVersion s n = (1 ≤ n) × (n ≤ length s.flight.packets) × ((v : Version) × (s.versions n ≡ Some v))
+
+-- each history that has left is of such an injection
+abbrev pub HaveVersions : UpdateState → Type 0
+HaveVersions s = All (λ (l : Left). HasVersion s l.number) s.flight.left

@@ -1,11 +1,10 @@
 use Rattle.std.proofs.Common.{subst, sym}
-use Rattle.nk_flight.specs.Updates.{stages_of}
-use Rattle.nk.specs.Updating.{AreNoted}
-use Rattle.nk.proofs.Noted.{turns_noted}
+use Rattle.nk_flight.specs.Updates.{HaveVersions, stages_of}
+use Rattle.nk_flight.proofs.Leaving.{turns_have_versions}
 use Rattle.nk.proofs.updating.TurnsFollow.follow.Goals as goal
 
 -- what has left in turns is of injections that have versions
 pub updated_text-requires-clause-noted : goal.updated_text-requires-clause-noted
 updated_text-requires-clause-noted c =
-    subst AreNoted (sym c.in_ok-flight.ensures.state)
-    (turns_noted (stages_of c.args.self.now.plan) c.args.self.now.seed c.args.self.now.steps c.args.packet.now)
+    subst HaveVersions (sym c.in_ok-flight.ensures.state)
+    (turns_have_versions (stages_of c.args.self.now.plan) c.args.self.now.seed c.args.self.now.steps c.args.packet.now)

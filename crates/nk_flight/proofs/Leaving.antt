@@ -1,18 +1,17 @@
--- Each history that has left in turns is of an injection that has come in, and that has a version.
-use Rattle.std.proofs.Common.{◌≡◌, ℕ, zero, suc, ◌+◌, ◌≤◌, Bool, true, false, inl, inr, ⊎_elim, List, [], ◌∷◌, ◌++◌, length, length-append, refl, sym, ap, subst, arith}
+-- Each history that has left is of an injection that has come in, and that has a version.
+use Rattle.std.proofs.Common.{◌≡◌, ℕ, ◌+◌, ◌≤◌, Bool, true, false, inl, inr, ⊎_elim, List, [], ◌∷◌, ◌++◌, length, length-append, refl, sym, ap, subst, arith}
 use Rattle.std.specs.Prelude.{◌==◌, if◌then◌else◌, Some, remove}
 use Rattle.nk_field.proofs.Lists.{In, in_left, in_right, in_either, from_mapped}
 use Rattle.nk_field.proofs.Ascending.{all_from_members}
 use Rattle.nk_table.specs.Hops.{next_of, left_of}
-use Rattle.nk_flight.specs.Draws.{draw}
 use Rattle.nk_flight.specs.declared.copies.Flying.{Flying}
 use Rattle.nk_flight.specs.declared.copies.Left.{Left}
 use Rattle.nk_flight.specs.declared.versions.Version.{Version}
 use Rattle.nk_flight.specs.Flights.{copy_flying, flying_as, left_as, flying_next, left_next}
-use Rattle.nk_flight.specs.Updates.{Stages, UpdateState, stage_after, at_the_start, may_plan, one_more, planned, noted, noting, steps_at, handled_there, moved, UpdateEvent, inject, move, plan, after_update}
-use Rattle.nk_flight.specs.UpdateDraws.{action_at, after_turns}
+use Rattle.nk_flight.specs.Updates.{Stages, UpdateState, stage_after, at_the_start, may_plan, one_more, planned, noted, noting, steps_at, handled_there, moved, UpdateEvent, inject, move, plan, after_update, after_updates, HasVersion, HaveVersions}
+use Rattle.nk_flight.specs.UpdateDraws.{after_turns, drawn_events}
+use Rattle.nk_flight.proofs.Drawing.{turns_are_updates}
 use Rattle.nk_flight.proofs.Schedules.{split_at}
-use Rattle.nk.specs.Updating.{IsNoted, AreNoted}
 
 -- the injection of this number has come in
 abbrev IsGiven : UpdateState → ℕ → Type 0
@@ -21,7 +20,7 @@ IsGiven s n = (1 ≤ n) × (n ≤ length s.flight.packets)
 -- each copy is of one that has come in, and each history of one that has a version as well
 record Holds (s : UpdateState) : Type 0 where
   copies : (f : Flying) → In s.flight.flying f → IsGiven s f.number
-  histories : (l : Left) → In s.flight.left l → IsNoted s l.number
+  histories : (l : Left) → In s.flight.left l → HasVersion s l.number
 
 module _ (g : Stages) where
   -- a packet comes in
@@ -78,7 +77,7 @@ module _ (g : Stages) where
               (λ a. let was = h.histories l a in (was.0, was.1, still l.number was.2))
               (λ b.
               let m = from_mapped (left_as f.number) (left_of t (copy_flying f)) l b in
-              subst (λ n. IsNoted (handled_there g s (Some f) others) n) (sym (ap (λ (x : Left). x.number) m.2)) (given.0, given.1, this))
+              subst (λ n. HasVersion (handled_there g s (Some f) others) n) (sym (ap (λ (x : Left). x.number) m.2)) (given.0, given.1, this))
               (in_either s.flight.left (left_next t f) l i);
         }
 
@@ -110,13 +109,18 @@ module _ (g : Stages) where
   event_holds (move i) s h = moved_holds s i h
   event_holds (plan sw) s h = planned_holds s sw h
 
-  turns_hold : (seed turns : ℕ) (pk : List ℕ) → Holds (after_turns g seed turns pk (at_the_start g))
-  turns_hold seed zero pk = record { copies = λ f i. absurd i; histories = λ l i. absurd i }
-  turns_hold seed (suc n) pk =
-      let s = after_turns g seed n pk (at_the_start g) in
-      event_holds (action_at (draw seed (suc n)) g pk s) s (turns_hold seed n pk)
+  events_hold : (es : List UpdateEvent) (s : UpdateState) → Holds s → Holds (after_updates g es s)
+  events_hold [] s h = h
+  events_hold (e ∷ es) s h = events_hold es (after_update g e s) (event_holds e s h)
 
-  pub turns_noted : (seed turns : ℕ) (pk : List ℕ) → AreNoted (after_turns g seed turns pk (at_the_start g))
-  turns_noted seed turns pk =
-      let s = after_turns g seed turns pk (at_the_start g) in
-      all_from_members (λ (l : Left). IsNoted s l.number) s.flight.left (turns_hold seed turns pk).histories
+  pub have_versions : (es : List UpdateEvent) → HaveVersions (after_updates g es (at_the_start g))
+  have_versions es =
+      let s = after_updates g es (at_the_start g) in
+      let h = events_hold es (at_the_start g) (record { copies = λ f i. absurd i; histories = λ l i. absurd i }) in
+      all_from_members (λ (l : Left). HasVersion s l.number) s.flight.left h.histories
+
+  -- so it is in turns
+  pub turns_have_versions : (seed turns : ℕ) (pk : List ℕ) → HaveVersions (after_turns g seed turns pk (at_the_start g))
+  turns_have_versions seed turns pk =
+      subst HaveVersions (sym (turns_are_updates g seed turns pk (at_the_start g)))
+      (have_versions (drawn_events g seed turns pk (at_the_start g)))
