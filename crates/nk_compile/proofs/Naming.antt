@@ -1,5 +1,5 @@
 -- From the answer for a policy to that for its name.
-use Rattle.std.proofs.Common.{◌≡◌, ℕ, zero, suc, ◌+◌, ◌<◌, ◌≤◌, List, [], ◌∷◌, get_or, subst, arith, Some}
+use Rattle.std.proofs.Common.{◌≡◌, ℕ, zero, suc, ◌+◌, ◌<◌, ◌≤◌, List, [], ◌∷◌, get_or, arith, Some}
 use Rattle.std.specs.Prelude.{Result, Ok, Err, IfOk, IfErr, All}
 use Rattle.nk_field.specs.Packet.{FieldTable}
 use Rattle.nk_names.proofs.Good.{few_dups}

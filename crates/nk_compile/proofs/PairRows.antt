@@ -7,7 +7,7 @@ use Rattle.nk_field.specs.Packet.{FieldTable}
 use Rattle.nk_field.proofs.Lists.{In, in_from_contains, contains_from_in, in_mapped, from_joined}
 use Rattle.nk_field.proofs.Ascending.{all_from_members, members_from_all}
 use Rattle.nk_prefix.specs.Prefix.{digits_of}
-use Rattle.nk_topo.specs.Topology.{Topology, SwitchPorts, numbers_of}
+use Rattle.nk_topo.specs.Topology.{Topology, numbers_of}
 use Rattle.nk_policy.specs.Policy.{Policy}
 use Rattle.nk_names.specs.Accepted.{IsStart}
 use Rattle.nk_table.specs.declared.Group.{Group}
@@ -17,7 +17,7 @@ use Rattle.nk_table.specs.declared.Tables.{Tables}
 use Rattle.nk_table.specs.Rules.{rows_of, groups_of}
 use Rattle.nk_extract.specs.RuleTree.{rows_for}
 use Rattle.nk_group.specs.Groups as grouping
-use Rattle.nk_update.specs.Plans.{Pair, pair_of, place_of, tag_digits, asked_of, HasOldTag, HasNewTag, NamesOneOf, AreNumberedFrom, NumbersInOrder, HasRowsWhereDeclared, IsPlannable}
+use Rattle.nk_update.specs.Plans.{pair_of, place_of, tag_digits, asked_of, HasOldTag, HasNewTag, NamesOneOf, AreNumberedFrom, NumbersInOrder, HasRowsWhereDeclared, IsPlannable}
 use Rattle.nk_compile.specs.Counted.{HasTagSets}
 use Rattle.nk_compile.specs.NumberedBehind.{tags_behind, IsTableBehind}
 use Rattle.nk_compile.specs.PrintedTable.{IsTreeOf}

@@ -1,9 +1,8 @@
 -- The printed table of a compilable policy carries it, whatever tags its own are numbered behind.
-use Rattle.std.proofs.Common.{◌≡◌, ℕ, suc, ◌+◌, ◌*◌, ◌<◌, ◌≤◌, Bool, true, false, inl, inr, Some, None, List, [], ◌∷◌, length, refl, sym, subst, ◌∙◌, arith}
-use Rattle.std.specs.Prelude.{◌↔◌, All, Contains, if◌then◌else◌, map, slice_index}
+use Rattle.std.proofs.Common.{◌≡◌, ℕ, suc, ◌+◌, ◌*◌, ◌<◌, ◌≤◌, Some, List, length, sym, subst, ◌∙◌, arith}
+use Rattle.std.specs.Prelude.{◌↔◌, All, Contains, map, slice_index}
 use Rattle.std.proofs.lemmas.Option.{slice_get_within}
 use Rattle.nk_field.specs.Packet.{FieldTable, IsFieldTable, IsUntagged}
-use Rattle.nk_field.proofs.Lists.{In}
 use Rattle.nk_field.proofs.Ascending.{all_from_members}
 use Rattle.nk_topo.specs.Topology.{Topology, AreLinks}
 use Rattle.nk_policy.specs.Policy.{Policy}

@@ -1,23 +1,20 @@
 -- What the rows and groups of a printed table are: each row matches the tag exactly, groups are numbered from 1 in order, and
 -- rows name none but these.
-use Rattle.std.proofs.Common.{◌≡◌, ◌≢◌, ℕ, suc, ◌+◌, ◌<◌, ◌≤◌, Bool, true, false, cond, inl, inr, ⊎_elim, Option, Some, None, List, [], ◌∷◌, length, refl, sym, ap, subst, ◌∙◌, arith}
+use Rattle.std.proofs.Common.{◌≡◌, ◌≢◌, ℕ, suc, ◌+◌, ◌<◌, ◌≤◌, Bool, true, false, cond, inl, inr, ⊎_elim, Some, None, List, [], ◌∷◌, length, refl, sym, ap, subst, ◌∙◌, arith}
 use Rattle.std.specs.Prelude.{◌==◌, ◌&&◌, ◌||◌, not, nat_le, nat_lt, if◌then◌else◌, map, filter, slice_index}
 use Rattle.std.specs.List.{flat_map, position_or_len, AllByRecursion}
 use Rattle.std.proofs.lemmas.Bool.Decides.{nat_tests}
-use Rattle.nk_field.proofs.Lists.{In, from_mapped, from_joined}
+use Rattle.nk_field.proofs.Lists.{In, from_mapped}
 use Rattle.nk_prefix.specs.Prefix.{digits_of}
 use Rattle.nk_prefix.specs.Blocks.{blocks_of}
 use Rattle.nk_store.specs.Diagram.{Branches, leaf, case, no_branch, branch, IsFreeOf, AreFreeOf}
 use Rattle.nk_store.specs.Intervals.{same_tree}
 use Rattle.nk_table.specs.declared.Bucket.{Bucket}
-use Rattle.nk_table.specs.declared.Group.{Group}
 use Rattle.nk_table.specs.declared.Plain.{Plain}
 use Rattle.nk_table.specs.declared.Row.{Row}
-use Rattle.nk_table.specs.declared.Target.{Target}
-use Rattle.nk_table.specs.declared.Target.TheVariants as target
 use Rattle.nk_table.specs.Buckets.{same_buckets}
 use Rattle.nk_table.specs.Rules.{buckets_in, buckets_for}
-use Rattle.nk_extract.specs.RuleTree.{Path, PathInterval, is_drop_list, is_drop_leaf, with_match, block_paths, paths_of, path_intervals, put_match, exactly, plain_row, rows_for}
+use Rattle.nk_extract.specs.RuleTree.{Path, PathInterval, is_drop_list, is_drop_leaf, with_match, block_paths, paths_of, path_intervals, put_match, plain_row, rows_for}
 use Rattle.nk_extract.proofs.Highest.{other_of}
 use Rattle.nk_extract.proofs.Lists.{every_weaker, every_append, every_map, every_flat_map, every_true, every_in, in_filter}
 use Rattle.nk_extract.proofs.Trees.{Tree, with_most_has}

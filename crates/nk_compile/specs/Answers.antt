@@ -1,5 +1,5 @@
 -- What compiling a name answers.
-use Rattle.std.specs.Prelude.{◌≡◌, ℕ, ⊤, Result, Ok, Err, List}
+use Rattle.std.specs.Prelude.{ℕ, ⊤, Result, Ok, Err, List}
 use Rattle.nk_topo.specs.Topology.{Topology}
 use Rattle.nk_field.specs.Packet.{FieldTable}
 use Rattle.nk_policy.specs.Policy.{Policy}

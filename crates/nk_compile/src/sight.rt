@@ -1,10 +1,9 @@
 //! What a policy's text shows without running it.
-ghost use Rattle.std.specs.Prelude.{◌≡◌, ◌==◌, ◌&&◌, ◌||◌, Bool, Some};
+ghost use Rattle.std.specs.Prelude.{◌≡◌, ◌==◌, ◌&&◌, Some};
 ghost use Rattle.nk_policy.specs.Tree.{tree_of, trees_of};
 ghost use Rattle.std.specs.List.{list_any};
 ghost use Rattle.nk_policy.specs.Policy.{test, range, assign, dup, link};
 ghost use Rattle.nk_policy.specs.Leaves.{has_leaf, some_has_leaf};
-ghost use Rattle.nk_names.specs.Accepted.{is_link_outside};
 ghost use Rattle.nk_compile.specs.Refusals.{seen_with};
 ghost use Rattle.nk_compile.specs.Sought.{test_for};
 ghost use Rattle.nk_compile.specs.DeclaredLinks.{is_link_of, is_place};

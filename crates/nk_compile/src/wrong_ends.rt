@@ -1,13 +1,12 @@
 //! Ends off edge ports: what ends the levels of a policy's automaton.
-ghost use Rattle.std.specs.Prelude.{◌≡◌, ◌<◌, ◌∷◌, [], Some, List as Items, ℕ, All, IfOk, OnOk, eqb, map, length, slice_index};
-ghost use Rattle.std.specs.Map.{lookup};
-ghost use Rattle.nk_store.specs.Held.{Held, IsId, Grows, HasLeaves, look};
+ghost use Rattle.std.specs.Prelude.{◌≡◌, ◌<◌, ◌∷◌, [], Some, All, IfOk, OnOk, map, length, slice_index};
+ghost use Rattle.nk_store.specs.Held.{IsId, Grows, HasLeaves, look};
 ghost use Rattle.nk_algebra.specs.Unions.{AreIds};
 ghost use Rattle.nk_sets.specs.PacketSets.{IsSet};
 ghost use Rattle.nk_determ.specs.Targets.{retargeted};
 ghost use Rattle.nk_compile.specs.WrongEnds.{IsEndOf, AreEndsOf, HaveEndsOf, wrong_leaf, ends_on, wrong_on, wrong_sided};
 
-use nk_algebra::{seq, union_all};
+use nk_algebra::{known, seq, union_all};
 use nk_determ::{SetId, Sets, retarget};
 use nk_field::List;
 use nk_reach::Goal;
@@ -120,13 +119,6 @@ fn end_once(
     let r = end_in(st, state, set)?;
     seen.insert(state, r)?;
     Ok(r)
-}
-
-/// What the table has for a state.
-fn known(seen: &HashMap<Id, Id>, state: Id) -> Option<Id>
-    ensures { result ≡ lookup (eqb state) seen.now.entries }
-{
-    seen.get(&state).copied()
 }
 
 /// A state's ends in the set.

@@ -1,4 +1,4 @@
-use Rattle.std.proofs.Common.{◌≡◌, ◌∙◌, sym, ap, subst, length, arith}
+use Rattle.std.proofs.Common.{◌∙◌, sym, subst, arith}
 use Rattle.nk_policy.specs.Tree.{tree_of}
 use Rattle.nk_names.specs.Accepted.{IsStart}
 use Rattle.nk_compile.specs.Answers.{IsError}
