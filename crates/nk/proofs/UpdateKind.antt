@@ -11,8 +11,8 @@ use Rattle.nk_topo.specs.Topology.{Topology, is_port}
 use Rattle.nk_names.specs.ProgramOf.{Said, said_by}
 use Rattle.nk_names.proofs.Alike.{fields_alike, topo_alike}
 use Rattle.nk_table.specs.declared.Tables.{Tables}
+use Rattle.nk_compile.proofs.PairReasonByName.{fitting_never_refused}
 use Rattle.nk_update.specs.declared.plans.Plan.{Plan}
-use Rattle.nk_uniqueness.proofs.Pairs.{fitting_never_refused}
 use Rattle.nk.specs.Following.{ToPacket}
 use Rattle.nk.specs.Outcome.{Outcome, done, differs, text_refused, policy_refused}
 use Rattle.nk.specs.ProgramText.{Declares}

@@ -36,3 +36,5 @@ pub mod Orders
 pub mod TooMany
 pub mod Reasons
 pub mod ReasonByName
+pub mod PairReasons
+pub mod PairReasonByName

@@ -11,10 +11,9 @@ use Rattle.nk_compile.specs.Refusals.{IsReason, IsRefused}
 use Rattle.nk_compile.specs.Headline.{IsAcceptedByName}
 use Rattle.nk_compile.proofs.Reasons.{none_some, no_reason, one_reason, why}
 
--- a reason over the same fields, topology and policy
-reason_alike : (f g : FieldTable) (t u : Topology) (p q : Policy) (r : Refusal) → f ≡ g → t ≡ u → p ≡ q → IsReason f t p r → IsReason g u q r
-reason_alike f g t u p q r e d s h =
-    subst (λ z. IsReason g u z r) s (subst (λ z. IsReason g z p r) d (subst (λ z. IsReason z t p r) e h))
+-- what holds over the same fields, topology and policy
+pub alike : (P : FieldTable → Topology → Policy → Type 0) (f g : FieldTable) (t u : Topology) (p q : Policy) → f ≡ g → t ≡ u → p ≡ q → P f t p → P g u q
+alike P f g t u p q e d s h = subst (λ z. P g u z) s (subst (λ z. P g z p) d (subst (λ z. P z t p) e h))
 
 module _ (program other : Program) (same : said_by program ≡ said_by other) (name : List ℕ) where
   -- a name that is accepted isn't refused
@@ -24,7 +23,7 @@ module _ (program other : Program) (same : said_by program ≡ said_by other) (n
       (λ n. none_some a.0 (sym n.1 ∙ sym (named_alike program other same name) ∙ a.1))
       (λ w.
       no_reason program.fields program.topo a.0 r a.2.0 a.2.1
-      (reason_alike other.fields program.fields other.topo program.topo w.0 a.0 r (sym (fields_alike program other same)) (sym (topo_alike program other same)) (sym (one_policy program other same name a.0 w.0 a.1 w.1)) w.2))
+      (alike (λ f u p. IsReason f u p r) other.fields program.fields other.topo program.topo w.0 a.0 (sym (fields_alike program other same)) (sym (topo_alike program other same)) (sym (one_policy program other same name a.0 w.0 a.1 w.1)) w.2))
       (why other name r h)
 
   -- and is refused for one reason alone
@@ -41,6 +40,6 @@ module _ (program other : Program) (same : said_by program ≡ said_by other) (n
       (λ m. absurd (none_some v.0 (sym m.1 ∙ sym (named_alike program other same name) ∙ v.1)))
       (λ w.
       one_reason program.fields program.topo v.0 r s v.2
-      (reason_alike other.fields program.fields other.topo program.topo w.0 v.0 s (sym (fields_alike program other same)) (sym (topo_alike program other same)) (sym (one_policy program other same name v.0 w.0 v.1 w.1)) w.2))
+      (alike (λ f u p. IsReason f u p s) other.fields program.fields other.topo program.topo w.0 v.0 (sym (fields_alike program other same)) (sym (topo_alike program other same)) (sym (one_policy program other same name v.0 w.0 v.1 w.1)) w.2))
       (why other name s k))
       (why program name r h)

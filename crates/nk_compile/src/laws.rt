@@ -8,12 +8,15 @@ ghost use Rattle.nk_policy.specs.Ranges.{IsInRange};
 ghost use Rattle.nk_names.specs.declared.Program.{Program};
 ghost use Rattle.nk_names.specs.Accepted.{IsStart, IsCompilable, IsAccepted};
 ghost use Rattle.nk_names.specs.Named.{policy_named};
+ghost use Rattle.nk_names.specs.ProgramOf.{said_by};
 ghost use Rattle.nk_names.specs.ProgramValue.{IsProgram};
 ghost use Rattle.nk_table.specs.declared.Tables.{Tables};
 ghost use Rattle.nk_update.specs.Plans.{IsPlannable, pair_of};
 ghost use Rattle.nk_update.specs.Tags.{HaveTheirTags};
+ghost use Rattle.nk_compile.specs.declared.refusal.Refusal.{Refusal};
 ghost use Rattle.nk_compile.specs.Counted.{HasTagSets};
 ghost use Rattle.nk_compile.specs.NumberedBehind.{IsTableBehind};
+ghost use Rattle.nk_compile.specs.PairAnswers.{FitTogether, IsPairReason, IsPairRefused};
 ghost use Rattle.nk_compile.specs.WholeTable.{IsTableOf};
 ghost use Rattle.nk_compile.specs.Carries.{Carries};
 ghost use Rattle.nk_compile.specs.Smallest.{MeetsAll};
@@ -65,4 +68,14 @@ pub fn the_numbered_pair_can_be_planned()
         → HasTagSets fields topo p old_tags
         → IsTableOf fields topo (IsStart fields topo) p old → IsTableBehind old_tags fields topo (IsStart fields topo) q new
         → HaveTheirTags (pair_of old new old_tags) }
+{}
+
+/// There is no reason to refuse two accepted policies whose tags fit together. So two such names of one program are refused
+/// by no program that says the same.
+pub fn fitting_policies_are_not_refused()
+    ensures policies { (program : Program) (p q : Policy) (r : Refusal) → IsAccepted program p → IsAccepted program q
+        → FitTogether program.fields program.topo p q → IsPairReason program.fields program.topo p q r → ⊥ }
+    ensures names { (program other : Program) (old new : List ℕ) (p q : Policy) (r : Refusal) → said_by program ≡ said_by other
+        → policy_named program old ≡ Some p → policy_named program new ≡ Some q → IsAccepted program p → IsAccepted program q
+        → FitTogether program.fields program.topo p q → IsPairRefused other old new r → ⊥ }
 {}

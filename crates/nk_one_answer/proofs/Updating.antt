@@ -8,8 +8,9 @@ use Rattle.nk_names.specs.ProgramOf.{Said, said_by}
 use Rattle.nk_names.proofs.Alike.{fields_alike}
 use Rattle.nk_table.specs.declared.Tables.{Tables}
 use Rattle.nk_compile.specs.declared.pair.TablePair.{TablePair}
+use Rattle.nk_compile.proofs.PairReasonByName.{one_pair_refusal}
 use Rattle.nk_uniqueness.specs.Texts.{TextsHavePackets}
-use Rattle.nk_uniqueness.proofs.Pairs.{never_both, one_pair, one_pair_refusal}
+use Rattle.nk_uniqueness.proofs.Pairs.{never_both, one_pair}
 use Rattle.nk.specs.Following.{ToPacket}
 use Rattle.nk.specs.Messages.{refusal_line}
 use Rattle.nk.specs.Outcome.{Outcome, done, differs, text_refused, policy_refused}

@@ -1,4 +1,5 @@
-use Rattle.nk_uniqueness.proofs.Pairs.{one_pair, never_both, one_pair_refusal, one_pair_answer, fitting_answer, refused_pair_answer}
+use Rattle.nk_compile.proofs.PairReasonByName.{one_pair_refusal}
+use Rattle.nk_uniqueness.proofs.Pairs.{one_pair, never_both, one_pair_answer, fitting_answer, refused_pair_answer}
 use Rattle.nk_uniqueness.proofs.laws.compiling_a_pair_has_one_answer.Goals as goal
 
 pub returns-clause-tables : goal.returns-clause-tables
