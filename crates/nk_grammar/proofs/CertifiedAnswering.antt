@@ -19,7 +19,7 @@ some_same : {A : Type 0} (x y : A) → ◌≡◌ {A = Option A} (Some x) (Some y
 some_same x y e = cc
 
 -- the terminals of one more token
-terminals_more : (xs : List Token) (t : Token) → terminals (xs ++ t ∷ []) ≡ terminals xs ++ terminal_of t ∷ []
+pub terminals_more : (xs : List Token) (t : Token) → terminals (xs ++ t ∷ []) ≡ terminals xs ++ terminal_of t ∷ []
 terminals_more [] t = refl
 terminals_more (x ∷ xs) t = ap (λ l. terminal_of x ∷ l) (terminals_more xs t)
 
@@ -54,7 +54,7 @@ fronts_of_more (u ∷ us) (x ∷ xs) ys t e = ⊎_elim (λ f. inl (both f)) (λ 
     both_rest zs f = ap (λ y. y ∷ us) (heads e) ∙ ap (λ l. x ∷ l) f
 
 -- a token that leaves no more than 256 open
-shallow_more : (us : List Terminal) (t : Terminal) (r : Certifying) → IsCertifiedShallow us → certify_all (us ++ t ∷ []) first_certifying ≡ Some r → open_certified r ≤ 256 → IsCertifiedShallow (us ++ t ∷ [])
+pub shallow_more : (us : List Terminal) (t : Terminal) (r : Certifying) → IsCertifiedShallow us → certify_all (us ++ t ∷ []) first_certifying ≡ Some r → open_certified r ≤ 256 → IsCertifiedShallow (us ++ t ∷ [])
 shallow_more us t r old e le = λ xs ys f deep.
     ⊎_elim (λ g. not_deep (some_same r deep.0 (sym e ∙ ap (λ l. certify_all l first_certifying) g ∙ deep.1)) deep.2) (λ g. old xs g.0 g.1 deep) (fronts_of_more us xs ys t f)
   where
@@ -62,11 +62,11 @@ shallow_more us t r old e le = λ xs ys f deep.
     not_deep g lt = omega (arith, le, lt, ap open_certified g)
 
 -- the test of the limit, where it passes
-within : (n : ℕ) → nat_le n 256 ≡ true → n ≤ 256
+pub within : (n : ℕ) → nat_le n 256 ≡ true → n ≤ 256
 within n e = grind (arith, nat_tests)
 
 -- the test of the limit, where it fails
-beyond : (n : ℕ) → nat_le n 256 ≡ false → 256 < n
+pub beyond : (n : ℕ) → nat_le n 256 ≡ false → 256 < n
 beyond n e = grind (arith, nat_tests)
 
 -- the tokens that are left, behind tokens that were read
@@ -133,7 +133,7 @@ rest_answers whole (t ∷ rest) before r parts read shallow = by_step (certify_o
         }
 
 -- nothing is open before the first token
-shallow_first : IsCertifiedShallow []
+pub shallow_first : IsCertifiedShallow []
 shallow_first [] ys e deep = omega (arith, deep.2, ap open_certified (some_same first_certifying deep.0 deep.1))
 shallow_first (x ∷ xs) ys e deep = nothing e
   where

@@ -1,20 +1,17 @@
--- Texts: what the limit says, and the loop over tokens.
-use Rattle.std.proofs.Common.{◌+◌, suc, drop, get_or, drop-cons, add-one, ◌≡◌, ◌≤◌, ◌<◌, ℕ, List, ◌∷◌, Bool, true, false, length, refl, ap, sym, subst, ◌∙◌, arith, Option}
-use Rattle.std.specs.Prelude.{Some, None, Ok, Err, nat_le, if◌then◌else◌}
+-- Texts: the test of the limit, and the loop over tokens.
+use Rattle.std.proofs.Common.{◌+◌, suc, drop, get_or, drop-cons, append-nil, add-one, ◌≡◌, ◌≤◌, ◌<◌, ℕ, List, [], ◌∷◌, ◌++◌, length, true, false, arith, ap, sym, ◌∙◌, Option}
+use Rattle.std.specs.Prelude.{Ok, Err, Some, None, option_map, nat_le}
 use Rattle.std.proofs.lemmas.Bool.Decides.{nat_tests}
-use Rattle.nk_lex.specs.declared.word.Word.{Word}
+use Rattle.std.proofs.lemmas.List.{drop_all}
+use Rattle.std.specs.declared.result.Result.{Result}
+use Rattle.nk_lex.specs.declared.token.Token.{Token}
+use Rattle.nk_lex.specs.Faults.{and_then}
 use Rattle.nk_grammar.specs.declared.decl.GrammarError.{GrammarError}
 use Rattle.nk_grammar.specs.declared.decl.GrammarError.TheVariants as error
-use Rattle.nk_grammar.specs.Terminal.{Terminal}
-use Rattle.nk_grammar.specs.Tree.{Tree}
-use Rattle.nk_grammar.specs.Machine.{State}
-use Rattle.nk_grammar.specs.Reader.{IsDeep}
-use Rattle.nk_grammar.specs.File.{Declaration}
-use Rattle.nk_grammar.specs.FileMachine.{Reading, reading, in_policy, judged, policy_on, open_count, read_one, rest_of_file, file_of, Fails}
-use Rattle.nk_lex.specs.declared.token.Token.{Token}
 use Rattle.nk_grammar.specs.Terminal.{terminal_of}
-use Rattle.std.specs.declared.result.Result.{Result}
-use Rattle.nk_lex.specs.Faults.{and_then}
+use Rattle.nk_grammar.specs.File.{Declaration}
+use Rattle.nk_grammar.specs.FileMachine.{Phase, reading, judged, read_one, ended_at, declarations_at_end, text_ended, rest_of_file, file_of, Fails}
+use Rattle.nk_grammar.proofs.Behind.{judged_behind, refused_behind, ended_behind}
 
 -- the test of the limit, where it passes
 pub within : (n : ℕ) → n ≤ 256 → nat_le n 256 ≡ true
@@ -24,66 +21,72 @@ within n le = grind (arith, nat_tests)
 pub beyond : (n : ℕ) → 256 < n → nat_le n 256 ≡ false
 beyond n lt = grind (arith, nat_tests)
 
--- a token that a policy takes is taken
-pub shallow_taken : (w : Word) (line at : ℕ) (ds : List Declaration) (o : Option State) (s : State) (e : Option Tree) (t : Terminal)
-    → o ≡ Some s → length s.frames ≤ 256 → judged at (policy_on w line ds o e t) ≡ Ok (reading (in_policy w line s) ds)
-shallow_taken w line at ds o s e t f le =
-    ap (λ x. judged at (policy_on w line ds x e t)) f
-    ∙ ap (λ b. if b then Ok (reading (in_policy w line s) ds) else Err (error.TooDeep at)) (within (length s.frames) le)
-
--- and one that opens one too many is refused
-pub deep_refused : (w : Word) (line at : ℕ) (ds : List Declaration) (o : Option State) (e : Option Tree) (t : Terminal)
-    → IsDeep o → judged at (policy_on w line ds o e t) ≡ Err (error.TooDeep at)
-deep_refused w line at ds None e t deep = absurd deep
-deep_refused w line at ds (Some s) e t deep =
-    ap (λ b. if b then Ok (reading (in_policy w line s) ds) else Err (error.TooDeep at)) (beyond (length s.frames) deep)
-
 -- what is left begins with the token at the place
 pub left_is : (xs : List Token) (i : ℕ) (t : Token) → i < length xs → t ≡ get_or xs i t
     → drop i xs ≡ t ∷ drop (i + 1) xs
 left_is xs i t lt is = rw add-one (drop-cons xs i t lt ∙ ap (λ x. x ∷ drop (suc i) xs) (sym is))
 
--- the loop's fact: no more than 256 are open, and what is left comes to the whole
-abbrev pub IsRead : List Token → ℕ → Reading → ℕ → Type 0
-IsRead xs i r line = (open_count r ≤ 256) × (rest_of_file (drop i xs) r line ≡ file_of xs)
-
--- a token that is taken leaves at most 256 open
-shallow : (line : ℕ) (o : Option Reading) (r : Reading) → judged line o ≡ Ok r → open_count r ≤ 256
-shallow line None r e = absurd (err_ok e)
-  where
-    err_ok : ◌≡◌ {A = Result Reading GrammarError} (Err (error.Unexpected line)) (Ok r) → ⊥
-    err_ok e = cc
-shallow line (Some s) r e = by_test (nat_le (open_count s) 256) refl e
-  where
-    same : ◌≡◌ {A = Result Reading GrammarError} (Ok s) (Ok r) → s ≡ r
-    same e = cc
-
-    err_ok : ◌≡◌ {A = Result Reading GrammarError} (Err (error.TooDeep line)) (Ok r) → ⊥
-    err_ok e = cc
-
-    le_of : (n : ℕ) → nat_le n 256 ≡ true → n ≤ 256
-    le_of n e = grind (arith, nat_tests)
-
-    by_test : (b : Bool) → nat_le (open_count s) 256 ≡ b
-        → (if b then Ok s else Err (error.TooDeep line)) ≡ Ok r → open_count r ≤ 256
-    by_test true f e = subst (λ x. open_count x ≤ 256) (same e) (le_of (open_count s) f)
-    by_test false f e = absurd (err_ok e)
+-- the loop's fact: what is left comes to the whole
+abbrev pub IsRead : List Token → ℕ → Phase → List Declaration → ℕ → Type 0
+IsRead xs i p ds line = rest_of_file (drop i xs) (reading p ds) line ≡ file_of xs
 
 -- one more token
-pub one_read : (xs : List Token) (i : ℕ) (t : Token) (r r' : Reading) (line : ℕ) → i < length xs
-    → t ≡ get_or xs i t
-    → judged t.line (read_one r (terminal_of t)) ≡ Ok r' → IsRead xs i r line → IsRead xs (i + 1) r' t.line
-one_read xs i t r r' line lt is e inv = (
-  shallow t.line (read_one r (terminal_of t)) r' e,
-  sym (ap (λ x. and_then x (λ s. rest_of_file (drop (i + 1) xs) s t.line)) e) ∙ sym (ap (λ l. rest_of_file l r line) (left_is xs i t lt is)) ∙ inv.1,
-)
+pub one_read : (xs : List Token) (i : ℕ) (t : Token) (p p' : Phase) (ds es fs : List Declaration) (line : ℕ) → i < length xs
+    → t ≡ get_or xs i t → judged t.line (read_one (reading p []) (terminal_of t)) ≡ Ok (reading p' es) → fs ≡ ds ++ es
+    → IsRead xs i p ds line → IsRead xs (i + 1) p' fs t.line
+one_read xs i t p p' ds es fs line lt is e f inv =
+    ap (λ l. rest_of_file (drop (i + 1) xs) (reading p' l) t.line) f
+    ∙ sym (ap (λ x. and_then x (λ s. rest_of_file (drop (i + 1) xs) s t.line)) (judged_behind ds t.line p p' es (terminal_of t) e))
+    ∙ sym (ap (λ l. rest_of_file l (reading p ds) line) (left_is xs i t lt is)) ∙ inv
 
 -- a token that is refused is the fault of the whole
-pub one_refused : (xs : List Token) (i : ℕ) (t : Token) (r : Reading) (line : ℕ) (e : GrammarError)
+pub one_refused : (xs : List Token) (i : ℕ) (t : Token) (p : Phase) (ds : List Declaration) (line : ℕ) (e : GrammarError)
     → i < length xs → t ≡ get_or xs i t
-    → Fails e (judged t.line (read_one r (terminal_of t))) → IsRead xs i r line → Fails e (file_of xs)
-one_refused xs i t r line error.NoMemory lt is f inv = tt
-one_refused xs i t r line (error.Unexpected at) lt is f inv =
-    sym inv.1 ∙ ap (λ l. rest_of_file l r line) (left_is xs i t lt is) ∙ ap (λ x. and_then x (λ s. rest_of_file (drop (i + 1) xs) s t.line)) f
-one_refused xs i t r line (error.TooDeep at) lt is f inv =
-    sym inv.1 ∙ ap (λ l. rest_of_file l r line) (left_is xs i t lt is) ∙ ap (λ x. and_then x (λ s. rest_of_file (drop (i + 1) xs) s t.line)) f
+    → Fails e (judged t.line (read_one (reading p []) (terminal_of t))) → IsRead xs i p ds line → Fails e (file_of xs)
+one_refused xs i t p ds line error.NoMemory lt is f inv = tt
+one_refused xs i t p ds line (error.Unexpected at) lt is f inv =
+    sym inv ∙ ap (λ l. rest_of_file l (reading p ds) line) (left_is xs i t lt is)
+    ∙ ap (λ x. and_then x (λ s. rest_of_file (drop (i + 1) xs) s t.line)) (refused_behind ds t.line p (error.Unexpected at) (terminal_of t) f)
+one_refused xs i t p ds line (error.TooDeep at) lt is f inv =
+    sym inv ∙ ap (λ l. rest_of_file l (reading p ds) line) (left_is xs i t lt is)
+    ∙ ap (λ x. and_then x (λ s. rest_of_file (drop (i + 1) xs) s t.line)) (refused_behind ds t.line p (error.TooDeep at) (terminal_of t) f)
+
+-- the end behind further declarations
+end_at_behind : (ds : List Declaration) (p : Phase) (line : ℕ) → ended_at line (declarations_at_end (reading p ds))
+    ≡ ended_at line (option_map (λ l. ds ++ l) (declarations_at_end (reading p [])))
+end_at_behind ds p line = ap (λ l. ended_at line (text_ended p l)) (sym (append-nil ds)) ∙ ap (ended_at line) (ended_behind ds [] p)
+
+-- all tokens are read
+pub all_read : (xs : List Token) (i : ℕ) (p : Phase) (ds es fs : List Declaration) (line : ℕ) → length xs ≤ i
+    → ended_at line (declarations_at_end (reading p [])) ≡ Ok es → fs ≡ ds ++ es → IsRead xs i p ds line → file_of xs ≡ Ok fs
+all_read xs i p ds es fs line le e f inv =
+    sym inv ∙ ap (λ l. rest_of_file l (reading p ds) line) (drop_all i xs le) ∙ end_at_behind ds p line
+    ∙ by_end (declarations_at_end (reading p [])) e
+  where
+    same : (l : List Declaration) → ◌≡◌ {A = Result (List Declaration) GrammarError} (Ok l) (Ok es) → l ≡ es
+    same l e = cc
+
+    refused : {X : Type 0} → ◌≡◌ {A = Result (List Declaration) GrammarError} (Err (error.Unexpected line)) (Ok es) → X
+    refused e = absurd cc
+
+    by_end : (o : Option (List Declaration)) → ended_at line o ≡ Ok es → ended_at line (option_map (λ l. ds ++ l) o) ≡ Ok fs
+    by_end None e = refused e
+    by_end (Some l) e = ap (λ x. Ok (ds ++ x)) (same l e) ∙ ap (λ x. Ok x) (sym f)
+
+-- and they are no text
+pub not_ended : (xs : List Token) (i : ℕ) (p : Phase) (ds : List Declaration) (line : ℕ) (e : GrammarError) → length xs ≤ i
+    → Fails e (ended_at line (declarations_at_end (reading p []))) → IsRead xs i p ds line → Fails e (file_of xs)
+not_ended xs i p ds line error.NoMemory le f inv = tt
+not_ended xs i p ds line (error.Unexpected at) le f inv =
+    sym inv ∙ ap (λ l. rest_of_file l (reading p ds) line) (drop_all i xs le) ∙ end_at_behind ds p line
+    ∙ by_end (declarations_at_end (reading p [])) f
+  where
+    by_end : (o : Option (List Declaration)) → ended_at line o ≡ Err (error.Unexpected at)
+        → ended_at line (option_map (λ l. ds ++ l) o) ≡ Err (error.Unexpected at)
+    by_end None e = e
+    by_end (Some l) e = absurd cc
+not_ended xs i p ds line (error.TooDeep at) le f inv = absurd (by_end (declarations_at_end (reading p [])) f)
+  where
+    by_end : (o : Option (List Declaration)) → ended_at line o ≡ Err (error.TooDeep at) → ⊥
+    by_end None e = cc
+    by_end (Some l) e = cc

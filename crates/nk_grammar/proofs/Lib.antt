@@ -4,6 +4,8 @@ pub mod Fronts
 pub mod Trees
 pub mod Stack
 pub mod Files
+pub mod Behind
+pub mod Progress
 pub mod Texts
 pub mod Answering
 pub mod Written
@@ -13,6 +15,8 @@ pub mod FieldsOfTexts
 pub mod Certificates
 pub mod CertifiedTexts
 pub mod CertifiedAnswering
+pub mod Completing
+pub mod Stopping
 pub mod WrittenRows
 pub mod Moves
 pub mod Carried

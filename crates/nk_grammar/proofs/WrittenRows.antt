@@ -1,17 +1,23 @@
 -- What is read from tokens of a text with a certificate: its declarations and positions are those of a text.
-use Rattle.std.proofs.Common.{◌≡◌, ◌≤◌, subst, List, [], ◌∷◌, ◌++◌, sym, ap, arith}
+use Rattle.std.proofs.Common.{◌≡◌, ◌≤◌, subst, List, [], ◌∷◌, ◌++◌, refl, sym, ap, arith}
 use Rattle.std.proofs.lemmas.List.Elements.{All-nil, All-cons, All-tail}
-use Rattle.std.specs.Prelude.{Ok, map, All}
+use Rattle.std.specs.Prelude.{Ok, Err, IfOk, map, All}
+use Rattle.std.specs.declared.result.Result.{Result}
 use Rattle.nk_lex.specs.declared.token.Token.{Token}
 use Rattle.nk_lex.specs.Lex.{largest}
 use Rattle.nk_lex.specs.declared.word.Number.{Number}
 use Rattle.nk_grammar.specs.Terminal.{Terminal, number, opening, colon, outside, certificate_word, row_word, start_word}
 use Rattle.nk_grammar.specs.Grammar.{spell_pol, pol_tree}
 use Rattle.nk_grammar.specs.File.{Declaration, IsWritten, spell_file}
-use Rattle.nk_grammar.specs.Certified.{Row, row, IsWrittenRow, WrittenRow, written_row, spell_numbers, spell_row, spell_rows, number_value, row_of, spell_certificate, certified}
+use Rattle.nk_grammar.specs.Certified.{Row, row, row_value, IsWrittenRow, WrittenRow, written_row, spell_numbers, spell_row, spell_rows, number_value, row_of, spell_certificate, certified}
 use Rattle.nk_grammar.specs.CertifiedMachine.{certified_of}
 use Rattle.nk_grammar.specs.CertifiedAnswer.{IsCertifiedAnswer}
+use Rattle.nk_grammar.specs.CertifiedProgress.{BeginsWithStart}
+use Rattle.nk_grammar.specs.FileMachine.{Returns}
+use Rattle.nk_grammar.specs.declared.decl.CertRow.{CertRow}
+use Rattle.nk_grammar.specs.declared.decl.GrammarError.{GrammarError}
 use Rattle.nk_grammar.proofs.CertifiedAnswering.{answers}
+use Rattle.nk_grammar.proofs.Completing.{last_has}
 use Rattle.nk_grammar.proofs.Written.{IsSmall, are_small, written_all}
 
 -- what stands in front
@@ -70,3 +76,17 @@ rows_written ts ds rs e v =
     subst (All IsWrittenRow) (sym (ap (λ c. c.rows) h.value))
     (All-cons IsWrittenRow (row [] (pol_tree h.pred) h.line) (map row_of h.others) (All-nil (λ n. n ≤ largest))
     (rows_small h.others (all_after IsSmall (spell_pol h.pred) (spell_rows h.others) certificate)))
+
+-- the last row that is read
+pub last_row_written : (ts : List Token) (ds : List Declaration) (rs : List Row) (r : Result CertRow GrammarError) → All (λ t. t.value ≤ largest) ts
+    → Returns (λ x. certified ds (rs ++ row_value x ∷ [])) r (certified_of ts) → IfOk r (λ x. IsWrittenRow (row_value x))
+last_row_written ts ds rs (Ok x) v e = last_has IsWrittenRow rs (row_value x) (rows_written ts ds (rs ++ row_value x ∷ []) e v)
+last_row_written ts ds rs (Err f) v e = tt
+
+-- and the first, which may be that
+pub last_row_begins : (ts : List Token) (ds : List Declaration) (rs : List Row) (r : Result CertRow GrammarError)
+    → Returns (λ x. certified ds (rs ++ row_value x ∷ [])) r (certified_of ts) → IfOk r (λ x. BeginsWithStart (rs ++ row_value x ∷ []))
+last_row_begins ts ds rs (Ok x) e =
+    let answer : IsCertifiedAnswer ts (Ok (certified ds (rs ++ row_value x ∷ []))) = subst (IsCertifiedAnswer ts) e (answers ts) in
+    subst (λ c. BeginsWithStart c.rows) (sym answer.0.value) refl
+last_row_begins ts ds rs (Err f) e = tt

@@ -1,37 +1,37 @@
 -- What the code's reader of texts with a certificate is to the machine.
-use Rattle.std.specs.Prelude.{List, [], map}
+use Rattle.std.specs.Prelude.{ℕ, [], Option}
+use Rattle.nk_grammar.specs.declared.decl.Completed.{Completed}
 use Rattle.nk_grammar.specs.declared.certified.CertifiedStage.{CertifiedStage}
 use Rattle.nk_grammar.specs.declared.certified.CertifiedStage.TheVariants as stage
-use Rattle.nk_grammar.specs.declared.certified.CertifiedReader.{CertifiedReader}
+use Rattle.nk_grammar.specs.declared.certified.SoundReader.{SoundReader}
+use Rattle.nk_grammar.specs.declared.certified_reader.Known.{Known}
+use Rattle.nk_grammar.specs.declared.certified_reader.Known.TheVariants as known
 use Rattle.nk_grammar.specs.Machine.{State}
 use Rattle.nk_grammar.specs.Reader.{reader_state}
-use Rattle.nk_grammar.specs.File.{Declaration}
-use Rattle.nk_grammar.specs.FileMachine.{Reading}
-use Rattle.nk_grammar.specs.FileReader.{declarations_in, reading_of}
-use Rattle.nk_grammar.specs.Certified.{Row, row_value}
-use Rattle.nk_grammar.specs.CertifiedMachine.{CertifiedPhase, declaring, row_wanted, start_wanted, start_read, number_wanted, numbers_read, in_row, Certifying, certifying}
+use Rattle.nk_grammar.specs.FileMachine.{Phase, reading}
+use Rattle.nk_grammar.specs.FileReader.{phase_in}
+use Rattle.nk_grammar.specs.CertifiedMachine.{CertifiedPhase, declaring, row_wanted, start_wanted, start_read, number_wanted, numbers_read, in_row, Certifying}
+use Rattle.nk_grammar.specs.CertifiedProgress.{CertifiedProgress, Going, Stopped, with_done, declarations_by, rows_by}
 
 -- what stands before the next token
-abbrev pub certified_phase_of : CertifiedStage → Reading → State → CertifiedPhase
-certified_phase_of stage.Declaring r s = declaring r
-certified_phase_of stage.RowWanted r s = row_wanted
-certified_phase_of (stage.StartWanted line) r s = start_wanted line
-certified_phase_of (stage.StartRead line) r s = start_read line
-certified_phase_of (stage.NumberWanted line) r s = number_wanted line
-certified_phase_of (stage.NumbersRead line ns) r s = numbers_read line ns.items
-certified_phase_of (stage.InRow line ns) r s = in_row line ns.items s
+abbrev pub certified_phase_of : CertifiedStage → Phase → State → CertifiedPhase
+certified_phase_of stage.Declaring p s = declaring (reading p [])
+certified_phase_of stage.RowWanted p s = row_wanted
+certified_phase_of (stage.StartWanted line) p s = start_wanted line
+certified_phase_of (stage.StartRead line) p s = start_read line
+certified_phase_of (stage.NumberWanted line) p s = number_wanted line
+certified_phase_of (stage.NumbersRead line ns) p s = numbers_read line ns.items
+certified_phase_of (stage.InRow line ns) p s = in_row line ns.items s
 
--- the declarations are told once the certificate has begun
-abbrev pub declared_so_far : CertifiedStage → List Declaration → List Declaration
-declared_so_far stage.Declaring ds = []
-declared_so_far p ds = ds
+-- what a reader is to the machine, which keeps the declarations and rows too
+abbrev pub certified_phase_in : SoundReader → CertifiedPhase
+certified_phase_in c = certified_phase_of c.stage (phase_in c.reader) (reader_state c.policy)
 
--- the rows that are done in a reader
-abbrev pub rows_in : CertifiedReader → List Row
-rows_in c = map row_value c.rows.items
+-- the machine's state behind a token that completes this
+abbrev pub completing : CertifiedPhase → Option Completed → Certifying
+completing p o = with_done p (declarations_by o) (rows_by o)
 
--- what a reader is to the machine
-abbrev pub certifying_of : CertifiedReader → Certifying
-certifying_of c =
-    certifying (certified_phase_of c.stage (reading_of c.reader) (reader_state c.policy))
-    (declared_so_far c.stage (declarations_in c.reader)) (rows_in c)
+-- what is known
+abbrev pub progress_of : Known → ℕ → CertifiedProgress
+progress_of (known.Sound r) line = Going (certified_phase_in r) line
+progress_of (known.Stopped e) line = Stopped e

@@ -1,12 +1,16 @@
 -- What the code's reader of texts is to the machine.
-use Rattle.std.specs.Prelude.{List, map}
+use Rattle.std.specs.Prelude.{◌≡◌, List, [], ◌∷◌, Option, Some, None, Err, ⊤}
+use Rattle.std.specs.declared.result.Result.{Result}
+use Rattle.nk_grammar.specs.declared.decl.Decl.{Decl}
+use Rattle.nk_grammar.specs.declared.decl.GrammarError.{GrammarError}
+use Rattle.nk_grammar.specs.declared.decl.GrammarError.TheVariants as error
 use Rattle.nk_grammar.specs.declared.decl.Stage.{Stage}
 use Rattle.nk_grammar.specs.declared.decl.Stage.TheVariants as stage
 use Rattle.nk_grammar.specs.declared.text.Reader.{Reader}
 use Rattle.nk_grammar.specs.Machine.{State}
 use Rattle.nk_grammar.specs.Reader.{reader_state}
 use Rattle.nk_grammar.specs.File.{Declaration, declaration_of}
-use Rattle.nk_grammar.specs.FileMachine.{Phase, between, field_read, field_named, tag_read, switch_read, switch_numbered, port_wanted, port_read, link_read, let_read, let_named, in_policy, Reading, reading}
+use Rattle.nk_grammar.specs.FileMachine.{Phase, between, field_read, field_named, tag_read, switch_read, switch_numbered, port_wanted, port_read, link_read, let_read, let_named, in_policy}
 
 -- what stands before the next token
 abbrev pub phase_of : Stage → State → Phase
@@ -23,10 +27,16 @@ phase_of (stage.Let line) s = let_read line
 phase_of (stage.LetNamed w line) s = let_named w line
 phase_of (stage.Policy w line) s = in_policy w line s
 
--- the declarations that are done in a reader
-abbrev pub declarations_in : Reader → List Declaration
-declarations_in r = map declaration_of r.decls.items
+-- what a reader is to the machine, which keeps the declarations too
+abbrev pub phase_in : Reader → Phase
+phase_in r = phase_of r.stage (reader_state r.policy)
 
--- what a reader is to the machine
-abbrev pub reading_of : Reader → Reading
-reading_of r = reading (phase_of r.stage (reader_state r.policy)) (declarations_in r)
+-- the declaration that is done, if one is
+abbrev pub declared_by : Option Decl → List Declaration
+declared_by None = []
+declared_by (Some d) = declaration_of d ∷ []
+
+-- where memory ran out, nothing changed
+abbrev pub IsKept : {X V : Type 0} → Result X GrammarError → V → V → Type 0
+IsKept (Err error.NoMemory) old new = new ≡ old
+IsKept r old new = ⊤

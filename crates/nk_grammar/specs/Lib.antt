@@ -1,5 +1,6 @@
 pub mod Terminal
 pub mod Tree
+pub mod CodedTree
 pub mod Grammar
 pub mod Machine
 pub mod Reader
@@ -12,7 +13,8 @@ pub mod Text
 pub mod Fields
 pub mod Certified
 pub mod CertifiedMachine
-pub mod CertifiedReader
 pub mod CertifiedAnswer
+pub mod CertifiedProgress
+pub mod CertifiedReader
 pub mod Moved
 pub mod CertifiedText

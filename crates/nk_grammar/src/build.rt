@@ -1,6 +1,8 @@
 //! Syntax trees from their parts.
 ghost use Rattle.nk_grammar.specs.Machine.{joined};
+ghost use Rattle.nk_grammar.specs.Reader.{with_last};
 ghost use Rattle.nk_grammar.specs.Tree.{
+  not_of,
   seq_from,
   seq_of,
   sum_from,
@@ -10,10 +12,9 @@ ghost use Rattle.nk_grammar.specs.Tree.{
   with_part,
   with_star,
 };
-ghost use Rattle.std.specs.Prelude.{◌≡◌, IfOk, IfErr, OnOk};
+ghost use Rattle.std.specs.Prelude.{◌≡◌, ◌≤◌, ◌<◌, ◌+◌, vec_capacity, vec_len, IfOk, IfErr};
 
 use crate::ast::{Ast, Asts};
-use std::alloc::{AllocError, Global};
 
 /// The only one of some parts, or all of them.
 #[tactic(auto, using(crate::proofs::Trees::one_alone))]
@@ -55,37 +56,70 @@ pub fn sequence(items: Vec<Ast>) -> Ast
     }
 }
 
-/// Puts one more part behind the others. The only error is that memory ran out.
+/// Puts one more part behind the others, where there is room for it.
 #[tactic(auto, using(crate::proofs::Trees::trees_push))]
-pub fn push(items: &mut Vec<Ast>, item: Ast) -> Result<(), AllocError>
-    ensures { OnOk result (trees_of items.new.items ≡ with_part (trees_of items.old.items)
-        (tree_of item)) }
+fn push(items: &mut Vec<Ast>, item: Ast)
+    requires room { vec_len items.old < vec_capacity items.old }
+    ensures { trees_of items.new.items ≡ with_part (trees_of items.old.items) (tree_of item) }
 {
-    items.push(item)?;
-    Ok(())
+    items.push_reserved(item);
 }
 
-/// The policy of some terms and one more, the last, which is given by its factors. The only error
-/// is that memory ran out.
-pub fn join(terms: Vec<Ast>, factors: Vec<Ast>) -> Result<Ast, AllocError>
-    ensures { IfOk result (λ t. tree_of t ≡ joined (trees_of terms.items) (trees_of factors.items)) }
+/// Puts the last part behind the others, where there is one.
+#[tactic(auto, using(crate::proofs::Trees::trees_push))]
+pub fn push_last(items: &mut Vec<Ast>, last: Option<Ast>)
+    requires room { vec_len items.old < vec_capacity items.old }
+    ensures parts { trees_of items.new.items ≡ with_last (trees_of items.old.items) last }
+    ensures len { vec_len items.new ≤ vec_len items.old + 1 }
+    ensures capacity { vec_capacity items.new ≡ vec_capacity items.old }
+{
+    match last {
+        Some(last) => items.push_reserved(last),
+        None => {}
+    }
+}
+
+/// The policy of some terms and one more, the last, which is given by its factors. There is room for it among the terms.
+pub fn join(terms: Vec<Ast>, factors: Vec<Ast>) -> Ast
+    requires room { vec_len terms < vec_capacity terms }
+    ensures { tree_of result ≡ joined (trees_of terms.items) (trees_of factors.items) }
 {
     let mut terms = terms;
-    push(&mut terms, sequence(factors))?;
-    Ok(sum(terms))
+    push(&mut terms, sequence(factors));
+    sum(terms)
 }
 
-/// Puts a star over the last of some factors; nothing where there is none. The only error is that
-/// memory ran out.
+/// Puts a further term, which is given by its factors, behind the others, where there is room for it.
+pub fn push_term(terms: &mut Vec<Ast>, factors: Vec<Ast>)
+    requires room { vec_len terms.old < vec_capacity terms.old }
+    ensures { trees_of terms.new.items ≡ with_part (trees_of terms.old.items) (seq_from (trees_of factors.items)) }
+{
+    push(terms, sequence(factors));
+}
+
+/// A policy in a box that is made.
+fn filled(cell: Box<Ast>, policy: Ast) -> Box<Ast>
+    ensures { result.value ≡ policy }
+{
+    let mut cell = cell;
+    *cell = policy;
+    cell
+}
+
+/// The negation of an atom, in a box that is made.
+pub fn negated(cell: Box<Ast>, atom: Ast, line: u64) -> Ast
+    ensures { tree_of result ≡ not_of (tree_of atom) line }
+{
+    Ast::Not(filled(cell, atom), line)
+}
+
+/// Takes the last of some factors, and gives it with a star over it, in a box that is made; nothing where there is none.
 #[tactic(auto, using(crate::proofs::Trees::trees_push, crate::proofs::Spelled::star_last))]
-pub fn star_on_last(alloc: Global, factors: &mut Vec<Ast>) -> Result<(), AllocError>
-    ensures { OnOk result (trees_of factors.new.items ≡ with_star (trees_of factors.old.items)) }
+pub fn star_last(cell: Box<Ast>, factors: &mut Vec<Ast>) -> Option<Ast>
+    ensures { with_last (trees_of factors.new.items) result ≡ with_star (trees_of factors.old.items) }
 {
     match factors.pop() {
-        Some(factor) => {
-            let starred = Ast::Star(Box::new(alloc, factor)?);
-            push(factors, starred)
-        }
-        None => Ok(()),
+        Some(factor) => Some(Ast::Star(filled(cell, factor))),
+        None => None,
     }
 }

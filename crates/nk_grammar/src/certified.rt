@@ -1,50 +1,30 @@
-//! A text with a certificate, read token by token.
-ghost use Rattle.std.specs.Prelude.{
-  ◌≡◌,
-  ◌++◌,
-  ◌∷◌,
-  ◌≤◌,
-  [],
-  length,
-  map,
-  Ok,
-  IfOk,
-  OnOk,
-  IfErr,
-  All,
-};
-ghost use Rattle.nk_lex.specs.Lex.{largest};
-ghost use Rattle.nk_grammar.specs.Certified.{IsWrittenRow, certified, row, row_value};
+//! A text with a certificate, read token by token up to its first fault.
+ghost use Rattle.std.specs.Prelude.{◌≡◌, ◌∷◌, [], Ok, None, IfErr, Some};
+ghost use Rattle.nk_grammar.specs.Certified.{certified, row_value};
 ghost use Rattle.nk_grammar.specs.CertifiedMachine.{
-  CertifiedPhase,
-  certificate_ends,
   certified_at_end,
   certified_end_at,
-  certified_of,
   certify_one,
   certifying,
-  first_certifying,
+  declaring,
   in_row,
   judged_certified,
   next_certifying,
   number_wanted,
   numbers_read,
-  open_certified,
-  rest_of_certified,
-  row_done,
   row_in,
   row_on,
+  with_row,
 };
-ghost use Rattle.nk_grammar.specs.CertifiedReader.{certifying_of, rows_in};
-ghost use Rattle.nk_grammar.specs.File.{IsWritten, declaration_of};
-ghost use Rattle.nk_grammar.specs.FileMachine.{Returns};
-ghost use Rattle.nk_grammar.specs.FileReader.{declarations_in};
+ghost use Rattle.nk_grammar.specs.CertifiedProgress.{declarations_by, rows_by, with_done};
+ghost use Rattle.nk_grammar.specs.CertifiedReader.{certified_phase_in, completing};
+ghost use Rattle.nk_grammar.specs.FileMachine.{Returns, first_reading};
+ghost use Rattle.nk_grammar.specs.FileReader.{IsKept, declared_by};
 ghost use Rattle.nk_grammar.specs.Machine.{ended, step};
-ghost use Rattle.nk_grammar.specs.Reader.{reader_state, stack_in};
+ghost use Rattle.nk_grammar.specs.Reader.{reader_state};
 ghost use Rattle.nk_grammar.specs.Terminal.{terminal_of};
-ghost use Rattle.nk_grammar.specs.Tree.{tree_of};
 
-use crate::decl::{CertRow, File, GrammarError};
+use crate::decl::{CertRow, Completed, Decl, GrammarError};
 use crate::frame::Took;
 use crate::parts::number_of;
 use crate::reader::PolicyReader;
@@ -70,14 +50,14 @@ pub enum CertifiedStage {
     InRow(u64, Vec<u64>),
 }
 
-/// Reads a text and the certificate behind it, token by token: its declarations, then the rows. After a fault
-/// nothing is said of its state.
+/// Reads a text and the certificate behind it, token by token. It keeps what may come next, and the policy that is being read. A
+/// declaration or row is handed out by the token that completes it. A token for which memory runs out changes nothing; after a fault
+/// nothing is said of the state.
 #[derive(Drop)]
-pub struct CertifiedReader {
+pub struct SoundReader {
     stage: CertifiedStage,
     reader: Reader,
     policy: PolicyReader,
-    rows: Vec<CertRow>,
 }
 
 /// The line of a word `row`, if the token is one.
@@ -90,94 +70,111 @@ fn row_line(token: &Token) -> Option<u64>
     }
 }
 
-impl CertifiedReader {
-    /// A reader before the first token.
-    pub fn new(alloc: Global) -> CertifiedReader
-        ensures { certifying_of result ≡ first_certifying }
+/// A declaration that is done, as what a token completes.
+fn declared(done: Option<Decl>) -> Option<Completed>
+    ensures declarations { declarations_by result ≡ declared_by done }
+    ensures rows { rows_by result ≡ [] }
+{
+    match done {
+        Some(decl) => Some(Completed::Declaration(decl)),
+        None => None,
+    }
+}
+
+impl SoundReader {
+    /// A reader before the first token. It takes no memory.
+    pub fn new(alloc: Global) -> SoundReader
+        ensures { certified_phase_in result ≡ declaring first_reading }
     {
-        CertifiedReader {
+        SoundReader {
             stage: CertifiedStage::Declaring,
             reader: Reader::new(alloc),
             policy: PolicyReader::new(alloc),
-            rows: Vec::new(alloc),
         }
     }
 
-    /// The next token is another part of what is read.
-    fn go(&mut self, stage: CertifiedStage) -> Result<(), GrammarError>
-        ensures ok { result ≡ Ok tt }
+    /// The next token is another part of what is read, and this is done.
+    fn go(
+        &mut self,
+        stage: CertifiedStage,
+        done: Option<Completed>,
+    ) -> Result<Option<Completed>, GrammarError>
+        ensures ok { result ≡ Ok done }
         ensures stage { self.new.stage ≡ stage }
         ensures policy { self.new.policy ≡ self.old.policy }
         ensures reader { self.new.reader ≡ self.old.reader }
-        ensures rows { self.new.rows ≡ self.old.rows }
     {
         self.stage = stage;
-        Ok(())
+        Ok(done)
     }
 
-    /// One more row is done.
-    fn push(&mut self, row: CertRow) -> Result<(), GrammarError>
-        ensures done { OnOk result (rows_in self.new ≡ rows_in self.old ++ row_value row ∷ []) }
-        ensures reader { self.new.reader ≡ self.old.reader }
-        ensures err { IfErr result (λ e. e ≡ GrammarError.NoMemory) }
-    {
-        match self.rows.push(row) {
-            Ok(()) => Ok(()),
-            Err(AllocFailed { .. }) => Err(GrammarError::NoMemory),
-        }
-    }
-
-    /// A row's policy may end before this token.
-    fn end_row(
+    /// A row's policy took a token.
+    fn go_in_row(
         &mut self,
-        alloc: Global,
         line: u64,
         positions: Vec<u64>,
         token: &Token,
-    ) -> Result<(), GrammarError>
-        ensures { Returns (λ _. certifying_of self.new) result
-            (judged_certified token.now.line (row_done (declarations_in self.old.reader)
-            (rows_in self.old) positions.items line (ended (reader_state self.old.policy))
-            (terminal_of token.now))) }
+    ) -> Result<Option<Completed>, GrammarError>
+        ensures read { Returns (completing (certified_phase_in self.new)) result
+            (judged_certified token.now.line (Some (certifying
+            (in_row line positions.items (reader_state self.old.policy)) [] []))) }
+        ensures err { IfErr result (λ e. e ≡ GrammarError.TooDeep token.now.line) }
     {
-        match self.policy.end(alloc) {
-            Ok(Some(pred)) => match row_line(token) {
-                Some(next) => {
-                    self.push(CertRow {
-                        positions: List::from_vec(positions),
-                        pred,
-                        line,
-                    })?;
-                    self.go(CertifiedStage::NumberWanted(next))
-                }
-                None => Err(GrammarError::Unexpected { line: token.line }),
-            },
-            Ok(None) => Err(GrammarError::Unexpected { line: token.line }),
-            Err(AllocError) => Err(GrammarError::NoMemory),
+        if self.policy.is_shallow() {
+            self.go(CertifiedStage::InRow(line, positions), None)
+        } else {
+            Err(GrammarError::TooDeep { line: token.line })
+        }
+    }
+
+    /// A row is done where its policy ends before this token, a word `row`.
+    fn end_row(&mut self, row: CertRow, token: &Token) -> Result<Option<Completed>, GrammarError>
+        ensures read { Returns (completing (certified_phase_in self.new)) result
+            (judged_certified token.now.line (with_row (terminal_of token.now) None
+            (λ l. Some (certifying (number_wanted l) [] (row_value row ∷ []))))) }
+        ensures err { IfErr result (λ e. e ≡ GrammarError.Unexpected token.now.line) }
+    {
+        match row_line(token) {
+            Some(next) => self.go(
+                CertifiedStage::NumberWanted(next),
+                Some(Completed::Row(row)),
+            ),
+            None => Err(GrammarError::Unexpected { line: token.line }),
         }
     }
 
     /// One more token of a row's policy, or the first one behind it.
-    #[tactic(auto, using(crate::proofs::Certificates::row_taken, crate::proofs::Certificates::row_too_deep))]
     fn take_in_row(
         &mut self,
         alloc: Global,
         line: u64,
         positions: Vec<u64>,
         token: &Token,
-    ) -> Result<(), GrammarError>
-        requires shallow { length (stack_in self.old.policy) ≤ 256 }
-        ensures { Returns (λ _. certifying_of self.new) result
-            (judged_certified token.now.line (row_on (declarations_in self.old.reader)
-            (rows_in self.old) positions.items line
+    ) -> Result<Option<Completed>, GrammarError>
+        ensures read { Returns (completing (certified_phase_in self.new)) result
+            (judged_certified token.now.line (row_on [] [] positions.items line
             (step (reader_state self.old.policy) (terminal_of token.now))
             (ended (reader_state self.old.policy)) (terminal_of token.now))) }
+        ensures kept { IsKept result (in_row line positions.items (reader_state self.old.policy)) (certified_phase_in self.new) }
     {
         match self.policy.take(alloc, token) {
-            Ok(Took::Taken) => self.go(CertifiedStage::InRow(line, positions)),
-            Ok(Took::Refused) => self.end_row(alloc, line, positions, token),
-            Ok(Took::TooDeep) => Err(GrammarError::TooDeep { line: token.line }),
-            Err(AllocError) => Err(GrammarError::NoMemory),
+            Ok(Took::Taken) => self.go_in_row(line, positions, token),
+            Ok(Took::Ended(pred)) => {
+                let positions = List::from_vec(positions);
+                self.end_row(
+                    CertRow {
+                        positions,
+                        pred,
+                        line,
+                    },
+                    token,
+                )
+            }
+            Ok(Took::Refused) => Err(GrammarError::Unexpected { line: token.line }),
+            Err(AllocError) => {
+                self.stage = CertifiedStage::InRow(line, positions);
+                Err(GrammarError::NoMemory)
+            }
         }
     }
 
@@ -188,20 +185,24 @@ impl CertifiedReader {
         line: u64,
         positions: Vec<u64>,
         token: &Token,
-    ) -> Result<(), GrammarError>
-        ensures { Returns (λ _. certifying_of self.new) result
+    ) -> Result<Option<Completed>, GrammarError>
+        ensures read { Returns (completing (certified_phase_in self.new)) result
             (judged_certified token.now.line (next_certifying (numbers_read line positions.items)
-            (declarations_in self.old.reader) (rows_in self.old) (terminal_of token.now))) }
+            [] [] (terminal_of token.now))) }
+        ensures kept { IsKept result (numbers_read line positions.items) (certified_phase_in self.new) }
     {
         let mut positions = positions;
         match token.kind {
             Kind::Colon => {
                 self.policy = PolicyReader::new(alloc);
-                self.go(CertifiedStage::InRow(line, positions))
+                self.go(CertifiedStage::InRow(line, positions), None)
             }
             Kind::Number => match positions.push(token.value) {
-                Ok(()) => self.go(CertifiedStage::NumbersRead(line, positions)),
-                Err(AllocFailed { .. }) => Err(GrammarError::NoMemory),
+                Ok(()) => self.go(CertifiedStage::NumbersRead(line, positions), None),
+                Err(AllocFailed { .. }) => {
+                    self.stage = CertifiedStage::NumbersRead(line, positions);
+                    Err(GrammarError::NoMemory)
+                }
             },
             _ => Err(GrammarError::Unexpected { line: token.line }),
         }
@@ -213,17 +214,21 @@ impl CertifiedReader {
         alloc: Global,
         line: u64,
         token: &Token,
-    ) -> Result<(), GrammarError>
-        ensures { Returns (λ _. certifying_of self.new) result
+    ) -> Result<Option<Completed>, GrammarError>
+        ensures read { Returns (completing (certified_phase_in self.new)) result
             (judged_certified token.now.line (next_certifying (number_wanted line)
-            (declarations_in self.old.reader) (rows_in self.old) (terminal_of token.now))) }
+            [] [] (terminal_of token.now))) }
+        ensures kept { IsKept result (number_wanted line) (certified_phase_in self.new) }
     {
         match number_of(token) {
             Some(number) => {
                 let mut positions = Vec::new(alloc);
                 match positions.push(number.value) {
-                    Ok(()) => self.go(CertifiedStage::NumbersRead(line, positions)),
-                    Err(AllocFailed { .. }) => Err(GrammarError::NoMemory),
+                    Ok(()) => self.go(CertifiedStage::NumbersRead(line, positions), None),
+                    Err(AllocFailed { .. }) => {
+                        self.stage = CertifiedStage::NumberWanted(line);
+                        Err(GrammarError::NoMemory)
+                    }
                 }
             }
             None => Err(GrammarError::Unexpected { line: token.line }),
@@ -232,43 +237,51 @@ impl CertifiedReader {
 
     /// A token before the certificate, or the word itself.
     #[tactic(auto, using(crate::proofs::Certificates::declaring_judged))]
-    fn take_declaring(&mut self, alloc: Global, token: &Token) -> Result<(), GrammarError>
+    fn take_declaring(
+        &mut self,
+        alloc: Global,
+        token: &Token,
+    ) -> Result<Option<Completed>, GrammarError>
         requires stage { self.old.stage ≡ CertifiedStage.Declaring }
-        requires shallow { open_certified (certifying_of self.old) ≤ 256 }
-        ensures { Returns (λ _. certifying_of self.new) result
-            (judged_certified token.now.line (certify_one (certifying_of self.old)
+        ensures read { Returns (completing (certified_phase_in self.new)) result
+            (judged_certified token.now.line (certify_one (with_done (certified_phase_in self.old) [] [])
             (terminal_of token.now))) }
+        ensures kept { IsKept result (certified_phase_in self.old) (certified_phase_in self.new) }
     {
         match token.kind {
-            Kind::Certificate => {
-                self.reader.end(alloc, token.line)?;
-                self.go(CertifiedStage::RowWanted)
-            }
-            _ => self.reader.take(alloc, token),
+            Kind::Certificate => match self.reader.end(alloc, token.line) {
+                Ok(done) => self.go(CertifiedStage::RowWanted, declared(done)),
+                Err(error) => Err(error),
+            },
+            _ => match self.reader.take(alloc, token) {
+                Ok(done) => Ok(declared(done)),
+                Err(error) => Err(error),
+            },
         }
     }
 
-    /// Reads one more token. An error is the first fault of the tokens so far, or that memory ran out.
-    pub fn take(&mut self, alloc: Global, token: &Token) -> Result<(), GrammarError>
-        requires shallow { open_certified (certifying_of self.old) ≤ 256 }
-        ensures { Returns (λ _. certifying_of self.new) result
-            (judged_certified token.now.line (certify_one (certifying_of self.old)
+    /// Reads one more token, and hands out the declaration or row that it completes. An error is the first fault of the tokens so far,
+    /// or that memory ran out.
+    pub fn take(&mut self, alloc: Global, token: &Token) -> Result<Option<Completed>, GrammarError>
+        ensures read { Returns (completing (certified_phase_in self.new)) result
+            (judged_certified token.now.line (certify_one (with_done (certified_phase_in self.old) [] [])
             (terminal_of token.now))) }
+        ensures kept { IsKept result (certified_phase_in self.old) (certified_phase_in self.new) }
     {
         match replace(&mut self.stage, CertifiedStage::Declaring) {
             CertifiedStage::Declaring => self.take_declaring(alloc, token),
             CertifiedStage::RowWanted => match row_line(token) {
-                Some(line) => self.go(CertifiedStage::StartWanted(line)),
+                Some(line) => self.go(CertifiedStage::StartWanted(line), None),
                 None => Err(GrammarError::Unexpected { line: token.line }),
             },
             CertifiedStage::StartWanted(line) => match token.kind {
-                Kind::Start => self.go(CertifiedStage::StartRead(line)),
+                Kind::Start => self.go(CertifiedStage::StartRead(line), None),
                 _ => Err(GrammarError::Unexpected { line: token.line }),
             },
             CertifiedStage::StartRead(line) => match token.kind {
                 Kind::Colon => {
                     self.policy = PolicyReader::new(alloc);
-                    self.go(CertifiedStage::InRow(line, Vec::new(alloc)))
+                    self.go(CertifiedStage::InRow(line, Vec::new(alloc)), None)
                 }
                 _ => Err(GrammarError::Unexpected { line: token.line }),
             },
@@ -282,15 +295,15 @@ impl CertifiedReader {
         }
     }
 
-    /// Ends the text; `line` is that of the last token. `Unexpected` comes where the tokens so far are no
+    /// Ends the text, and hands out the last row; `line` is that of the last token. `Unexpected` comes where the tokens so far are no
     /// text with a certificate.
-    pub fn end(&mut self, alloc: Global, line: u64) -> Result<(), GrammarError>
-        ensures { Returns (λ _. certified (declarations_in self.new.reader) (rows_in self.new)) result
-            (certified_end_at line (certified_at_end (certifying_of self.old))) }
+    pub fn end(&mut self, alloc: Global, line: u64) -> Result<CertRow, GrammarError>
+        ensures { Returns (λ row. certified [] (row_value row ∷ [])) result
+            (certified_end_at line (certified_at_end (with_done (certified_phase_in self.old) [] []))) }
     {
         match replace(&mut self.stage, CertifiedStage::Declaring) {
             CertifiedStage::InRow(of_row, positions) => match self.policy.end(alloc) {
-                Ok(Some(pred)) => self.push(CertRow {
+                Ok(Some(pred)) => Ok(CertRow {
                     positions: List::from_vec(positions),
                     pred,
                     line: of_row,
@@ -300,47 +313,5 @@ impl CertifiedReader {
             },
             _ => Err(GrammarError::Unexpected { line }),
         }
-    }
-}
-
-/// The declarations of a text's tokens and the rows of its certificate, or the first fault.
-fn read_certified(alloc: Global, tokens: &[Token]) -> Result<File, GrammarError>
-    ensures { Returns (λ f. certified (map declaration_of f.decls) (map row_value f.rows)) result
-        (certified_of tokens.now) }
-{
-    let mut reader = CertifiedReader::new(alloc);
-    let mut line = 1;
-    for token in tokens {
-        reader.take(alloc, token)?;
-        line = token.line;
-    }
-    reader.end(alloc, line)?;
-    let rows = reader.rows;
-    let decls = reader.reader.into_decls();
-    Ok(File {
-        decls: List::from_vec(decls),
-        rows: List::from_vec(rows),
-    })
-}
-
-/// The declarations of a text's tokens and the rows of the certificate behind them, the start row first.
-///
-/// The first fault is answered. `Unexpected` comes at the first token with which no text with a certificate
-/// can continue, or, where the tokens end too early, with the line of the last token, 1 without tokens.
-/// `TooDeep` comes at the first token that opens a 257th parenthesis or `~`, where a text could continue with
-/// it.
-#[tactic(auto, using(crate::proofs::WrittenRows::declarations_written, crate::proofs::WrittenRows::rows_written))]
-pub fn file_with_certificate(alloc: Global, tokens: &[Token]) -> Result<File, GrammarError>
-    ensures read { Returns (λ f. certified (map declaration_of f.decls) (map row_value f.rows)) result
-        (certified_of tokens.now) }
-    // From the tokens of a text come numbers of a text.
-    ensures written { All (λ t. t.value ≤ largest) tokens.now
-        → IfOk result (λ f. All IsWritten (map declaration_of f.decls)) }
-    ensures positions { All (λ t. t.value ≤ largest) tokens.now
-        → IfOk result (λ f. All IsWrittenRow (map row_value f.rows)) }
-{
-    match read_certified(alloc, tokens) {
-        Ok(file) => Ok(file),
-        Err(error) => Err(error),
     }
 }

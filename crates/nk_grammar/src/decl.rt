@@ -44,6 +44,15 @@ pub struct File {
     pub rows: List<CertRow>,
 }
 
+/// What one more token completes.
+#[derive(Drop)]
+pub enum Completed {
+    /// A declaration.
+    Declaration(Decl),
+    /// A row of the certificate.
+    Row(CertRow),
+}
+
 /// What has been read before the next token of a text.
 #[derive(Drop)]
 pub enum Stage {

@@ -1,62 +1,54 @@
 //! What is open in a policy.
-ghost use Rattle.std.specs.Prelude.{◌≡◌};
-ghost use Rattle.nk_grammar.specs.Reader.{
-  IsTopNegation,
-  PopsNegation,
-  line_of_open,
-  open_of,
-  stack_of,
-};
+ghost use Rattle.std.specs.Prelude.{◌≡◌, false};
+ghost use Rattle.nk_grammar.specs.Machine.{atom_ended, state};
+ghost use Rattle.nk_grammar.specs.declared.place.Place.{Place};
+ghost use Rattle.nk_grammar.specs.Reader.{PopsNegation, stack_of};
+ghost use Rattle.nk_grammar.specs.Tree.{Trees, tree_of, with_part};
 
 use crate::ast::Ast;
+use crate::build::negated;
 
-/// An open parenthesis with the terms and factors before it, or an open `~` with its line.
+/// An open parenthesis with the terms and factors before it, or an open `~` with its line and the box that is made for what it is
+/// over.
 #[derive(Drop)]
 pub enum Frame {
     Group(Vec<Ast>, Vec<Ast>),
-    Negation(u64),
+    Negation(Box<Ast>, u64),
 }
 
 /// What became of a token.
-#[derive(Clone, Copy, Debug, PartialEq, Eq)]
+#[derive(Drop)]
 pub enum Took {
     Taken,
-    /// No policy can continue with it.
+    /// No policy can continue with it, and the policy ends before it.
+    Ended(Ast),
+    /// No policy can continue with it, nor end before it.
     Refused,
-    /// It would open a 257th parenthesis or `~`.
-    TooDeep,
 }
 
-/// The line of a `~` that is open.
-fn line_of(frame: &Frame) -> Option<u64>
-    ensures { result ≡ line_of_open (open_of frame.now) }
-{
-    match frame {
-        Frame::Group(..) => None,
-        Frame::Negation(line) => Some(*line),
-    }
-}
-
-/// The line of the innermost `~`, if one is the innermost that is open.
-fn top_negation(frames: &[Frame]) -> Option<u64>
-    ensures { IsTopNegation result (stack_of frames.now) }
-{
-    match frames.last() {
-        Some(frame) => line_of(frame),
-        None => None,
-    }
-}
-
-/// Closes the innermost of what is open where that is a `~`, and gives its line; else nothing
-/// changes.
-pub fn pop_negation(frames: &mut Vec<Frame>) -> Option<u64>
+/// Closes the innermost of what is open where that is a `~`, and gives its box and line; else nothing changes.
+#[tactic(auto, using(crate::proofs::Stack::stack_push, crate::proofs::Stack::group_is_top, crate::proofs::Stack::nothing_is_top))]
+fn pop_negation(frames: &mut Vec<Frame>) -> Option<(Box<Ast>, u64)>
     ensures { PopsNegation result (stack_of frames.old.items) (stack_of frames.new.items) }
 {
-    match top_negation(frames.as_slice()) {
-        Some(line) => {
-            frames.pop();
-            Some(line)
+    match frames.pop() {
+        Some(Frame::Negation(cell, line)) => Some((cell, line)),
+        Some(Frame::Group(terms, factors)) => {
+            frames.push_reserved(Frame::Group(terms, factors));
+            None
         }
         None => None,
     }
+}
+
+/// An atom ended, and with it each `~` before it: gives the factor that they are.
+pub fn close_negations(frames: &mut Vec<Frame>, atom: Ast) -> Ast
+    ensures { (ts us : Trees) → atom_ended (tree_of atom) (stack_of frames.old.items) ts us
+        ≡ state (Place.After false) (stack_of frames.new.items) ts (with_part us (tree_of result)) }
+{
+    let mut atom = atom;
+    'negations: while let Some((cell, line)) = pop_negation(frames) {
+        atom = negated(cell, atom, line);
+    }
+    atom
 }

@@ -8,6 +8,11 @@ ghost use Rattle.nk_grammar.specs.Machine.{
 ghost use Rattle.nk_grammar.specs.FileMachine.{ReadsTexts};
 ghost use Rattle.nk_grammar.specs.Answer.{AnswersTexts, IsUnique};
 ghost use Rattle.nk_grammar.specs.CertifiedAnswer.{AnswersCertifiedTexts, IsUniqueCertified};
+ghost use Rattle.nk_grammar.specs.CertifiedProgress.{
+  CompletesWritten,
+  ReadsCertifiedAsWhole,
+  StopsWithCertifiedTexts,
+};
 ghost use Rattle.nk_grammar.specs.CertifiedText.{ReadsCertificateTexts};
 ghost use Rattle.nk_grammar.specs.Fields.{DeclaresFields};
 ghost use Rattle.nk_grammar.specs.Moved.{
@@ -61,6 +66,22 @@ pub fn a_text_has_one_tree()
 /// Reading the tokens of a text with a certificate answers its declarations and rows, or its first fault.
 pub fn certified_texts_are_answered()
     ensures { AnswersCertifiedTexts }
+{}
+
+/// Read token by token, a text with a certificate is what it is as a whole, or has the same first fault.
+pub fn a_certified_text_is_read_token_by_token()
+    ensures { ReadsCertifiedAsWhole }
+{}
+
+/// A reader of texts with a certificate has stopped exactly where no text goes on with the tokens, or more than 256 parentheses and
+/// `~` are open behind a front of them.
+pub fn a_certified_reader_stops_at_the_first_fault()
+    ensures { StopsWithCertifiedTexts }
+{}
+
+/// The first row that tokens complete is the start row, and what the tokens of a text complete has numbers of a text.
+pub fn what_is_completed_is_written()
+    ensures { CompletesWritten }
 {}
 
 /// No two texts with a certificate have the same tokens.

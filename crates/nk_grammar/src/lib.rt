@@ -17,7 +17,8 @@
 //!         | NAME := NUMBER | NUMBER : NUMBER => NUMBER : NUMBER | ( pol )
 //! ```
 //!
-//! `file` reads texts without a certificate, `file_with_certificate` those with one.
+//! `file` reads texts without a certificate, `file_with_certificate` those with one; `CertifiedReader` reads these token by token, and
+//! keeps nothing that is done.
 //!
 //! Several terms are one sum, and several factors one sequence; a single one is only itself. Several
 //! `*` behind one atom are one star. Parentheses have no node of their own in the tree. A `(` is open
@@ -27,6 +28,7 @@
 mod ast;
 mod build;
 mod certified;
+mod certified_reader;
 mod decl;
 mod frame;
 mod laws;
@@ -36,14 +38,15 @@ mod reader;
 mod text;
 
 pub use ast::{Ast, Asts};
-pub use certified::file_with_certificate;
-pub use decl::{CertRow, Decl, File, GrammarError};
+pub use certified_reader::{CertifiedReader, file_with_certificate};
+pub use decl::{CertRow, Completed, Decl, File, GrammarError};
 pub use laws::{
-    a_certified_text_has_one_tree, a_program_and_a_certificate_are_read_together,
+    a_certified_reader_stops_at_the_first_fault, a_certified_text_has_one_tree,
+    a_certified_text_is_read_token_by_token, a_program_and_a_certificate_are_read_together,
     a_program_stays_in_front_of_its_certificate, a_text_has_one_tree, certificate_texts_are_read,
     certificates_are_moved, certificates_are_read, certified_texts_are_answered,
     fields_of_texts_have_names, let_texts_are_read, lets_are_read, policies_are_read,
-    texts_are_answered, texts_are_read, what_is_read_is_a_policy, what_is_refused_goes_nowhere,
-    what_is_taken_goes_on,
+    texts_are_answered, texts_are_read, what_is_completed_is_written, what_is_read_is_a_policy,
+    what_is_refused_goes_nowhere, what_is_taken_goes_on,
 };
 pub use text::file;

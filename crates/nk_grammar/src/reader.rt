@@ -2,14 +2,22 @@
 ghost use Rattle.std.specs.Prelude.{
   ◌≡◌,
   ◌∷◌,
+  ◌<◌,
   ◌≤◌,
-  length,
-  Some,
+  ◌+◌,
   None,
+  Some,
   IfOk,
+  OnErr,
   OnOk,
-  option_map,
+  Bool,
   false,
+  true,
+  length,
+  nat_le,
+  option_map,
+  vec_capacity,
+  vec_len,
 };
 ghost use Rattle.nk_grammar.specs.Machine.{
   atom_ended,
@@ -19,52 +27,53 @@ ghost use Rattle.nk_grammar.specs.Machine.{
   ended,
   go_on,
   joined,
-  number_in,
-  quad_step,
   start,
   state,
   step,
   step_at,
+  step_done,
 };
 ghost use Rattle.nk_grammar.specs.Reader.{
-  EndsAs,
   Follows,
-  PopsNegation,
-  StaysShallow,
+  FollowsOk,
+  HasRoom,
   factors_in,
   open_of,
   reader_state,
   stack_in,
-  stack_of,
   terms_in,
 };
-ghost use Rattle.nk_grammar.specs.Terminal.{terminal_of};
-ghost use Rattle.nk_grammar.specs.Tree.{tree_of, trees_of};
+ghost use Rattle.nk_grammar.specs.Terminal.{star_sign, terminal_of};
+ghost use Rattle.nk_grammar.specs.Tree.{name_of, no_part, seq_from, tree_of, with_part, with_star};
 
 use crate::ast::Ast;
-use crate::build::{join, push, sequence, star_on_last, sum};
-use crate::frame::{Frame, Took, pop_negation};
+use crate::build::{join, push_last, push_term, sequence, star_last, sum};
+use crate::frame::{Frame, Took, close_negations};
 use crate::parts::{is_dots_token, number_of, quad_after};
 use crate::place::{Place, Quad, QuadNext};
 use nk_lex::{Kind, Number, Token, Word, word_of};
-use std::alloc::{AllocError, Global};
+use std::alloc::{AllocError, AllocFailed, Global};
 use std::mem::replace;
 
 /// How many parentheses and `~` may be open.
 const DEEPEST: usize = 256;
 
-/// Reads a policy token by token. It keeps what may come next, what is open, the innermost last,
-/// and the terms and factors that are complete.
+/// Reads a policy token by token. It keeps what may come next, what is open, the innermost last, and the terms and factors that are
+/// complete.
+///
+/// A token for which memory runs out changes nothing. So what may fail comes first and changes no value: room is made, and the last
+/// factor, which stands apart since it took no room, is put behind the others.
 #[derive(Drop)]
 pub struct PolicyReader {
     place: Place,
     frames: Vec<Frame>,
     terms: Vec<Ast>,
     factors: Vec<Ast>,
+    last: Option<Ast>,
 }
 
 impl PolicyReader {
-    /// A reader before the first token.
+    /// A reader before the first token. It takes no memory.
     pub fn new(alloc: Global) -> PolicyReader
         ensures { reader_state result ≡ start }
     {
@@ -73,68 +82,104 @@ impl PolicyReader {
             frames: Vec::new(alloc),
             terms: Vec::new(alloc),
             factors: Vec::new(alloc),
+            last: None,
         }
     }
 
-    /// An atom ended, and with it each `~` before it.
-    fn end_atom(&mut self, alloc: Global, atom: Ast) -> Result<(), AllocError>
-        ensures state { OnOk result (reader_state self.new ≡ atom_ended (tree_of atom)
-            (stack_in self.old) (terms_in self.old) (factors_in self.old)) }
-        ensures place { OnOk result (self.new.place ≡ Place.After false) }
-        ensures shallow { length (stack_in self.new) ≤ length (stack_in self.old) }
+    /// Whether no more than 256 parentheses and `~` are open.
+    #[tactic(auto, using(crate::proofs::Stack::stack_length))]
+    pub fn is_shallow(&self) -> bool
+        ensures { result ≡ nat_le (length (stack_in self.now)) 256 }
     {
-        let mut atom = atom;
-        'negations: while let Some(line) = pop_negation(&mut self.frames) {
-            atom = Ast::Not(Box::new(alloc, atom)?, line);
-        }
-        push(&mut self.factors, atom)?;
-        self.place = Place::After(false);
+        self.frames.len() <= DEEPEST
+    }
+
+    /// The last factor stands behind the others.
+    fn put_last(&mut self)
+        requires room { vec_len self.old.factors < vec_capacity self.old.factors }
+        ensures same { reader_state self.new ≡ reader_state self.old }
+        ensures last { self.new.last ≡ None }
+        ensures terms { self.new.terms ≡ self.old.terms }
+        ensures frames { self.new.frames ≡ self.old.frames }
+        ensures place { self.new.place ≡ self.old.place }
+        ensures len { vec_len self.new.factors ≤ vec_len self.old.factors + 1 }
+        ensures capacity { vec_capacity self.new.factors ≡ vec_capacity self.old.factors }
+    {
+        let last = replace(&mut self.last, None);
+        push_last(&mut self.factors, last);
+    }
+
+    /// Makes room for one more factor and one more term, with no factor apart. No value changes.
+    fn make_ready(&mut self) -> Result<(), AllocError>
+        ensures same { reader_state self.new ≡ reader_state self.old }
+        ensures last { OnOk result (self.new.last ≡ None) }
+        ensures room { OnOk result (HasRoom self.new) }
+    {
+        self.terms.reserve(1)?;
+        self.factors.reserve(2)?;
+        self.put_last();
         Ok(())
     }
 
-    /// An atom ended that was the last token.
-    fn take_atom(&mut self, alloc: Global, atom: Ast) -> Result<Took, AllocError>
-        ensures state { Follows result (Some (atom_ended (tree_of atom) (stack_in self.old)
-            (terms_in self.old) (factors_in self.old))) (reader_state self.new) }
-        ensures shallow { StaysShallow result (stack_in self.old) (stack_in self.new) }
+    /// An atom ended, and with it each `~` before it.
+    fn end_atom(&mut self, atom: Ast)
+        requires last { self.old.last ≡ None }
+        ensures state { reader_state self.new ≡ atom_ended (tree_of atom) (stack_in self.old)
+            (terms_in self.old) (factors_in self.old) }
+        ensures place { self.new.place ≡ Place.After false }
+        ensures terms { self.new.terms ≡ self.old.terms }
+        ensures factors { self.new.factors ≡ self.old.factors }
     {
-        self.end_atom(alloc, atom)?;
-        Ok(Took::Taken)
+        let factor = close_negations(&mut self.frames, atom);
+        self.last = Some(factor);
+        self.place = Place::After(false);
     }
 
-    /// A `~` or a parenthesis opens.
-    #[tactic(auto, using(crate::proofs::Stack::stack_push, crate::proofs::Stack::stack_length))]
-    fn open(&mut self, frame: Frame) -> Result<Took, AllocError>
-        ensures state { Follows result (Some (state Place.Want (open_of frame ∷ stack_in self.old)
-            (terms_in self.old) (factors_in self.old))) (reader_state self.new) }
-        ensures shallow { StaysShallow result (stack_in self.old) (stack_in self.new) }
+    /// An atom ended that was the last token.
+    fn take_atom(&mut self, atom: Ast) -> Took
+        requires last { self.old.last ≡ None }
+        ensures { (reader_state self.new ≡ atom_ended (tree_of atom) (stack_in self.old)
+            (terms_in self.old) (factors_in self.old)) × (result ≡ Took.Taken) }
     {
-        if self.frames.len() >= DEEPEST {
-            return Ok(Took::TooDeep);
-        }
-        self.frames.push(frame)?;
+        self.end_atom(atom);
+        Took::Taken
+    }
+
+    /// A `~` or a parenthesis opens. There is room for it.
+    #[tactic(auto, using(crate::proofs::Stack::stack_push))]
+    fn open(&mut self, frame: Frame) -> Took
+        requires room { vec_len self.old.frames < vec_capacity self.old.frames }
+        ensures { Follows result (Some (state Place.Want (open_of frame ∷ stack_in self.old)
+            (terms_in self.old) (factors_in self.old))) None (reader_state self.new) }
+    {
+        self.frames.push_reserved(frame);
         self.place = Place::Want;
-        Ok(Took::Taken)
+        Took::Taken
     }
 
     /// An atom is wanted.
     fn begin(&mut self, alloc: Global, token: &Token) -> Result<Took, AllocError>
         requires place { self.old.place ≡ Place.Want }
-        ensures state { Follows result (begin (stack_in self.old) (terms_in self.old)
-            (factors_in self.old) (terminal_of token.now)) (reader_state self.new) }
-        ensures shallow { StaysShallow result (stack_in self.old) (stack_in self.new) }
-        ensures end { EndsAs result None (reader_state self.new) }
+        requires last { self.old.last ≡ None }
+        ensures state { FollowsOk result (begin (stack_in self.old) (terms_in self.old)
+            (factors_in self.old) (terminal_of token.now)) None (reader_state self.new) }
+        ensures kept { OnErr result (reader_state self.new ≡ reader_state self.old) }
     {
         match token.kind {
-            Kind::Tilde => self.open(Frame::Negation(token.line)),
+            Kind::Tilde => {
+                self.frames.reserve(1)?;
+                let cell = Box::new(alloc, Ast::Dup)?;
+                Ok(self.open(Frame::Negation(cell, token.line)))
+            }
             Kind::OpenParen => {
+                self.frames.reserve(1)?;
                 let terms = replace(&mut self.terms, Vec::new(alloc));
                 let factors = replace(&mut self.factors, Vec::new(alloc));
-                self.open(Frame::Group(terms, factors))
+                Ok(self.open(Frame::Group(terms, factors)))
             }
-            Kind::Id => self.take_atom(alloc, sequence(Vec::new(alloc))),
-            Kind::Drop => self.take_atom(alloc, sum(Vec::new(alloc))),
-            Kind::Dup => self.take_atom(alloc, Ast::Dup),
+            Kind::Id => Ok(self.take_atom(sequence(Vec::new(alloc)))),
+            Kind::Drop => Ok(self.take_atom(sum(Vec::new(alloc)))),
+            Kind::Dup => Ok(self.take_atom(Ast::Dup)),
             Kind::Name => {
                 self.place = Place::Named(word_of(alloc, token)?);
                 Ok(Took::Taken)
@@ -151,76 +196,154 @@ impl PolicyReader {
         }
     }
 
-    /// A parenthesis closes.
-    #[tactic(auto, using(crate::proofs::Stack::stack_push))]
-    fn close(&mut self, alloc: Global, starred: bool) -> Result<Took, AllocError>
-        ensures state { Follows result (close (stack_in self.old)
-            (joined (terms_in self.old) (factors_in self.old))) (reader_state self.new) }
-        ensures shallow { StaysShallow result (stack_in self.old) (stack_in self.new) }
-        ensures end { EndsAs result (done_at (Place.After starred) (stack_in self.old)
-            (joined (terms_in self.old) (factors_in self.old))) (reader_state self.new) }
+    /// The policy of the terms and factors, in front of which these are read on.
+    fn take_policy(&mut self, terms: Vec<Ast>, factors: Vec<Ast>) -> Ast
+        requires room { HasRoom self.old }
+        ensures tree { tree_of result ≡ joined (terms_in self.old) (factors_in self.old) }
+        ensures terms { self.new.terms ≡ terms }
+        ensures factors { self.new.factors ≡ factors }
+        ensures last { self.new.last ≡ None }
+        ensures frames { self.new.frames ≡ self.old.frames }
     {
-        match self.frames.pop() {
-            Some(Frame::Group(terms, factors)) => {
-                let inner_terms = replace(&mut self.terms, terms);
-                let inner_factors = replace(&mut self.factors, factors);
-                let inner = join(inner_terms, inner_factors)?;
-                self.take_atom(alloc, inner)
-            }
-            Some(Frame::Negation(_)) => {
-                self.place = Place::Want;
-                Ok(Took::Refused)
-            }
-            None => {
-                self.place = Place::After(starred);
-                Ok(Took::Refused)
-            }
+        self.put_last();
+        let inner_terms = replace(&mut self.terms, terms);
+        let inner_factors = replace(&mut self.factors, factors);
+        join(inner_terms, inner_factors)
+    }
+
+    /// The policy, where nothing is open behind a factor.
+    #[tactic(auto, using(crate::proofs::Stack::nothing_open, crate::proofs::Stack::something_open))]
+    fn policy(&mut self, alloc: Global) -> Option<Ast>
+        requires room { HasRoom self.old }
+        ensures { (b : Bool) → option_map tree_of result ≡ done_at (Place.After b) (stack_in self.old)
+            (joined (terms_in self.old) (factors_in self.old)) }
+    {
+        if self.frames.is_empty() {
+            Some(self.take_policy(Vec::new(alloc), Vec::new(alloc)))
+        } else {
+            None
         }
     }
 
-    /// A factor stands there.
-    fn go_on(&mut self, alloc: Global, starred: bool, token: &Token) -> Result<Took, AllocError>
-        ensures state { Follows result (go_on starred (stack_in self.old) (terms_in self.old)
-            (factors_in self.old) (terminal_of token.now)) (reader_state self.new) }
-        ensures shallow { StaysShallow result (stack_in self.old) (stack_in self.new) }
-        ensures end { EndsAs result (done_at (Place.After starred) (stack_in self.old)
+    /// No policy goes on behind a factor with a token.
+    fn refuse(&mut self, alloc: Global) -> Took
+        requires room { HasRoom self.old }
+        ensures { (b : Bool) → Follows result None (done_at (Place.After b) (stack_in self.old)
             (joined (terms_in self.old) (factors_in self.old))) (reader_state self.new) }
     {
+        match self.policy(alloc) {
+            Some(policy) => Took::Ended(policy),
+            None => Took::Refused,
+        }
+    }
+
+    /// A parenthesis closes.
+    #[tactic(auto, using(crate::proofs::Stack::stack_push))]
+    fn close(&mut self, alloc: Global) -> Took
+        requires room { HasRoom self.old }
+        ensures { (b : Bool) → Follows result (close (stack_in self.old) (joined (terms_in self.old) (factors_in self.old)))
+            (done_at (Place.After b) (stack_in self.old) (joined (terms_in self.old) (factors_in self.old)))
+            (reader_state self.new) }
+    {
+        match self.frames.pop() {
+            Some(Frame::Group(terms, factors)) => {
+                let inner = self.take_policy(terms, factors);
+                self.take_atom(inner)
+            }
+            Some(Frame::Negation(_, _)) => Took::Refused,
+            None => Took::Ended(self.take_policy(Vec::new(alloc), Vec::new(alloc))),
+        }
+    }
+
+    /// A further term begins.
+    fn plus(&mut self, alloc: Global) -> Took
+        requires room { HasRoom self.old }
+        ensures { Follows result (Some (state Place.Want (stack_in self.old) (with_part (terms_in self.old)
+            (seq_from (factors_in self.old))) no_part)) None (reader_state self.new) }
+    {
+        self.put_last();
+        let factors = replace(&mut self.factors, Vec::new(alloc));
+        push_term(&mut self.terms, factors);
+        self.place = Place::Want;
+        Took::Taken
+    }
+
+    /// A further factor begins.
+    fn semicolon(&mut self) -> Took
+        ensures { Follows result (Some (state Place.Want (stack_in self.old) (terms_in self.old)
+            (factors_in self.old))) None (reader_state self.new) }
+    {
+        self.place = Place::Want;
+        Took::Taken
+    }
+
+    /// A star over the last factor, in a box that is made.
+    fn star(&mut self, cell: Box<Ast>) -> Took
+        requires room { HasRoom self.old }
+        ensures { Follows result (Some (state (Place.After true) (stack_in self.old) (terms_in self.old)
+            (with_star (factors_in self.old)))) None (reader_state self.new) }
+    {
+        self.put_last();
+        self.last = star_last(cell, &mut self.factors);
+        self.place = Place::After(true);
+        Took::Taken
+    }
+
+    /// A factor stands there, with a star or without.
+    fn go_on(&mut self, alloc: Global, starred: bool, token: &Token) -> Result<Took, AllocError>
+        requires place { self.old.place ≡ Place.After starred }
+        requires room { HasRoom self.old }
+        ensures state { FollowsOk result (go_on starred (stack_in self.old) (terms_in self.old)
+            (factors_in self.old) (terminal_of token.now)) (done_at (Place.After starred) (stack_in self.old)
+            (joined (terms_in self.old) (factors_in self.old))) (reader_state self.new) }
+        ensures kept { OnErr result (reader_state self.new ≡ reader_state self.old) }
+    {
         match token.kind {
-            Kind::Plus => {
-                let factors = replace(&mut self.factors, Vec::new(alloc));
-                push(&mut self.terms, sequence(factors))?;
-                self.place = Place::Want;
-                Ok(Took::Taken)
-            }
-            Kind::Semicolon => {
-                self.place = Place::Want;
-                Ok(Took::Taken)
-            }
+            Kind::Plus => Ok(self.plus(alloc)),
+            Kind::Semicolon => Ok(self.semicolon()),
             Kind::Star => {
-                if !starred {
-                    star_on_last(alloc, &mut self.factors)?;
+                if starred {
+                    return Ok(Took::Taken);
                 }
-                self.place = Place::After(true);
-                Ok(Took::Taken)
+                let cell = Box::new(alloc, Ast::Dup)?;
+                Ok(self.star(cell))
             }
-            Kind::CloseParen => self.close(alloc, starred),
-            _ => {
-                self.place = Place::After(starred);
-                Ok(Took::Refused)
+            Kind::CloseParen => Ok(self.close(alloc)),
+            _ => Ok(self.refuse(alloc)),
+        }
+    }
+
+    /// A name stands there, and the token is a star.
+    fn star_on_name(&mut self, alloc: Global, word: Word) -> Result<Took, AllocError>
+        requires last { self.old.last ≡ None }
+        requires room { HasRoom self.old }
+        ensures state { FollowsOk result (step_done (atom_ended (name_of word) (stack_in self.old)
+            (terms_in self.old) (factors_in self.old)) star_sign) None (reader_state self.new) }
+        ensures kept { OnErr result (reader_state self.new ≡ state (Place.Named word) (stack_in self.old)
+            (terms_in self.old) (factors_in self.old)) }
+    {
+        match Box::new(alloc, Ast::Dup) {
+            Ok(cell) => {
+                self.end_atom(Ast::Name(word));
+                Ok(self.star(cell))
+            }
+            Err(AllocFailed { .. }) => {
+                self.place = Place::Named(word);
+                Err(AllocError)
             }
         }
     }
 
     /// A name stands there.
     fn after_name(&mut self, alloc: Global, word: Word, token: &Token) -> Result<Took, AllocError>
-        requires place { self.old.place ≡ Place.Want }
-        ensures state { Follows result (step_at (Place.Named word) (stack_in self.old)
+        requires last { self.old.last ≡ None }
+        requires room { HasRoom self.old }
+        ensures state { FollowsOk result (step_at (Place.Named word) (stack_in self.old)
             (terms_in self.old) (factors_in self.old) (terminal_of token.now))
+            (ended (state (Place.Named word) (stack_in self.old) (terms_in self.old) (factors_in self.old)))
             (reader_state self.new) }
-        ensures shallow { StaysShallow result (stack_in self.old) (stack_in self.new) }
-        ensures end { EndsAs result (ended (state (Place.Named word) (stack_in self.old)
-            (terms_in self.old) (factors_in self.old))) (reader_state self.new) }
+        ensures kept { OnErr result (reader_state self.new ≡ state (Place.Named word) (stack_in self.old)
+            (terms_in self.old) (factors_in self.old)) }
     {
         match token.kind {
             Kind::Equal => {
@@ -235,44 +358,55 @@ impl PolicyReader {
                 self.place = Place::Assigned(word);
                 Ok(Took::Taken)
             }
+            Kind::Star => self.star_on_name(alloc, word),
+            Kind::Plus => {
+                self.end_atom(Ast::Name(word));
+                Ok(self.plus(alloc))
+            }
+            Kind::Semicolon => {
+                self.end_atom(Ast::Name(word));
+                Ok(self.semicolon())
+            }
+            Kind::CloseParen => {
+                self.end_atom(Ast::Name(word));
+                Ok(self.close(alloc))
+            }
             _ => {
-                self.end_atom(alloc, Ast::Name(word))?;
-                self.go_on(alloc, false, token)
+                self.end_atom(Ast::Name(word));
+                Ok(self.refuse(alloc))
             }
         }
     }
 
     /// One more token of a link literal.
-    fn after_quad(&mut self, alloc: Global, quad: Quad, token: &Token) -> Result<Took, AllocError>
-        requires place { self.old.place ≡ Place.Want }
-        ensures state { Follows result (step_at (Place.Linked quad) (stack_in self.old)
-            (terms_in self.old) (factors_in self.old) (terminal_of token.now))
-            (reader_state self.new) }
-        ensures shallow { StaysShallow result (stack_in self.old) (stack_in self.new) }
-        ensures end { EndsAs result None (reader_state self.new) }
+    fn after_quad(&mut self, quad: Quad, token: &Token) -> Took
+        requires last { self.old.last ≡ None }
+        ensures { Follows result (step_at (Place.Linked quad) (stack_in self.old)
+            (terms_in self.old) (factors_in self.old) (terminal_of token.now)) None (reader_state self.new) }
     {
         match quad_after(true, quad, token) {
-            QuadNext::Refused => Ok(Took::Refused),
+            QuadNext::Refused => Took::Refused,
             QuadNext::Going(quad) => {
                 self.place = Place::Linked(quad);
-                Ok(Took::Taken)
+                Took::Taken
             }
-            QuadNext::Full(a, m, b, n) => self.take_atom(alloc, Ast::Link(a, m, b, n)),
+            QuadNext::Full(a, m, b, n) => self.take_atom(Ast::Link(a, m, b, n)),
         }
     }
 
-    /// Reads one more token and says what became of it. The only error is that memory ran out.
-    pub fn take(&mut self, alloc: Global, token: &Token) -> Result<Took, AllocError>
-        ensures state { Follows result (step (reader_state self.old) (terminal_of token.now))
-            (reader_state self.new) }
-        ensures shallow { StaysShallow result (stack_in self.old) (stack_in self.new) }
-        ensures end { EndsAs result (ended (reader_state self.old)) (reader_state self.new) }
+    /// One more token, where there is room and no factor stands apart.
+    fn step(&mut self, alloc: Global, token: &Token) -> Result<Took, AllocError>
+        requires last { self.old.last ≡ None }
+        requires room { HasRoom self.old }
+        ensures state { FollowsOk result (step (reader_state self.old) (terminal_of token.now))
+            (ended (reader_state self.old)) (reader_state self.new) }
+        ensures kept { OnErr result (reader_state self.new ≡ reader_state self.old) }
     {
         match replace(&mut self.place, Place::Want) {
             Place::Want => self.begin(alloc, token),
             Place::Named(word) => self.after_name(alloc, word, token),
             Place::Tested(word) => match number_of(token) {
-                Some(number) => self.take_atom(alloc, Ast::Test(word, number)),
+                Some(number) => Ok(self.take_atom(Ast::Test(word, number))),
                 None => Ok(Took::Refused),
             },
             Place::Ranged(word) => match number_of(token) {
@@ -291,50 +425,60 @@ impl PolicyReader {
                 }
             }
             Place::RangedTo(word, low) => match number_of(token) {
-                Some(high) => self.take_atom(alloc, Ast::Range(word, low, high)),
+                Some(high) => Ok(self.take_atom(Ast::Range(word, low, high))),
                 None => Ok(Took::Refused),
             },
             Place::Assigned(word) => match number_of(token) {
-                Some(number) => self.take_atom(alloc, Ast::Set(word, number)),
+                Some(number) => Ok(self.take_atom(Ast::Set(word, number))),
                 None => Ok(Took::Refused),
             },
-            Place::Linked(quad) => self.after_quad(alloc, quad, token),
-            Place::After(starred) => self.go_on(alloc, starred, token),
+            Place::Linked(quad) => Ok(self.after_quad(quad, token)),
+            Place::After(starred) => {
+                self.place = Place::After(starred);
+                self.go_on(alloc, starred, token)
+            }
         }
     }
 
-    /// The policy, where a factor stands there and nothing is open.
-    #[tactic(auto, using(crate::proofs::Stack::nothing_open, crate::proofs::Stack::something_open))]
-    fn policy(&mut self, alloc: Global) -> Result<Option<Ast>, AllocError>
-        ensures { IfOk result (λ o. option_map tree_of o ≡ done_at (Place.After false)
-            (stack_in self.old) (joined (terms_in self.old) (factors_in self.old))) }
+    /// Reads one more token and says what became of it. The only error is that memory ran out, and then nothing changed. Behind a token
+    /// that is refused nothing is said of the state.
+    pub fn take(&mut self, alloc: Global, token: &Token) -> Result<Took, AllocError>
+        ensures state { FollowsOk result (step (reader_state self.old) (terminal_of token.now))
+            (ended (reader_state self.old)) (reader_state self.new) }
+        ensures kept { OnErr result (reader_state self.new ≡ reader_state self.old) }
     {
-        if self.frames.is_empty() {
-            let terms = replace(&mut self.terms, Vec::new(alloc));
-            let factors = replace(&mut self.factors, Vec::new(alloc));
-            Ok(Some(join(terms, factors)?))
-        } else {
-            Ok(None)
-        }
+        self.make_ready()?;
+        self.step(alloc, token)
     }
 
-    /// The policy, if one can end here. The only error is that memory ran out.
-    pub fn end(&mut self, alloc: Global) -> Result<Option<Ast>, AllocError>
-        ensures { IfOk result (λ o. option_map tree_of o ≡ ended (reader_state self.old)) }
+    /// The policy, if one can end here, where there is room and no factor stands apart.
+    fn end_ready(&mut self, alloc: Global) -> Option<Ast>
+        requires last { self.old.last ≡ None }
+        requires room { HasRoom self.old }
+        ensures { option_map tree_of result ≡ ended (reader_state self.old) }
     {
         match replace(&mut self.place, Place::Want) {
             Place::Named(word) => {
-                self.end_atom(alloc, Ast::Name(word))?;
+                self.end_atom(Ast::Name(word));
                 self.policy(alloc)
             }
             Place::After(_) => self.policy(alloc),
-            Place::Want => Ok(None),
-            Place::Tested(_) => Ok(None),
-            Place::Ranged(_) => Ok(None),
-            Place::RangedFrom(..) => Ok(None),
-            Place::RangedTo(..) => Ok(None),
-            Place::Assigned(_) => Ok(None),
-            Place::Linked(_) => Ok(None),
+            Place::Want => None,
+            Place::Tested(_) => None,
+            Place::Ranged(_) => None,
+            Place::RangedFrom(..) => None,
+            Place::RangedTo(..) => None,
+            Place::Assigned(_) => None,
+            Place::Linked(_) => None,
         }
+    }
+
+    /// The policy, if one can end here. The only error is that memory ran out, and then nothing changed.
+    pub fn end(&mut self, alloc: Global) -> Result<Option<Ast>, AllocError>
+        ensures policy { IfOk result (λ o. option_map tree_of o ≡ ended (reader_state self.old)) }
+        ensures kept { OnErr result (reader_state self.new ≡ reader_state self.old) }
+    {
+        self.make_ready()?;
+        Ok(self.end_ready(alloc))
     }
 }

@@ -1,63 +1,33 @@
 //! A text read token by token.
-ghost use Rattle.std.specs.Prelude.{
-  ◌≡◌,
-  ◌++◌,
-  ◌∷◌,
-  ◌≤◌,
-  [],
-  length,
-  map,
-  Some,
-  None,
-  Ok,
-  IfOk,
-  OnOk,
-  IfErr,
-  All,
-};
+ghost use Rattle.std.specs.Prelude.{◌≡◌, ◌++◌, ◌≤◌, [], map, None, Some, Ok, All, IfErr, IfOk, OnOk};
 ghost use Rattle.nk_lex.specs.Lex.{largest};
-ghost use Rattle.nk_grammar.specs.File.{
-  IsWritten,
-  Declaration,
-  declaration_of,
-  declared_link,
-  definition,
-  field,
-  switch,
-  tag,
-};
+ghost use Rattle.nk_grammar.specs.File.{IsWritten, declaration_of};
 ghost use Rattle.nk_grammar.specs.FileMachine.{
   Returns,
   begin_declaration,
-  between,
   declarations_at_end,
   ended_at,
   field_read,
   file_of,
   first_reading,
+  in_policy,
   judged,
   let_named,
   let_read,
   link_read,
-  name_in,
   next_reading,
-  one_more,
-  open_count,
-  policy_done,
   policy_on,
   port_read,
   port_wanted,
   read_one,
   reading,
-  rest_of_file,
+  tag_read,
 };
-ghost use Rattle.nk_grammar.specs.FileReader.{declarations_in, phase_of, reading_of};
-ghost use Rattle.nk_grammar.specs.Machine.{ended, number_in, step};
-ghost use Rattle.nk_grammar.specs.Reader.{reader_state, stack_in};
+ghost use Rattle.nk_grammar.specs.FileReader.{IsKept, declared_by, phase_in};
+ghost use Rattle.nk_grammar.specs.Machine.{ended, step};
+ghost use Rattle.nk_grammar.specs.Reader.{reader_state};
 ghost use Rattle.nk_grammar.specs.Terminal.{terminal_of};
-ghost use Rattle.nk_grammar.specs.Tree.{tree_of, trees_of};
 
-use crate::ast::Ast;
 use crate::decl::{Decl, File, GrammarError, Stage};
 use crate::frame::Took;
 use crate::parts::{name_of, number_of, quad_after};
@@ -68,110 +38,91 @@ use nk_lex::{Kind, Number, Token, Word};
 use std::alloc::{AllocError, AllocFailed, Global};
 use std::mem::replace;
 
-/// Reads a text token by token. It keeps what may come next, the policy that is being read, and the declarations
-/// that are complete. After a fault nothing is said of its state.
+/// Reads a text token by token. It keeps what may come next, and the policy that is being read. A declaration is handed out by the token
+/// that completes it. A token for which memory runs out changes nothing; after a fault nothing is said of the state.
 #[derive(Drop)]
 pub struct Reader {
     stage: Stage,
     policy: PolicyReader,
-    decls: Vec<Decl>,
 }
 
 impl Reader {
-    /// A reader before the first token.
+    /// A reader before the first token. It takes no memory.
     pub fn new(alloc: Global) -> Reader
-        ensures { reading_of result ≡ first_reading }
+        ensures { reading (phase_in result) [] ≡ first_reading }
     {
         Reader {
             stage: Stage::Between,
             policy: PolicyReader::new(alloc),
-            decls: Vec::new(alloc),
         }
     }
 
-    /// One more declaration is done.
-    fn push(&mut self, decl: Decl) -> Result<(), GrammarError>
-        ensures done { OnOk result (declarations_in self.new ≡ one_more (declarations_in self.old)
-            (declaration_of decl)) }
-        ensures policy { self.new.policy ≡ self.old.policy }
-        ensures stage { self.new.stage ≡ self.old.stage }
-        ensures err { IfErr result (λ e. e ≡ GrammarError.NoMemory) }
-    {
-        match self.decls.push(decl) {
-            Ok(()) => Ok(()),
-            Err(AllocFailed { .. }) => Err(GrammarError::NoMemory),
-        }
-    }
-
-    /// The next token is another part of what is read.
-    fn go(&mut self, stage: Stage) -> Result<(), GrammarError>
-        ensures ok { result ≡ Ok tt }
+    /// The next token is another part of what is read, and this declaration is done.
+    fn go(&mut self, stage: Stage, done: Option<Decl>) -> Result<Option<Decl>, GrammarError>
+        ensures ok { result ≡ Ok done }
         ensures stage { self.new.stage ≡ stage }
         ensures policy { self.new.policy ≡ self.old.policy }
-        ensures decls { self.new.decls ≡ self.old.decls }
     {
         self.stage = stage;
-        Ok(())
+        Ok(done)
     }
 
-    /// A declaration begins.
-    fn begin(&mut self, token: &Token) -> Result<(), GrammarError>
-        ensures { Returns (λ _. reading_of self.new) result
-            (judged token.now.line (begin_declaration (declarations_in self.old)
-            (terminal_of token.now))) }
+    /// A declaration begins behind one that is done.
+    fn begin(&mut self, done: Option<Decl>, token: &Token) -> Result<Option<Decl>, GrammarError>
+        ensures begun { Returns (λ d. reading (phase_in self.new) (declared_by d)) result
+            (judged token.now.line (begin_declaration (declared_by done) (terminal_of token.now))) }
+        ensures err { IfErr result (λ e. e ≡ GrammarError.Unexpected token.now.line) }
     {
         match token.kind {
-            Kind::Field => self.go(Stage::Field),
-            Kind::Tag => self.go(Stage::Tag),
-            Kind::Switch => self.go(Stage::Switch),
-            Kind::Link => self.go(Stage::Link(Quad::Start)),
-            Kind::Let => self.go(Stage::Let(token.line)),
+            Kind::Field => self.go(Stage::Field, done),
+            Kind::Tag => self.go(Stage::Tag, done),
+            Kind::Switch => self.go(Stage::Switch, done),
+            Kind::Link => self.go(Stage::Link(Quad::Start), done),
+            Kind::Let => self.go(Stage::Let(token.line), done),
             _ => Err(GrammarError::Unexpected { line: token.line }),
         }
     }
 
-    /// A policy may end before this token.
-    fn end_policy(
+    /// A policy took a token.
+    fn go_in_policy(
         &mut self,
-        alloc: Global,
         name: Word,
         line: u64,
         token: &Token,
-    ) -> Result<(), GrammarError>
-        ensures { Returns (λ _. reading_of self.new) result
-            (judged token.now.line (policy_done name line (declarations_in self.old)
-            (ended (reader_state self.old.policy)) (terminal_of token.now))) }
+    ) -> Result<Option<Decl>, GrammarError>
+        ensures read { Returns (λ d. reading (phase_in self.new) (declared_by d)) result
+            (judged token.now.line (Some (reading (in_policy name line (reader_state self.old.policy)) []))) }
+        ensures err { IfErr result (λ e. e ≡ GrammarError.TooDeep token.now.line) }
     {
-        match self.policy.end(alloc) {
-            Ok(Some(policy)) => {
-                self.push(Decl::Let(name, policy, line))?;
-                self.begin(token)
-            }
-            Ok(None) => Err(GrammarError::Unexpected { line: token.line }),
-            Err(AllocError) => Err(GrammarError::NoMemory),
+        if self.policy.is_shallow() {
+            self.go(Stage::Policy(name, line), None)
+        } else {
+            Err(GrammarError::TooDeep { line: token.line })
         }
     }
 
     /// One more token of a policy, or the first one behind it.
-    #[tactic(auto, using(crate::proofs::Files::shallow_taken, crate::proofs::Files::deep_refused))]
     fn take_in_policy(
         &mut self,
         alloc: Global,
         name: Word,
         line: u64,
         token: &Token,
-    ) -> Result<(), GrammarError>
-        requires shallow { length (stack_in self.old.policy) ≤ 256 }
-        ensures { Returns (λ _. reading_of self.new) result
-            (judged token.now.line (policy_on name line (declarations_in self.old)
+    ) -> Result<Option<Decl>, GrammarError>
+        ensures read { Returns (λ d. reading (phase_in self.new) (declared_by d)) result
+            (judged token.now.line (policy_on name line []
             (step (reader_state self.old.policy) (terminal_of token.now))
             (ended (reader_state self.old.policy)) (terminal_of token.now))) }
+        ensures kept { IsKept result (in_policy name line (reader_state self.old.policy)) (phase_in self.new) }
     {
         match self.policy.take(alloc, token) {
-            Ok(Took::Taken) => self.go(Stage::Policy(name, line)),
-            Ok(Took::Refused) => self.end_policy(alloc, name, line, token),
-            Ok(Took::TooDeep) => Err(GrammarError::TooDeep { line: token.line }),
-            Err(AllocError) => Err(GrammarError::NoMemory),
+            Ok(Took::Taken) => self.go_in_policy(name, line, token),
+            Ok(Took::Ended(policy)) => self.begin(Some(Decl::Let(name, policy, line)), token),
+            Ok(Took::Refused) => Err(GrammarError::Unexpected { line: token.line }),
+            Err(AllocError) => {
+                self.stage = Stage::Policy(name, line);
+                Err(GrammarError::NoMemory)
+            }
         }
     }
 
@@ -181,17 +132,14 @@ impl Reader {
         number: Number,
         ports: Vec<Number>,
         token: &Token,
-    ) -> Result<(), GrammarError>
-        ensures { Returns (λ _. reading_of self.new) result
-            (judged token.now.line (next_reading (port_read number ports.items)
-            (declarations_in self.old) (terminal_of token.now))) }
+    ) -> Result<Option<Decl>, GrammarError>
+        ensures read { Returns (λ d. reading (phase_in self.new) (declared_by d)) result
+            (judged token.now.line (next_reading (port_read number ports.items) [] (terminal_of token.now))) }
+        ensures err { IfErr result (λ e. e ≡ GrammarError.Unexpected token.now.line) }
     {
         match token.kind {
-            Kind::Comma => self.go(Stage::Ports(number, ports)),
-            _ => {
-                self.push(Decl::Switch(number, List::from_vec(ports)))?;
-                self.begin(token)
-            }
+            Kind::Comma => self.go(Stage::Ports(number, ports), None),
+            _ => self.begin(Some(Decl::Switch(number, List::from_vec(ports))), token),
         }
     }
 
@@ -201,64 +149,91 @@ impl Reader {
         number: Number,
         ports: Vec<Number>,
         token: &Token,
-    ) -> Result<(), GrammarError>
-        ensures { Returns (λ _. reading_of self.new) result
-            (judged token.now.line (next_reading (port_wanted number ports.items)
-            (declarations_in self.old) (terminal_of token.now))) }
+    ) -> Result<Option<Decl>, GrammarError>
+        ensures read { Returns (λ d. reading (phase_in self.new) (declared_by d)) result
+            (judged token.now.line (next_reading (port_wanted number ports.items) [] (terminal_of token.now))) }
+        ensures kept { IsKept result (port_wanted number ports.items) (phase_in self.new) }
     {
         let mut ports = ports;
         match number_of(token) {
             Some(port) => match ports.push(port) {
-                Ok(()) => self.go(Stage::PortRead(number, ports)),
-                Err(AllocFailed { .. }) => Err(GrammarError::NoMemory),
+                Ok(()) => self.go(Stage::PortRead(number, ports), None),
+                Err(AllocFailed { .. }) => {
+                    self.stage = Stage::Ports(number, ports);
+                    Err(GrammarError::NoMemory)
+                }
             },
             None => Err(GrammarError::Unexpected { line: token.line }),
         }
     }
 
-    /// A declaration that is done is followed by another, or by the end.
-    fn finish(&mut self, decl: Decl) -> Result<(), GrammarError>
-        ensures { Returns (λ _. reading_of self.new) result
-            (Ok (reading between (one_more (declarations_in self.old) (declaration_of decl)))) }
-    {
-        self.push(decl)?;
-        self.go(Stage::Between)
-    }
-
     /// One more token of a declared link.
-    fn take_link(&mut self, quad: Quad, token: &Token) -> Result<(), GrammarError>
-        ensures { Returns (λ _. reading_of self.new) result
-            (judged token.now.line (next_reading (link_read quad) (declarations_in self.old)
-            (terminal_of token.now))) }
+    fn take_link(&mut self, quad: Quad, token: &Token) -> Result<Option<Decl>, GrammarError>
+        ensures read { Returns (λ d. reading (phase_in self.new) (declared_by d)) result
+            (judged token.now.line (next_reading (link_read quad) [] (terminal_of token.now))) }
+        ensures err { IfErr result (λ e. e ≡ GrammarError.Unexpected token.now.line) }
     {
         match quad_after(false, quad, token) {
             QuadNext::Refused => Err(GrammarError::Unexpected { line: token.line }),
-            QuadNext::Going(quad) => self.go(Stage::Link(quad)),
-            QuadNext::Full(a, m, b, n) => self.finish(Decl::Link(a, m, b, n)),
+            QuadNext::Going(quad) => self.go(Stage::Link(quad), None),
+            QuadNext::Full(a, m, b, n) => self.go(Stage::Between, Some(Decl::Link(a, m, b, n))),
         }
     }
 
     /// The name of a field is wanted.
-    fn take_field_name(&mut self, alloc: Global, token: &Token) -> Result<(), GrammarError>
-        ensures { Returns (λ _. reading_of self.new) result
-            (judged token.now.line (next_reading field_read (declarations_in self.old)
-            (terminal_of token.now))) }
+    fn take_field_name(
+        &mut self,
+        alloc: Global,
+        token: &Token,
+    ) -> Result<Option<Decl>, GrammarError>
+        ensures read { Returns (λ d. reading (phase_in self.new) (declared_by d)) result
+            (judged token.now.line (next_reading field_read [] (terminal_of token.now))) }
+        ensures kept { IsKept result field_read (phase_in self.new) }
     {
-        match name_of(alloc, token)? {
-            Some(name) => self.go(Stage::FieldNamed(name)),
-            None => Err(GrammarError::Unexpected { line: token.line }),
+        match name_of(alloc, token) {
+            Ok(Some(name)) => self.go(Stage::FieldNamed(name), None),
+            Ok(None) => Err(GrammarError::Unexpected { line: token.line }),
+            Err(AllocError) => {
+                self.stage = Stage::Field;
+                Err(GrammarError::NoMemory)
+            }
+        }
+    }
+
+    /// The name of a tag is wanted.
+    fn take_tag_name(&mut self, alloc: Global, token: &Token) -> Result<Option<Decl>, GrammarError>
+        ensures read { Returns (λ d. reading (phase_in self.new) (declared_by d)) result
+            (judged token.now.line (next_reading tag_read [] (terminal_of token.now))) }
+        ensures kept { IsKept result tag_read (phase_in self.new) }
+    {
+        match name_of(alloc, token) {
+            Ok(Some(name)) => self.go(Stage::Between, Some(Decl::Tag(name))),
+            Ok(None) => Err(GrammarError::Unexpected { line: token.line }),
+            Err(AllocError) => {
+                self.stage = Stage::Tag;
+                Err(GrammarError::NoMemory)
+            }
         }
     }
 
     /// The name of a `let` is wanted.
-    fn take_let_name(&mut self, alloc: Global, line: u64, token: &Token) -> Result<(), GrammarError>
-        ensures { Returns (λ _. reading_of self.new) result
-            (judged token.now.line (next_reading (let_read line) (declarations_in self.old)
-            (terminal_of token.now))) }
+    fn take_let_name(
+        &mut self,
+        alloc: Global,
+        line: u64,
+        token: &Token,
+    ) -> Result<Option<Decl>, GrammarError>
+        ensures read { Returns (λ d. reading (phase_in self.new) (declared_by d)) result
+            (judged token.now.line (next_reading (let_read line) [] (terminal_of token.now))) }
+        ensures kept { IsKept result (let_read line) (phase_in self.new) }
     {
-        match name_of(alloc, token)? {
-            Some(name) => self.go(Stage::LetNamed(name, line)),
-            None => Err(GrammarError::Unexpected { line: token.line }),
+        match name_of(alloc, token) {
+            Ok(Some(name)) => self.go(Stage::LetNamed(name, line), None),
+            Ok(None) => Err(GrammarError::Unexpected { line: token.line }),
+            Err(AllocError) => {
+                self.stage = Stage::Let(line);
+                Err(GrammarError::NoMemory)
+            }
         }
     }
 
@@ -269,43 +244,41 @@ impl Reader {
         name: Word,
         line: u64,
         token: &Token,
-    ) -> Result<(), GrammarError>
-        ensures { Returns (λ _. reading_of self.new) result
-            (judged token.now.line (next_reading (let_named name line) (declarations_in self.old)
-            (terminal_of token.now))) }
+    ) -> Result<Option<Decl>, GrammarError>
+        ensures read { Returns (λ d. reading (phase_in self.new) (declared_by d)) result
+            (judged token.now.line (next_reading (let_named name line) [] (terminal_of token.now))) }
+        ensures err { IfErr result (λ e. e ≡ GrammarError.Unexpected token.now.line) }
     {
         match token.kind {
             Kind::Equal => {
                 self.policy = PolicyReader::new(alloc);
-                self.go(Stage::Policy(name, line))
+                self.go(Stage::Policy(name, line), None)
             }
             _ => Err(GrammarError::Unexpected { line: token.line }),
         }
     }
 
-    /// Reads one more token. An error is the first fault of the tokens so far, or that memory ran out.
-    pub fn take(&mut self, alloc: Global, token: &Token) -> Result<(), GrammarError>
-        requires shallow { open_count (reading_of self.old) ≤ 256 }
-        ensures { Returns (λ _. reading_of self.new) result
-            (judged token.now.line (read_one (reading_of self.old) (terminal_of token.now))) }
+    /// Reads one more token, and hands out the declaration that it completes. An error is the first fault of the tokens so far, or that
+    /// memory ran out.
+    pub fn take(&mut self, alloc: Global, token: &Token) -> Result<Option<Decl>, GrammarError>
+        ensures read { Returns (λ d. reading (phase_in self.new) (declared_by d)) result
+            (judged token.now.line (read_one (reading (phase_in self.old) []) (terminal_of token.now))) }
+        ensures kept { IsKept result (phase_in self.old) (phase_in self.new) }
     {
         match replace(&mut self.stage, Stage::Between) {
-            Stage::Between => self.begin(token),
+            Stage::Between => self.begin(None, token),
             Stage::Field => self.take_field_name(alloc, token),
             Stage::FieldNamed(name) => match number_of(token) {
-                Some(number) => self.finish(Decl::Field(name, number)),
+                Some(number) => self.go(Stage::Between, Some(Decl::Field(name, number))),
                 None => Err(GrammarError::Unexpected { line: token.line }),
             },
-            Stage::Tag => match name_of(alloc, token)? {
-                Some(name) => self.finish(Decl::Tag(name)),
-                None => Err(GrammarError::Unexpected { line: token.line }),
-            },
+            Stage::Tag => self.take_tag_name(alloc, token),
             Stage::Switch => match number_of(token) {
-                Some(number) => self.go(Stage::SwitchNumbered(number)),
+                Some(number) => self.go(Stage::SwitchNumbered(number), None),
                 None => Err(GrammarError::Unexpected { line: token.line }),
             },
             Stage::SwitchNumbered(number) => match token.kind {
-                Kind::Ports => self.go(Stage::Ports(number, Vec::new(alloc))),
+                Kind::Ports => self.go(Stage::Ports(number, Vec::new(alloc)), None),
                 _ => Err(GrammarError::Unexpected { line: token.line }),
             },
             Stage::Ports(number, ports) => self.take_port(number, ports, token),
@@ -317,31 +290,65 @@ impl Reader {
         }
     }
 
-    /// The declarations that are complete.
-    pub fn into_decls(self) -> Vec<Decl>
-        ensures { result ≡ self.decls }
-    {
-        self.decls
-    }
-
-    /// Ends the text; `line` is that of the last token. `Unexpected` comes where the tokens so far are no text.
-    pub fn end(&mut self, alloc: Global, line: u64) -> Result<(), GrammarError>
-        ensures { Returns (λ _. declarations_in self.new) result
-            (ended_at line (declarations_at_end (reading_of self.old))) }
+    /// Ends the text, and hands out the declaration that its end completes; `line` is that of the last token. `Unexpected` comes where
+    /// the tokens so far are no text.
+    pub fn end(&mut self, alloc: Global, line: u64) -> Result<Option<Decl>, GrammarError>
+        ensures read { Returns declared_by result
+            (ended_at line (declarations_at_end (reading (phase_in self.old) []))) }
+        ensures kept { IsKept result (phase_in self.old) (phase_in self.new) }
     {
         match replace(&mut self.stage, Stage::Between) {
-            Stage::Between => Ok(()),
+            Stage::Between => Ok(None),
             Stage::PortRead(number, ports) => {
-                self.push(Decl::Switch(number, List::from_vec(ports)))
+                Ok(Some(Decl::Switch(number, List::from_vec(ports))))
             }
             Stage::Policy(name, of_let) => match self.policy.end(alloc) {
-                Ok(Some(policy)) => self.push(Decl::Let(name, policy, of_let)),
+                Ok(Some(policy)) => Ok(Some(Decl::Let(name, policy, of_let))),
                 Ok(None) => Err(GrammarError::Unexpected { line }),
-                Err(AllocError) => Err(GrammarError::NoMemory),
+                Err(AllocError) => {
+                    self.stage = Stage::Policy(name, of_let);
+                    Err(GrammarError::NoMemory)
+                }
             },
             _ => Err(GrammarError::Unexpected { line }),
         }
     }
+}
+
+/// Puts a declaration that is done behind the others. The only error is that memory ran out.
+pub fn push_declaration(decls: &mut Vec<Decl>, done: Option<Decl>) -> Result<(), AllocError>
+    ensures { OnOk result (map declaration_of decls.new.items
+        ≡ map declaration_of decls.old.items ++ declared_by done) }
+{
+    match done {
+        Some(decl) => {
+            decls.push(decl)?;
+            Ok(())
+        }
+        None => Ok(()),
+    }
+}
+
+/// Reads a text's tokens, and puts its declarations into a list, or answers the first fault.
+fn read_declarations(
+    alloc: Global,
+    tokens: &[Token],
+    reader: &mut Reader,
+    decls: &mut Vec<Decl>,
+) -> Result<(), GrammarError>
+    requires first { reading (phase_in reader.old) [] ≡ first_reading }
+    requires none { decls.old.items ≡ [] }
+    ensures { Returns (λ _. map declaration_of decls.new.items) result (file_of tokens.now) }
+{
+    let mut line = 1;
+    for token in tokens {
+        let done = reader.take(alloc, token)?;
+        push_declaration(decls, done)?;
+        line = token.line;
+    }
+    let done = reader.end(alloc, line)?;
+    push_declaration(decls, done)?;
+    Ok(())
 }
 
 /// The declarations of a text's tokens, or the first fault.
@@ -350,14 +357,10 @@ fn read_file(alloc: Global, tokens: &[Token]) -> Result<File, GrammarError>
     ensures rows { IfOk result (λ f. f.rows ≡ []) }
 {
     let mut reader = Reader::new(alloc);
-    let mut line = 1;
-    for token in tokens {
-        reader.take(alloc, token)?;
-        line = token.line;
-    }
-    reader.end(alloc, line)?;
+    let mut decls = Vec::new(alloc);
+    read_declarations(alloc, tokens, &mut reader, &mut decls)?;
     Ok(File {
-        decls: List::from_vec(reader.decls),
+        decls: List::from_vec(decls),
         rows: List::from_vec(Vec::new(alloc)),
     })
 }

@@ -1,0 +1,251 @@
+-- What comes next doesn't hang on the declarations and rows that are done.
+use Rattle.std.proofs.Common.{◌≡◌, ℕ, List, [], ◌∷◌, ◌++◌, Bool, true, false, refl, ap, sym, ◌∙◌, append_assoc, append-nil, Option}
+use Rattle.std.specs.Prelude.{Some, None, Ok, Err, option_map, if◌then◌else◌, nat_le}
+use Rattle.std.specs.declared.result.Result.{Result}
+use Rattle.nk_lex.specs.declared.word.Word.{Word}
+use Rattle.nk_lex.specs.declared.word.Number.{Number}
+use Rattle.nk_grammar.specs.declared.place.QuadNext.{QuadNext}
+use Rattle.nk_grammar.specs.declared.place.QuadNext.TheVariants as next
+use Rattle.nk_grammar.specs.declared.decl.GrammarError.{GrammarError}
+use Rattle.nk_grammar.specs.declared.decl.GrammarError.TheVariants as error
+use Rattle.nk_grammar.specs.Terminal.{Terminal, name, number, tilde, opening, closing, plus_sign, semicolon, star_sign, equal, becomes, colon, fat_arrow, id_word, drop_word, dup_word, in_word, dots, outside, field_word, tag_word, switch_word, ports_word, link_word, let_word, arrow, comma, certificate_word, row_word, start_word, no_terminal, is_equal, is_colon}
+use Rattle.nk_grammar.specs.Tree.{Tree}
+use Rattle.nk_grammar.specs.Machine.{State, start, step, ended, in_option, number_in, quad_step}
+use Rattle.nk_grammar.specs.File.{Declaration, field, tag, switch, declared_link, definition}
+use Rattle.nk_grammar.specs.FileMachine.{Phase, between, field_read, field_named, tag_read, switch_read, switch_numbered, port_wanted, port_read, link_read, let_read, let_named, in_policy, Reading, reading, name_in, is_ports, is_comma, by_name, begin_declaration, one_more, link_on, policy_on, next_reading, read_one, text_ended, open_count, judged}
+use Rattle.nk_grammar.specs.Certified.{Row, row}
+use Rattle.nk_grammar.specs.CertifiedMachine.{CertifiedPhase, declaring, row_wanted, start_wanted, start_read, number_wanted, numbers_read, in_row, Certifying, certifying, is_certificate, is_start_word, row_in, in_line, certificate_begins, still_declaring, row_on, certify_one}
+use Rattle.nk_grammar.specs.CertifiedProgress.{with_done, done_declarations}
+
+-- ---- declarations
+
+-- a reading behind further declarations
+abbrev pub reading_behind : List Declaration → Reading → Reading
+reading_behind ds r = reading r.phase (ds ++ r.declarations)
+
+abbrev DeclaresBehind : List Declaration → Option Reading → Option Reading → Type 0
+DeclaresBehind ds a b = a ≡ option_map (reading_behind ds) b
+
+by_number : (ds : List Declaration) (o : Option Number) (f g : Number → Reading) → ((n : Number) → f n ≡ reading_behind ds (g n))
+    → DeclaresBehind ds (in_option o None (λ n. Some (f n))) (in_option o None (λ n. Some (g n)))
+by_number ds None f g h = refl
+by_number ds (Some n) f g h = ap (λ r. Some r) (h n)
+
+by_word : (ds : List Declaration) (o : Option Word) (f g : Word → Reading) → ((w : Word) → f w ≡ reading_behind ds (g w))
+    → DeclaresBehind ds (by_name o None (λ w. Some (f w))) (by_name o None (λ w. Some (g w)))
+by_word ds None f g h = refl
+by_word ds (Some w) f g h = ap (λ r. Some r) (h w)
+
+by_test : (ds : List Declaration) (b : Bool) (a a' c c' : Option Reading) → DeclaresBehind ds a a' → DeclaresBehind ds c c'
+    → DeclaresBehind ds (if b then a else c) (if b then a' else c')
+by_test ds true a a' c c' h i = h
+by_test ds false a a' c c' h i = i
+
+-- one more declaration behind all
+more : (ds es : List Declaration) (d : Declaration) → one_more (ds ++ es) d ≡ ds ++ one_more es d
+more ds es d = append_assoc ds es (d ∷ [])
+
+begun : (ds es : List Declaration) (t : Terminal) → DeclaresBehind ds (begin_declaration (ds ++ es) t) (begin_declaration es t)
+begun ds es (outside field_word) = refl
+begun ds es (outside tag_word) = refl
+begun ds es (outside switch_word) = refl
+begun ds es (outside ports_word) = refl
+begun ds es (outside link_word) = refl
+begun ds es (outside (let_word line)) = refl
+begun ds es (outside arrow) = refl
+begun ds es (outside comma) = refl
+begun ds es (outside certificate_word) = refl
+begun ds es (outside (row_word line)) = refl
+begun ds es (outside start_word) = refl
+begun ds es (outside no_terminal) = refl
+begun ds es (name w) = refl
+begun ds es (number n) = refl
+begun ds es (tilde line) = refl
+begun ds es opening = refl
+begun ds es closing = refl
+begun ds es plus_sign = refl
+begun ds es semicolon = refl
+begun ds es star_sign = refl
+begun ds es equal = refl
+begun ds es becomes = refl
+begun ds es colon = refl
+begun ds es fat_arrow = refl
+begun ds es id_word = refl
+begun ds es drop_word = refl
+begun ds es dup_word = refl
+begun ds es in_word = refl
+begun ds es dots = refl
+
+-- the same behind one more declaration
+begun_more : (ds es : List Declaration) (d : Declaration) (t : Terminal)
+    → DeclaresBehind ds (begin_declaration (one_more (ds ++ es) d) t) (begin_declaration (one_more es d) t)
+begun_more ds es d t = ap (λ l. begin_declaration l t) (more ds es d) ∙ begun ds (one_more es d) t
+
+linked : (ds es : List Declaration) (q : QuadNext) → DeclaresBehind ds (link_on (ds ++ es) q) (link_on es q)
+linked ds es next.Refused = refl
+linked ds es (next.Going q) = refl
+linked ds es (next.Full a m b n) = ap (λ l. Some (reading between l)) (more ds es (declared_link a m b n))
+
+policy : (ds es : List Declaration) (w : Word) (line : ℕ) (o : Option State) (e : Option Tree) (t : Terminal)
+    → DeclaresBehind ds (policy_on w line (ds ++ es) o e t) (policy_on w line es o e t)
+policy ds es w line (Some s) e t = refl
+policy ds es w line None None t = refl
+policy ds es w line None (Some p) t = begun_more ds es (definition w p line) t
+
+-- one more token
+pub read_behind : (ds es : List Declaration) (p : Phase) (t : Terminal) → DeclaresBehind ds (next_reading p (ds ++ es) t) (next_reading p es t)
+read_behind ds es between t = begun ds es t
+read_behind ds es field_read t = by_word ds (name_in t) (λ w. reading (field_named w) (ds ++ es)) (λ w. reading (field_named w) es) (λ w. refl)
+read_behind ds es (field_named w) t =
+    by_number ds (number_in t) (λ n. reading between (one_more (ds ++ es) (field w n))) (λ n. reading between (one_more es (field w n)))
+    (λ n. ap (λ l. reading between l) (more ds es (field w n)))
+read_behind ds es tag_read t =
+    by_word ds (name_in t) (λ w. reading between (one_more (ds ++ es) (tag w))) (λ w. reading between (one_more es (tag w)))
+    (λ w. ap (λ l. reading between l) (more ds es (tag w)))
+read_behind ds es switch_read t = by_number ds (number_in t) (λ n. reading (switch_numbered n) (ds ++ es)) (λ n. reading (switch_numbered n) es) (λ n. refl)
+read_behind ds es (switch_numbered n) t =
+    by_test ds (is_ports t) (Some (reading (port_wanted n []) (ds ++ es))) (Some (reading (port_wanted n []) es)) None None refl refl
+read_behind ds es (port_wanted n ps) t =
+    by_number ds (number_in t) (λ p. reading (port_read n (ps ++ p ∷ [])) (ds ++ es)) (λ p. reading (port_read n (ps ++ p ∷ [])) es) (λ p. refl)
+read_behind ds es (port_read n ps) t =
+    by_test ds (is_comma t) (Some (reading (port_wanted n ps) (ds ++ es))) (Some (reading (port_wanted n ps) es))
+    (begin_declaration (one_more (ds ++ es) (switch n ps)) t) (begin_declaration (one_more es (switch n ps)) t) refl (begun_more ds es (switch n ps) t)
+read_behind ds es (link_read q) t = linked ds es (quad_step false q t)
+read_behind ds es (let_read line) t = by_word ds (name_in t) (λ w. reading (let_named w line) (ds ++ es)) (λ w. reading (let_named w line) es) (λ w. refl)
+read_behind ds es (let_named w line) t =
+    by_test ds (is_equal t) (Some (reading (in_policy w line start) (ds ++ es))) (Some (reading (in_policy w line start) es)) None None refl refl
+read_behind ds es (in_policy w line s) t = policy ds es w line (step s t) (ended s) t
+
+-- the end
+pub ended_behind : (ds es : List Declaration) (p : Phase) → text_ended p (ds ++ es) ≡ option_map (λ l. ds ++ l) (text_ended p es)
+ended_behind ds es between = refl
+ended_behind ds es field_read = refl
+ended_behind ds es (field_named w) = refl
+ended_behind ds es tag_read = refl
+ended_behind ds es switch_read = refl
+ended_behind ds es (switch_numbered n) = refl
+ended_behind ds es (port_wanted n ps) = refl
+ended_behind ds es (port_read n ps) = ap (λ l. Some l) (more ds es (switch n ps))
+ended_behind ds es (link_read q) = refl
+ended_behind ds es (let_read line) = refl
+ended_behind ds es (let_named w line) = refl
+ended_behind ds es (in_policy w line s) = by_end (ended s)
+  where
+    by_end : (o : Option Tree) → option_map (λ p. one_more (ds ++ es) (definition w p line)) o
+        ≡ option_map (λ l. ds ++ l) (option_map (λ p. one_more es (definition w p line)) o)
+    by_end None = refl
+    by_end (Some p) = ap (λ l. Some l) (more ds es (definition w p line))
+
+-- a token is judged alike
+pub judged_behind : (ds : List Declaration) (at : ℕ) (p p' : Phase) (es : List Declaration) (t : Terminal)
+    → judged at (read_one (reading p []) t) ≡ Ok (reading p' es) → judged at (read_one (reading p ds) t) ≡ Ok (reading p' (ds ++ es))
+judged_behind ds at p p' es t e =
+    ap (λ l. judged at (next_reading p l t)) (sym (append-nil ds)) ∙ ap (judged at) (read_behind ds [] p t)
+    ∙ by_step (next_reading p [] t) e
+  where
+    same : (r s : Reading) → ◌≡◌ {A = Result Reading GrammarError} (Ok r) (Ok s) → r ≡ s
+    same r s e = cc
+
+    refused : {X : Type 0} (f : GrammarError) (s : Reading) → ◌≡◌ {A = Result Reading GrammarError} (Err f) (Ok s) → X
+    refused f s e = absurd cc
+
+    by_count : (r : Reading) (b : Bool) → (if b then Ok r else Err (error.TooDeep at)) ≡ Ok (reading p' es)
+        → (if b then Ok (reading_behind ds r) else Err (error.TooDeep at)) ≡ Ok (reading p' (ds ++ es))
+    by_count r true e = ap (λ s. Ok (reading_behind ds s)) (same r (reading p' es) e)
+    by_count r false e = refused (error.TooDeep at) (reading p' es) e
+
+    by_step : (o : Option Reading) → judged at o ≡ Ok (reading p' es)
+        → judged at (option_map (reading_behind ds) o) ≡ Ok (reading p' (ds ++ es))
+    by_step None e = refused (error.Unexpected at) (reading p' es) e
+    by_step (Some r) e = by_count r (nat_le (open_count r) 256) e
+
+-- and refused alike
+pub refused_behind : (ds : List Declaration) (at : ℕ) (p : Phase) (f : GrammarError) (t : Terminal)
+    → judged at (read_one (reading p []) t) ≡ Err f → judged at (read_one (reading p ds) t) ≡ Err f
+refused_behind ds at p f t e =
+    ap (λ l. judged at (next_reading p l t)) (sym (append-nil ds)) ∙ ap (judged at) (read_behind ds [] p t)
+    ∙ by_step (next_reading p [] t) e
+  where
+    accepted : {X : Type 0} (s : Reading) → ◌≡◌ {A = Result Reading GrammarError} (Ok s) (Err f) → X
+    accepted s e = absurd cc
+
+    by_count : (r : Reading) (b : Bool) → (if b then Ok r else Err (error.TooDeep at)) ≡ Err f
+        → (if b then Ok (reading_behind ds r) else Err (error.TooDeep at)) ≡ Err f
+    by_count r true e = accepted r e
+    by_count r false e = retyped (error.TooDeep at) e
+      where
+        retyped : (g : GrammarError) → ◌≡◌ {A = Result Reading GrammarError} (Err g) (Err f) → ◌≡◌ {A = Result Reading GrammarError} (Err g) (Err f)
+        retyped g e = e
+
+    by_step : (o : Option Reading) → judged at o ≡ Err f → judged at (option_map (reading_behind ds) o) ≡ Err f
+    by_step None e = e
+    by_step (Some r) e = by_count r (nat_le (open_count r) 256) e
+
+-- ---- rows
+
+-- the machine's state behind further declarations and rows
+abbrev pub behind : List Declaration → List Row → Certifying → Certifying
+behind ds rs c = with_done c.phase (ds ++ done_declarations c.phase c.declarations) (rs ++ c.rows)
+
+abbrev IsBehind : List Declaration → List Row → Option Certifying → Option Certifying → Type 0
+IsBehind ds rs a b = a ≡ option_map (behind ds rs) b
+
+line_behind : (ds : List Declaration) (rs : List Row) (o : Option ℕ) (f g : ℕ → Certifying) → ((l : ℕ) → f l ≡ behind ds rs (g l))
+    → IsBehind ds rs (in_line o None (λ l. Some (f l))) (in_line o None (λ l. Some (g l)))
+line_behind ds rs None f g h = refl
+line_behind ds rs (Some l) f g h = ap (λ c. Some c) (h l)
+
+number_behind : (ds : List Declaration) (rs : List Row) (o : Option Number) (f g : Number → Certifying) → ((n : Number) → f n ≡ behind ds rs (g n))
+    → IsBehind ds rs (in_option o None (λ n. Some (f n))) (in_option o None (λ n. Some (g n)))
+number_behind ds rs None f g h = refl
+number_behind ds rs (Some n) f g h = ap (λ c. Some c) (h n)
+
+test_behind : (ds : List Declaration) (rs : List Row) (b : Bool) (a a' c c' : Option Certifying) → IsBehind ds rs a a' → IsBehind ds rs c c'
+    → IsBehind ds rs (if b then a else c) (if b then a' else c')
+test_behind ds rs true a a' c c' h i = h
+test_behind ds rs false a a' c c' h i = i
+
+row_behind : (ds es : List Declaration) (rs qs : List Row) (ns : List ℕ) (line : ℕ) (o : Option State) (e : Option Tree) (t : Terminal)
+    → IsBehind ds rs (row_on (ds ++ es) (rs ++ qs) ns line o e t) (row_on es qs ns line o e t)
+row_behind ds es rs qs ns line (Some s) e t = refl
+row_behind ds es rs qs ns line None None t = refl
+row_behind ds es rs qs ns line None (Some p) t =
+    line_behind ds rs (row_in t) (λ l. certifying (number_wanted l) (ds ++ es) ((rs ++ qs) ++ row ns p line ∷ []))
+    (λ l. certifying (number_wanted l) es (qs ++ row ns p line ∷ []))
+    (λ l. ap (λ x. certifying (number_wanted l) (ds ++ es) x) (append_assoc rs qs (row ns p line ∷ [])))
+
+certificate_behind : (ds : List Declaration) (rs qs : List Row) (o : Option (List Declaration))
+    → IsBehind ds rs (certificate_begins (rs ++ qs) (option_map (λ l. ds ++ l) o)) (certificate_begins qs o)
+certificate_behind ds rs qs None = refl
+certificate_behind ds rs qs (Some l) = refl
+
+still_behind : (ds : List Declaration) (rs qs : List Row) (o : Option Reading)
+    → IsBehind ds rs (still_declaring (rs ++ qs) (option_map (reading_behind ds) o)) (still_declaring qs o)
+still_behind ds rs qs None = refl
+still_behind ds rs qs (Some r) = refl
+
+-- one more token
+pub certify_behind : (ds es : List Declaration) (rs qs : List Row) (p : CertifiedPhase) (t : Terminal)
+    → IsBehind ds rs (certify_one (with_done p (ds ++ es) (rs ++ qs)) t) (certify_one (with_done p es qs) t)
+certify_behind ds es rs qs (declaring r) t =
+    test_behind ds rs (is_certificate t)
+    (certificate_begins (rs ++ qs) (text_ended r.phase (ds ++ es))) (certificate_begins qs (text_ended r.phase es))
+    (still_declaring (rs ++ qs) (next_reading r.phase (ds ++ es) t)) (still_declaring qs (next_reading r.phase es t))
+    (ap (certificate_begins (rs ++ qs)) (ended_behind ds es r.phase) ∙ certificate_behind ds rs qs (text_ended r.phase es))
+    (ap (still_declaring (rs ++ qs)) (read_behind ds es r.phase t) ∙ still_behind ds rs qs (next_reading r.phase es t))
+certify_behind ds es rs qs row_wanted t =
+    line_behind ds rs (row_in t) (λ l. certifying (start_wanted l) (ds ++ es) (rs ++ qs)) (λ l. certifying (start_wanted l) es qs) (λ l. refl)
+certify_behind ds es rs qs (start_wanted line) t =
+    test_behind ds rs (is_start_word t) (Some (certifying (start_read line) (ds ++ es) (rs ++ qs))) (Some (certifying (start_read line) es qs)) None None refl refl
+certify_behind ds es rs qs (start_read line) t =
+    test_behind ds rs (is_colon t) (Some (certifying (in_row line [] start) (ds ++ es) (rs ++ qs))) (Some (certifying (in_row line [] start) es qs)) None None refl refl
+certify_behind ds es rs qs (number_wanted line) t =
+    number_behind ds rs (number_in t) (λ n. certifying (numbers_read line (n.value ∷ [])) (ds ++ es) (rs ++ qs))
+    (λ n. certifying (numbers_read line (n.value ∷ [])) es qs) (λ n. refl)
+certify_behind ds es rs qs (numbers_read line ns) t =
+    test_behind ds rs (is_colon t) (Some (certifying (in_row line ns start) (ds ++ es) (rs ++ qs))) (Some (certifying (in_row line ns start) es qs))
+    (in_option (number_in t) None (λ m. Some (certifying (numbers_read line (ns ++ m.value ∷ [])) (ds ++ es) (rs ++ qs))))
+    (in_option (number_in t) None (λ m. Some (certifying (numbers_read line (ns ++ m.value ∷ [])) es qs))) refl
+    (number_behind ds rs (number_in t) (λ m. certifying (numbers_read line (ns ++ m.value ∷ [])) (ds ++ es) (rs ++ qs))
+    (λ m. certifying (numbers_read line (ns ++ m.value ∷ [])) es qs) (λ m. refl))
+certify_behind ds es rs qs (in_row line ns s) t = row_behind ds es rs qs ns line (step s t) (ended s) t

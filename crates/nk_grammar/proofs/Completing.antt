@@ -1,0 +1,368 @@
+-- What tokens complete: numbers of a text, and the start row first.
+use Rattle.std.proofs.Common.{◌≡◌, ◌≤◌, ℕ, List, [], ◌∷◌, ◌++◌, Bool, true, false, refl, sym, subst, arith, Option}
+use Rattle.std.proofs.lemmas.List.Elements.{All-nil, All-cons, All-push, All-tail}
+use Rattle.std.specs.Prelude.{Some, None, Ok, Err, All, fold, option_map, if◌then◌else◌, nat_le, ⊤}
+use Rattle.nk_lex.specs.Lex.{largest}
+use Rattle.nk_lex.specs.declared.token.Token.{Token}
+use Rattle.nk_lex.specs.declared.word.Word.{Word}
+use Rattle.nk_lex.specs.declared.word.Number.{Number}
+use Rattle.nk_grammar.specs.declared.place.QuadNext.{QuadNext}
+use Rattle.nk_grammar.specs.declared.place.QuadNext.TheVariants as next
+use Rattle.nk_grammar.specs.declared.decl.Completed.{Completed}
+use Rattle.nk_grammar.specs.declared.decl.Completed.TheVariants as completed
+use Rattle.nk_grammar.specs.declared.decl.GrammarError.TheVariants as error
+use Rattle.nk_grammar.specs.Terminal.{Terminal, name, number, tilde, opening, closing, plus_sign, semicolon, star_sign, equal, becomes, colon, fat_arrow, id_word, drop_word, dup_word, in_word, dots, outside, field_word, tag_word, switch_word, ports_word, link_word, let_word, arrow, comma, certificate_word, row_word, start_word, no_terminal, is_equal, is_colon, terminal_of}
+use Rattle.nk_grammar.specs.Tree.{Tree, dup}
+use Rattle.nk_grammar.specs.Machine.{State, start, step, ended, in_option, number_in, quad_step}
+use Rattle.nk_grammar.specs.File.{Declaration, IsWritten, declaration_of, field, tag, switch, declared_link, definition}
+use Rattle.nk_grammar.specs.FileMachine.{Phase, between, field_read, field_named, tag_read, switch_read, switch_numbered, port_wanted, port_read, link_read, let_read, let_named, in_policy, Reading, reading, name_in, is_ports, is_comma, by_name, begin_declaration, one_more, link_on, policy_on, next_reading, text_ended}
+use Rattle.nk_grammar.specs.Answer.{terminals}
+use Rattle.nk_grammar.specs.Certified.{Row, row, row_value, IsWrittenRow}
+use Rattle.nk_grammar.specs.CertifiedMachine.{CertifiedPhase, declaring, row_wanted, start_wanted, start_read, number_wanted, numbers_read, in_row, Certifying, certifying, is_certificate, is_start_word, row_in, in_line, certificate_begins, still_declaring, row_on, certify_one, open_certified, judged_certified}
+use Rattle.nk_grammar.specs.CertifiedProgress.{CertifiedProgress, Going, Stopped, bare, with_done, done_declarations, SoFar, so_far, nothing_so_far, so_far_judged, so_far_after, IsRead, declarations_by, rows_by, IsWrittenPart, BeginsWithStart, CompletesWritten}
+use Rattle.nk_grammar.proofs.Fronts.{none_some}
+use Rattle.nk_grammar.proofs.Written.{IsSmall, are_small}
+
+-- ---- what each token keeps holds of all
+
+-- it holds of a state
+abbrev OfState : (CertifiedPhase → List Declaration → List Row → Type 0) → Option Certifying → Type 0
+OfState I None = ⊤
+OfState I (Some c) = I (bare c.phase) (done_declarations c.phase c.declarations) c.rows
+
+-- it held before a fault
+abbrev OfProgress : (CertifiedPhase → List Declaration → List Row → Type 0) → CertifiedProgress → List Declaration → List Row → Type 0
+OfProgress I (Going p line) ds rs = I p ds rs
+OfProgress I (Stopped e) ds rs = (p : CertifiedPhase) × I p ds rs
+
+abbrev OfSoFar : (CertifiedPhase → List Declaration → List Row → Type 0) → SoFar → Type 0
+OfSoFar I s = OfProgress I s.progress s.declarations s.rows
+
+-- a token keeps it
+abbrev IsKeptBy : (Terminal → Type 0) → (CertifiedPhase → List Declaration → List Row → Type 0) → Type 0
+IsKeptBy Q I = (p : CertifiedPhase) (ds : List Declaration) (rs : List Row) (t : Terminal) → Q t → I p ds rs
+    → OfState I (certify_one (with_done p ds rs) t)
+
+after_token : (Q : Terminal → Type 0) (I : CertifiedPhase → List Declaration → List Row → Type 0) → IsKeptBy Q I
+    → (x : CertifiedProgress) (ds : List Declaration) (rs : List Row) (t : Token) → Q (terminal_of t) → OfProgress I x ds rs
+    → OfSoFar I (so_far_after (so_far x ds rs) t)
+after_token Q I k (Stopped e) ds rs t q h = h
+after_token Q I k (Going p line) ds rs t q h = by_step (certify_one (with_done p ds rs) (terminal_of t)) (k p ds rs (terminal_of t) q h)
+  where
+    by_step : (o : Option Certifying) → OfState I o → OfSoFar I (so_far_judged (judged_certified t.line o) (so_far (Going p line) ds rs) t.line)
+    by_step None i = (p, h)
+    by_step (Some c) i = by_count (nat_le (open_certified c) 256)
+      where
+        by_count : (b : Bool) → OfSoFar I (so_far_judged (if b then Ok c else Err (error.TooDeep t.line)) (so_far (Going p line) ds rs) t.line)
+        by_count true = i
+        by_count false = (p, h)
+
+after_all : (Q : Terminal → Type 0) (I : CertifiedPhase → List Declaration → List Row → Type 0) → IsKeptBy Q I
+    → (ts : List Token) (s : SoFar) → All Q (terminals ts) → OfSoFar I s → OfSoFar I (fold so_far_after s ts)
+after_all Q I k [] s q h = h
+after_all Q I k (t ∷ ts) s q h =
+    after_all Q I k ts (so_far_after s t) (All-tail Q (terminal_of t) (terminals ts) q)
+    (after_token Q I k s.progress s.declarations s.rows t (q 0 opening (omega arith)) h)
+
+-- cases of what comes next
+line_kept : (I : CertifiedPhase → List Declaration → List Row → Type 0) (o : Option ℕ) (f : ℕ → Certifying) → ((l : ℕ) → OfState I (Some (f l)))
+    → OfState I (in_line o None (λ l. Some (f l)))
+line_kept I None f h = tt
+line_kept I (Some l) f h = h l
+
+number_kept : (I : CertifiedPhase → List Declaration → List Row → Type 0) (o : Option Number) (f : Number → Certifying)
+    → ((n : Number) → o ≡ Some n → OfState I (Some (f n))) → OfState I (in_option o None (λ n. Some (f n)))
+number_kept I None f h = tt
+number_kept I (Some n) f h = h n refl
+
+test_kept : (I : CertifiedPhase → List Declaration → List Row → Type 0) (b : Bool) (x y : Option Certifying) → OfState I x → OfState I y
+    → OfState I (if b then x else y)
+test_kept I true x y h i = h
+test_kept I false x y h i = i
+
+-- ---- numbers
+
+a_small_number : (t : Terminal) (m : Number) → number_in t ≡ Some m → IsSmall t → m.value ≤ largest
+a_small_number (outside field_word) m e h = absurd (none_some m e)
+a_small_number (outside tag_word) m e h = absurd (none_some m e)
+a_small_number (outside switch_word) m e h = absurd (none_some m e)
+a_small_number (outside ports_word) m e h = absurd (none_some m e)
+a_small_number (outside link_word) m e h = absurd (none_some m e)
+a_small_number (outside (let_word line)) m e h = absurd (none_some m e)
+a_small_number (outside arrow) m e h = absurd (none_some m e)
+a_small_number (outside comma) m e h = absurd (none_some m e)
+a_small_number (outside certificate_word) m e h = absurd (none_some m e)
+a_small_number (outside (row_word line)) m e h = absurd (none_some m e)
+a_small_number (outside start_word) m e h = absurd (none_some m e)
+a_small_number (outside no_terminal) m e h = absurd (none_some m e)
+a_small_number (name w) m e h = absurd (none_some m e)
+a_small_number (number n) m e h = subst (λ x. x.value ≤ largest) (same n m e) h
+  where
+    same : (a b : Number) → ◌≡◌ {A = Option Number} (Some a) (Some b) → a ≡ b
+    same a b e = cc
+a_small_number (tilde line) m e h = absurd (none_some m e)
+a_small_number opening m e h = absurd (none_some m e)
+a_small_number closing m e h = absurd (none_some m e)
+a_small_number plus_sign m e h = absurd (none_some m e)
+a_small_number semicolon m e h = absurd (none_some m e)
+a_small_number star_sign m e h = absurd (none_some m e)
+a_small_number equal m e h = absurd (none_some m e)
+a_small_number becomes m e h = absurd (none_some m e)
+a_small_number colon m e h = absurd (none_some m e)
+a_small_number fat_arrow m e h = absurd (none_some m e)
+a_small_number id_word m e h = absurd (none_some m e)
+a_small_number drop_word m e h = absurd (none_some m e)
+a_small_number dup_word m e h = absurd (none_some m e)
+a_small_number in_word m e h = absurd (none_some m e)
+a_small_number dots m e h = absurd (none_some m e)
+
+-- the declarations have numbers of a text
+abbrev DeclaresWritten : Option Reading → Type 0
+DeclaresWritten None = ⊤
+DeclaresWritten (Some r) = All IsWritten r.declarations
+
+by_number : (o : Option Number) (f : Number → Reading) → ((n : Number) → o ≡ Some n → All IsWritten (f n).declarations)
+    → DeclaresWritten (in_option o None (λ n. Some (f n)))
+by_number None f h = tt
+by_number (Some n) f h = h n refl
+
+by_word : (o : Option Word) (f : Word → Reading) → ((w : Word) → All IsWritten (f w).declarations) → DeclaresWritten (by_name o None (λ w. Some (f w)))
+by_word None f h = tt
+by_word (Some w) f h = h w
+
+by_test : (b : Bool) (x y : Option Reading) → DeclaresWritten x → DeclaresWritten y → DeclaresWritten (if b then x else y)
+by_test true x y h i = h
+by_test false x y h i = i
+
+pushed : (ds : List Declaration) (d : Declaration) → All IsWritten ds → IsWritten d → All IsWritten (one_more ds d)
+pushed ds d h w = All-push IsWritten ds d h w
+
+begun : (ds : List Declaration) (t : Terminal) → All IsWritten ds → DeclaresWritten (begin_declaration ds t)
+begun ds (outside field_word) h = h
+begun ds (outside tag_word) h = h
+begun ds (outside switch_word) h = h
+begun ds (outside ports_word) h = tt
+begun ds (outside link_word) h = h
+begun ds (outside (let_word line)) h = h
+begun ds (outside arrow) h = tt
+begun ds (outside comma) h = tt
+begun ds (outside certificate_word) h = tt
+begun ds (outside (row_word line)) h = tt
+begun ds (outside start_word) h = tt
+begun ds (outside no_terminal) h = tt
+begun ds (name w) h = tt
+begun ds (number n) h = tt
+begun ds (tilde line) h = tt
+begun ds opening h = tt
+begun ds closing h = tt
+begun ds plus_sign h = tt
+begun ds semicolon h = tt
+begun ds star_sign h = tt
+begun ds equal h = tt
+begun ds becomes h = tt
+begun ds colon h = tt
+begun ds fat_arrow h = tt
+begun ds id_word h = tt
+begun ds drop_word h = tt
+begun ds dup_word h = tt
+begun ds in_word h = tt
+begun ds dots h = tt
+
+linked : (ds : List Declaration) (q : QuadNext) → All IsWritten ds → DeclaresWritten (link_on ds q)
+linked ds next.Refused h = tt
+linked ds (next.Going q) h = h
+linked ds (next.Full a m b n) h = pushed ds (declared_link a m b n) h tt
+
+policy : (ds : List Declaration) (w : Word) (line : ℕ) (o : Option State) (e : Option Tree) (t : Terminal) → All IsWritten ds
+    → DeclaresWritten (policy_on w line ds o e t)
+policy ds w line (Some s) e t h = h
+policy ds w line None None t h = tt
+policy ds w line None (Some p) t h = begun (one_more ds (definition w p line)) t (pushed ds (definition w p line) h tt)
+
+declares : (p : Phase) (ds : List Declaration) (t : Terminal) → IsSmall t → All IsWritten ds → DeclaresWritten (next_reading p ds t)
+declares between ds t q h = begun ds t h
+declares field_read ds t q h = by_word (name_in t) (λ w. reading (field_named w) ds) (λ w. h)
+declares (field_named w) ds t q h =
+    by_number (number_in t) (λ n. reading between (one_more ds (field w n))) (λ n e. pushed ds (field w n) h (a_small_number t n e q))
+declares tag_read ds t q h = by_word (name_in t) (λ w. reading between (one_more ds (tag w))) (λ w. pushed ds (tag w) h tt)
+declares switch_read ds t q h = by_number (number_in t) (λ n. reading (switch_numbered n) ds) (λ n e. h)
+declares (switch_numbered n) ds t q h = by_test (is_ports t) (Some (reading (port_wanted n []) ds)) None h tt
+declares (port_wanted n ps) ds t q h = by_number (number_in t) (λ p. reading (port_read n (ps ++ p ∷ [])) ds) (λ p e. h)
+declares (port_read n ps) ds t q h =
+    by_test (is_comma t) (Some (reading (port_wanted n ps) ds)) (begin_declaration (one_more ds (switch n ps)) t) h
+    (begun (one_more ds (switch n ps)) t (pushed ds (switch n ps) h tt))
+declares (link_read x) ds t q h = linked ds (quad_step false x t) h
+declares (let_read line) ds t q h = by_word (name_in t) (λ w. reading (let_named w line) ds) (λ w. h)
+declares (let_named w line) ds t q h = by_test (is_equal t) (Some (reading (in_policy w line start) ds)) None h tt
+declares (in_policy w line s) ds t q h = policy ds w line (step s t) (ended s) t h
+
+-- the positions that are read are numbers of a text
+abbrev HasSmallPositions : CertifiedPhase → Type 0
+HasSmallPositions (numbers_read line ns) = All (λ n. n ≤ largest) ns
+HasSmallPositions (in_row line ns s) = All (λ n. n ≤ largest) ns
+HasSmallPositions p = ⊤
+
+abbrev IsWrittenSoFar : CertifiedPhase → List Declaration → List Row → Type 0
+IsWrittenSoFar p ds rs = All IsWritten ds × All IsWrittenRow rs × HasSmallPositions p
+
+certificate_written : (rs : List Row) (ds : List Declaration) (p : Phase) → All IsWritten ds → All IsWrittenRow rs
+    → OfState IsWrittenSoFar (certificate_begins rs (text_ended p ds))
+certificate_written rs ds between h i = (h, i, tt)
+certificate_written rs ds field_read h i = tt
+certificate_written rs ds (field_named w) h i = tt
+certificate_written rs ds tag_read h i = tt
+certificate_written rs ds switch_read h i = tt
+certificate_written rs ds (switch_numbered n) h i = tt
+certificate_written rs ds (port_wanted n ps) h i = tt
+certificate_written rs ds (port_read n ps) h i = (pushed ds (switch n ps) h tt, i, tt)
+certificate_written rs ds (link_read q) h i = tt
+certificate_written rs ds (let_read line) h i = tt
+certificate_written rs ds (let_named w line) h i = tt
+certificate_written rs ds (in_policy w line s) h i = by_end (ended s)
+  where
+    by_end : (o : Option Tree) → OfState IsWrittenSoFar (certificate_begins rs (option_map (λ p. one_more ds (definition w p line)) o))
+    by_end None = tt
+    by_end (Some p) = (pushed ds (definition w p line) h tt, i, tt)
+
+still_written : (rs : List Row) (o : Option Reading) → DeclaresWritten o → All IsWrittenRow rs → OfState IsWrittenSoFar (still_declaring rs o)
+still_written rs None h i = tt
+still_written rs (Some r) h i = (h, i, tt)
+
+row_written : (ds : List Declaration) (rs : List Row) (ns : List ℕ) (line : ℕ) (o : Option State) (e : Option Tree) (t : Terminal)
+    → All IsWritten ds → All IsWrittenRow rs → All (λ n. n ≤ largest) ns → OfState IsWrittenSoFar (row_on ds rs ns line o e t)
+row_written ds rs ns line (Some s) e t h i j = (h, i, j)
+row_written ds rs ns line None None t h i j = tt
+row_written ds rs ns line None (Some p) t h i j =
+    line_kept IsWrittenSoFar (row_in t) (λ l. certifying (number_wanted l) ds (rs ++ row ns p line ∷ []))
+    (λ l. (h, All-push IsWrittenRow rs (row ns p line) i j, tt))
+
+numbers_kept : IsKeptBy IsSmall IsWrittenSoFar
+numbers_kept (declaring r) ds rs t q h =
+    test_kept IsWrittenSoFar (is_certificate t) (certificate_begins rs (text_ended r.phase ds)) (still_declaring rs (next_reading r.phase ds t))
+    (certificate_written rs ds r.phase h.0 h.1) (still_written rs (next_reading r.phase ds t) (declares r.phase ds t q h.0) h.1)
+numbers_kept row_wanted ds rs t q h = line_kept IsWrittenSoFar (row_in t) (λ l. certifying (start_wanted l) ds rs) (λ l. (h.0, h.1, tt))
+numbers_kept (start_wanted line) ds rs t q h =
+    test_kept IsWrittenSoFar (is_start_word t) (Some (certifying (start_read line) ds rs)) None (h.0, h.1, tt) tt
+numbers_kept (start_read line) ds rs t q h =
+    test_kept IsWrittenSoFar (is_colon t) (Some (certifying (in_row line [] start) ds rs)) None (h.0, h.1, All-nil (λ n. n ≤ largest)) tt
+numbers_kept (number_wanted line) ds rs t q h =
+    number_kept IsWrittenSoFar (number_in t) (λ n. certifying (numbers_read line (n.value ∷ [])) ds rs)
+    (λ n e. (h.0, h.1, All-cons (λ n. n ≤ largest) n.value [] (a_small_number t n e q) (All-nil (λ n. n ≤ largest))))
+numbers_kept (numbers_read line ns) ds rs t q h =
+    test_kept IsWrittenSoFar (is_colon t) (Some (certifying (in_row line ns start) ds rs))
+    (in_option (number_in t) None (λ m. Some (certifying (numbers_read line (ns ++ m.value ∷ [])) ds rs))) (h.0, h.1, h.2)
+    (number_kept IsWrittenSoFar (number_in t) (λ m. certifying (numbers_read line (ns ++ m.value ∷ [])) ds rs)
+    (λ m e. (h.0, h.1, All-push (λ n. n ≤ largest) ns m.value h.2 (a_small_number t m e q))))
+numbers_kept (in_row line ns s) ds rs t q h = row_written ds rs ns line (step s t) (ended s) t h.0 h.1 h.2
+
+-- ---- the start row
+
+-- there is a first row, and it is the start row
+abbrev HasStart : List Row → Type 0
+HasStart [] = ⊥
+HasStart (row ns p line ∷ rs) = ns ≡ []
+
+-- the first row is the start row, also where it is being read
+abbrev IsStarted : CertifiedPhase → List Declaration → List Row → Type 0
+IsStarted (declaring r) ds rs = rs ≡ []
+IsStarted row_wanted ds rs = rs ≡ []
+IsStarted (start_wanted line) ds rs = rs ≡ []
+IsStarted (start_read line) ds rs = rs ≡ []
+IsStarted (number_wanted line) ds rs = HasStart rs
+IsStarted (numbers_read line ns) ds rs = HasStart rs
+IsStarted (in_row line ns s) ds rs = (p : Tree) → HasStart (rs ++ row ns p line ∷ [])
+
+has_start_with : (rs qs : List Row) → HasStart rs → HasStart (rs ++ qs)
+has_start_with [] qs h = absurd h
+has_start_with (row ns p line ∷ rs) qs h = h
+
+certificate_started : (rs : List Row) (o : Option (List Declaration)) → rs ≡ [] → OfState IsStarted (certificate_begins rs o)
+certificate_started rs None h = tt
+certificate_started rs (Some ds) h = h
+
+still_started : (rs : List Row) (o : Option Reading) → rs ≡ [] → OfState IsStarted (still_declaring rs o)
+still_started rs None h = tt
+still_started rs (Some r) h = h
+
+row_started : (ds : List Declaration) (rs : List Row) (ns : List ℕ) (line : ℕ) (o : Option State) (e : Option Tree) (t : Terminal)
+    → ((p : Tree) → HasStart (rs ++ row ns p line ∷ [])) → OfState IsStarted (row_on ds rs ns line o e t)
+row_started ds rs ns line (Some s) e t h = h
+row_started ds rs ns line None None t h = tt
+row_started ds rs ns line None (Some p) t h =
+    line_kept IsStarted (row_in t) (λ l. certifying (number_wanted l) ds (rs ++ row ns p line ∷ [])) (λ l. h p)
+
+start_kept : IsKeptBy (λ t. ⊤) IsStarted
+start_kept (declaring r) ds rs t q h =
+    test_kept IsStarted (is_certificate t) (certificate_begins rs (text_ended r.phase ds)) (still_declaring rs (next_reading r.phase ds t))
+    (certificate_started rs (text_ended r.phase ds) h) (still_started rs (next_reading r.phase ds t) h)
+start_kept row_wanted ds rs t q h = line_kept IsStarted (row_in t) (λ l. certifying (start_wanted l) ds rs) (λ l. h)
+start_kept (start_wanted line) ds rs t q h = test_kept IsStarted (is_start_word t) (Some (certifying (start_read line) ds rs)) None h tt
+start_kept (start_read line) ds rs t q h =
+    test_kept IsStarted (is_colon t) (Some (certifying (in_row line [] start) ds rs)) None
+    (λ p. subst (λ l. HasStart (l ++ row [] p line ∷ [])) (sym h) refl) tt
+start_kept (number_wanted line) ds rs t q h =
+    number_kept IsStarted (number_in t) (λ n. certifying (numbers_read line (n.value ∷ [])) ds rs) (λ n e. h)
+start_kept (numbers_read line ns) ds rs t q h =
+    test_kept IsStarted (is_colon t) (Some (certifying (in_row line ns start) ds rs))
+    (in_option (number_in t) None (λ m. Some (certifying (numbers_read line (ns ++ m.value ∷ [])) ds rs)))
+    (λ p. has_start_with rs (row ns p line ∷ []) h)
+    (number_kept IsStarted (number_in t) (λ m. certifying (numbers_read line (ns ++ m.value ∷ [])) ds rs) (λ m e. h))
+start_kept (in_row line ns s) ds rs t q h = row_started ds rs ns line (step s t) (ended s) t h
+
+-- what is done begins with the start row
+begins_with : (rs : List Row) → HasStart rs → BeginsWithStart rs
+begins_with [] h = tt
+begins_with (row ns p line ∷ rs) h = h
+
+begins_before : (rs qs : List Row) → HasStart (rs ++ qs) → BeginsWithStart rs
+begins_before [] qs h = tt
+begins_before (row ns p line ∷ rs) qs h = h
+
+begins_so : (p : CertifiedPhase) (ds : List Declaration) (rs : List Row) → IsStarted p ds rs → BeginsWithStart rs
+begins_so (declaring r) ds rs h = subst BeginsWithStart (sym h) tt
+begins_so row_wanted ds rs h = subst BeginsWithStart (sym h) tt
+begins_so (start_wanted line) ds rs h = subst BeginsWithStart (sym h) tt
+begins_so (start_read line) ds rs h = subst BeginsWithStart (sym h) tt
+begins_so (number_wanted line) ds rs h = begins_with rs h
+begins_so (numbers_read line ns) ds rs h = begins_with rs h
+begins_so (in_row line ns s) ds rs h = begins_before rs (row ns dup line ∷ []) (h dup)
+
+-- ---- what is read
+
+any_terminals : (ts : List Terminal) → All (λ t. ⊤) ts
+any_terminals ts i d lt = tt
+
+started : (ts : List Token) (ds : List Declaration) (rs : List Row) (p : CertifiedProgress) → IsRead ts ds rs p → BeginsWithStart rs
+started ts ds rs p h =
+    by p (subst (OfSoFar IsStarted) h (after_all (λ t. ⊤) IsStarted start_kept ts nothing_so_far (any_terminals (terminals ts)) refl))
+  where
+    by : (p : CertifiedProgress) → OfProgress IsStarted p ds rs → BeginsWithStart rs
+    by (Going x line) k = begins_so x ds rs k
+    by (Stopped e) k = begins_so k.0 ds rs k.1
+
+written : (ts : List Token) (ds : List Declaration) (rs : List Row) (p : CertifiedProgress) → IsRead ts ds rs p
+    → All (λ t. t.value ≤ largest) ts → All IsWritten ds × All IsWrittenRow rs
+written ts ds rs p h v =
+    by p (subst (OfSoFar IsWrittenSoFar) h
+    (after_all IsSmall IsWrittenSoFar numbers_kept ts nothing_so_far (are_small ts v) (All-nil IsWritten, All-nil IsWrittenRow, tt)))
+  where
+    by : (p : CertifiedProgress) → OfProgress IsWrittenSoFar p ds rs → All IsWritten ds × All IsWrittenRow rs
+    by (Going x line) k = (k.0, k.1)
+    by (Stopped e) k = (k.1.0, k.1.1)
+
+pub completes_written : CompletesWritten
+completes_written ts ds rs p h = (started ts ds rs p h, λ v. written ts ds rs p h v)
+
+-- the last of a list
+pub last_has : {X : Type 0} (P : X → Type 0) (xs : List X) (x : X) → All P (xs ++ x ∷ []) → P x
+last_has P [] x h = h 0 x (omega arith)
+last_has P (y ∷ xs) x h = last_has P xs x (All-tail P y (xs ++ x ∷ []) h)
+
+-- what one more token completes
+pub part_written : (ts : List Token) (ds : List Declaration) (rs : List Row) (p : CertifiedProgress) (o : Option Completed)
+    → All (λ t. t.value ≤ largest) ts → IsRead ts (ds ++ declarations_by o) (rs ++ rows_by o) p → IsWrittenPart o
+part_written ts ds rs p None v h = tt
+part_written ts ds rs p (Some (completed.Declaration d)) v h =
+    last_has IsWritten ds (declaration_of d) (written ts (ds ++ declaration_of d ∷ []) (rs ++ []) p h v).0
+part_written ts ds rs p (Some (completed.Row r)) v h =
+    last_has IsWrittenRow rs (row_value r) (written ts (ds ++ []) (rs ++ row_value r ∷ []) p h v).1

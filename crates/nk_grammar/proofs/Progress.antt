@@ -1,0 +1,258 @@
+-- Reading token by token: what is known, and what is done.
+use Rattle.std.proofs.Common.{◌≡◌, ℕ, List, [], ◌∷◌, ◌++◌, Bool, true, false, refl, ap, sym, subst, ◌∙◌, append-nil, Option}
+use Rattle.std.proofs.lemmas.List.Sums.{fold-append}
+use Rattle.std.specs.Prelude.{Some, None, Ok, Err, IfOk, fold, option_map, if◌then◌else◌, nat_le, ⊤}
+use Rattle.std.specs.declared.result.Result.{Result}
+use Rattle.nk_lex.specs.declared.token.Token.{Token}
+use Rattle.nk_lex.specs.declared.word.Number.{Number}
+use Rattle.nk_lex.specs.Faults.{and_then}
+use Rattle.nk_grammar.specs.declared.decl.CertRow.{CertRow}
+use Rattle.nk_grammar.specs.declared.decl.GrammarError.{GrammarError}
+use Rattle.nk_grammar.specs.declared.decl.GrammarError.TheVariants as error
+use Rattle.nk_grammar.specs.declared.certified.CertifiedStage.{CertifiedStage}
+use Rattle.nk_grammar.specs.declared.certified.CertifiedStage.TheVariants as stage
+use Rattle.nk_grammar.specs.Terminal.{Terminal, terminal_of, is_colon}
+use Rattle.nk_grammar.specs.Tree.{Tree}
+use Rattle.nk_grammar.specs.Machine.{State, start, step, ended, in_option, number_in}
+use Rattle.nk_grammar.specs.File.{Declaration}
+use Rattle.nk_grammar.specs.FileMachine.{Phase, Reading, Returns, next_reading, text_ended}
+use Rattle.nk_grammar.specs.Certified.{Row, row, row_value, Certified, certified}
+use Rattle.nk_grammar.specs.CertifiedMachine.{CertifiedPhase, declaring, row_wanted, start_wanted, start_read, number_wanted, numbers_read, in_row, Certifying, certifying, is_certificate, is_start_word, row_in, in_line, certificate_begins, still_declaring, row_on, certify_one, first_certifying, certificate_ends, open_certified, judged_certified, certified_end_at, rest_of_certified, certified_of}
+use Rattle.nk_grammar.specs.CertifiedReader.{certified_phase_of}
+use Rattle.nk_grammar.specs.CertifiedProgress.{CertifiedProgress, Going, Stopped, bare, with_done, done_declarations, SoFar, so_far, nothing_so_far, so_far_at, so_far_judged, so_far_after, IsRead, certified_so_far, ReadsCertifiedAsWhole}
+use Rattle.nk_grammar.proofs.Behind.{behind, certify_behind}
+
+-- what the machine's state says that is put together
+pub at_done : (x : CertifiedStage) (p : Phase) (s : State) (ds : List Declaration) (rs : List Row) (line : ℕ)
+    → so_far_at (with_done (certified_phase_of x p s) ds rs) line ≡ so_far (Going (certified_phase_of x p s) line) ds rs
+at_done stage.Declaring p s ds rs line = refl
+at_done stage.RowWanted p s ds rs line = refl
+at_done (stage.StartWanted l) p s ds rs line = refl
+at_done (stage.StartRead l) p s ds rs line = refl
+at_done (stage.NumberWanted l) p s ds rs line = refl
+at_done (stage.NumbersRead l ns) p s ds rs line = refl
+at_done (stage.InRow l ns) p s ds rs line = refl
+
+-- ---- behind further declarations and rows
+
+-- the same behind further declarations and rows
+abbrev so_far_behind : List Declaration → List Row → SoFar → SoFar
+so_far_behind ds rs s = so_far s.progress (ds ++ s.declarations) (rs ++ s.rows)
+
+-- nothing is done but what was before
+nothing_behind : (p : CertifiedProgress) (ds : List Declaration) (rs : List Row) → so_far p ds rs ≡ so_far_behind ds rs (so_far p [] [])
+nothing_behind p ds rs = ap (λ l. so_far p l rs) (sym (append-nil ds)) ∙ ap (λ l. so_far p (ds ++ []) l) (sym (append-nil rs))
+
+-- the same is open
+open_behind : (ds : List Declaration) (rs : List Row) (p : CertifiedPhase) (es : List Declaration) (qs : List Row)
+    → open_certified (behind ds rs (certifying p es qs)) ≡ open_certified (certifying p es qs)
+open_behind ds rs (declaring r) es qs = refl
+open_behind ds rs row_wanted es qs = refl
+open_behind ds rs (start_wanted line) es qs = refl
+open_behind ds rs (start_read line) es qs = refl
+open_behind ds rs (number_wanted line) es qs = refl
+open_behind ds rs (numbers_read line ns) es qs = refl
+open_behind ds rs (in_row line ns s) es qs = refl
+
+-- the same is said of it
+at_behind : (ds : List Declaration) (rs : List Row) (p : CertifiedPhase) (es : List Declaration) (qs : List Row) (line : ℕ)
+    → so_far_at (behind ds rs (certifying p es qs)) line ≡ so_far_behind ds rs (so_far_at (certifying p es qs) line)
+at_behind ds rs (declaring r) es qs line = refl
+at_behind ds rs row_wanted es qs line = refl
+at_behind ds rs (start_wanted l) es qs line = refl
+at_behind ds rs (start_read l) es qs line = refl
+at_behind ds rs (number_wanted l) es qs line = refl
+at_behind ds rs (numbers_read l ns) es qs line = refl
+at_behind ds rs (in_row l ns s) es qs line = refl
+
+-- what a token leads to
+judged_behind : (p : CertifiedProgress) (ds : List Declaration) (rs : List Row) (at : ℕ) (o : Option Certifying)
+    → so_far_judged (judged_certified at (option_map (behind ds rs) o)) (so_far p ds rs) at
+    ≡ so_far_behind ds rs (so_far_judged (judged_certified at o) (so_far p [] []) at)
+judged_behind p ds rs at None = nothing_behind (Stopped (error.Unexpected at)) ds rs
+judged_behind p ds rs at (Some c) =
+    ap (λ n. so_far_judged (if nat_le n 256 then Ok (behind ds rs c) else Err (error.TooDeep at)) (so_far p ds rs) at)
+    (open_behind ds rs c.phase c.declarations c.rows)
+    ∙ by_count (nat_le (open_certified c) 256)
+  where
+    by_count : (b : Bool) → so_far_judged (if b then Ok (behind ds rs c) else Err (error.TooDeep at)) (so_far p ds rs) at
+        ≡ so_far_behind ds rs (so_far_judged (if b then Ok c else Err (error.TooDeep at)) (so_far p [] []) at)
+    by_count true = at_behind ds rs c.phase c.declarations c.rows at
+    by_count false = nothing_behind (Stopped (error.TooDeep at)) ds rs
+
+-- one more token
+after_behind : (p : CertifiedProgress) (ds : List Declaration) (rs : List Row) (t : Token)
+    → so_far_after (so_far p ds rs) t ≡ so_far_behind ds rs (so_far_after (so_far p [] []) t)
+after_behind (Stopped e) ds rs t = nothing_behind (Stopped e) ds rs
+after_behind (Going p line) ds rs t =
+    ap (λ l. so_far_judged (judged_certified t.line (certify_one (with_done p l rs) (terminal_of t))) (so_far (Going p line) ds rs) t.line) (sym (append-nil ds))
+    ∙ ap (λ l. so_far_judged (judged_certified t.line (certify_one (with_done p (ds ++ []) l) (terminal_of t))) (so_far (Going p line) ds rs) t.line) (sym (append-nil rs))
+    ∙ ap (λ o. so_far_judged (judged_certified t.line o) (so_far (Going p line) ds rs) t.line) (certify_behind ds [] rs [] p (terminal_of t))
+    ∙ judged_behind (Going p line) ds rs t.line (certify_one (with_done p [] []) (terminal_of t))
+
+-- a further token is read
+pub one_more_read : (ts : List Token) (ds es : List Declaration) (rs qs : List Row) (p q : CertifiedProgress) (t : Token)
+    → so_far_after (so_far p [] []) t ≡ so_far q es qs → IsRead ts ds rs p → IsRead (ts ++ t ∷ []) (ds ++ es) (rs ++ qs) q
+one_more_read ts ds es rs qs p q t e h =
+    fold-append so_far_after nothing_so_far ts (t ∷ []) ∙ ap (λ s. so_far_after s t) h ∙ after_behind p ds rs t ∙ ap (so_far_behind ds rs) e
+
+-- what holds of a value that is there
+pub on_ok : {T E : Type 0} {P Q : T → Type 0} (r : Result T E) → ((x : T) → P x → Q x) → IfOk r P → IfOk r Q
+on_ok (Ok x) f h = f x h
+on_ok (Err e) f h = tt
+
+-- ---- the end
+
+end_behind : (p : CertifiedProgress) (ds : List Declaration) (rs : List Row) (r : Row) → certified_so_far p [] [] ≡ Ok (certified [] (r ∷ []))
+    → certified_so_far p ds rs ≡ Ok (certified ds (rs ++ r ∷ []))
+end_behind (Stopped e) ds rs r h = absurd cc
+end_behind (Going (declaring x) line) ds rs r h = absurd cc
+end_behind (Going row_wanted line) ds rs r h = absurd cc
+end_behind (Going (start_wanted l) line) ds rs r h = absurd cc
+end_behind (Going (start_read l) line) ds rs r h = absurd cc
+end_behind (Going (number_wanted l) line) ds rs r h = absurd cc
+end_behind (Going (numbers_read l ns) line) ds rs r h = absurd cc
+end_behind (Going (in_row l ns s) line) ds rs r h = by_end (ended s) h
+  where
+    first : (x y : Row) → ◌≡◌ {A = Result Certified GrammarError} (Ok (certified [] (x ∷ []))) (Ok (certified [] (y ∷ []))) → x ≡ y
+    first x y e = first_row (certified [] (x ∷ [])) (certified [] (y ∷ [])) x y (same (certified [] (x ∷ [])) (certified [] (y ∷ [])) e) refl refl
+      where
+        same : (a b : Certified) → ◌≡◌ {A = Result Certified GrammarError} (Ok a) (Ok b) → a ≡ b
+        same a b e = cc
+
+        heads : (x y : Row) → x ∷ [] ≡ y ∷ [] → x ≡ y
+        heads x y e = cc
+
+        first_row : (a b : Certified) (x y : Row) → a ≡ b → a.rows ≡ x ∷ [] → b.rows ≡ y ∷ [] → x ≡ y
+        first_row a b x y e f g = heads x y (sym f ∙ ap (λ c. c.rows) e ∙ g)
+
+    by_end : (o : Option Tree) → certified_end_at line (certificate_ends [] [] ns l o) ≡ Ok (certified [] (r ∷ []))
+        → certified_end_at line (certificate_ends ds rs ns l o) ≡ Ok (certified ds (rs ++ r ∷ []))
+    by_end None e = absurd cc
+    by_end (Some q) e = ap (λ x. Ok (certified ds (rs ++ x ∷ []))) (first (row ns q l) r e)
+
+fault_behind : (p : CertifiedProgress) (ds : List Declaration) (rs : List Row) (f : GrammarError) → certified_so_far p [] [] ≡ Err f
+    → certified_so_far p ds rs ≡ Err f
+fault_behind (Stopped e) ds rs f h = again e h
+  where
+    again : (g : GrammarError) → ◌≡◌ {A = Result Certified GrammarError} (Err g) (Err f) → ◌≡◌ {A = Result Certified GrammarError} (Err g) (Err f)
+    again g e = e
+fault_behind (Going (declaring x) line) ds rs f h = h
+fault_behind (Going row_wanted line) ds rs f h = h
+fault_behind (Going (start_wanted l) line) ds rs f h = h
+fault_behind (Going (start_read l) line) ds rs f h = h
+fault_behind (Going (number_wanted l) line) ds rs f h = h
+fault_behind (Going (numbers_read l ns) line) ds rs f h = h
+fault_behind (Going (in_row l ns s) line) ds rs f h = by_end (ended s) h
+  where
+    by_end : (o : Option Tree) → certified_end_at line (certificate_ends [] [] ns l o) ≡ Err f
+        → certified_end_at line (certificate_ends ds rs ns l o) ≡ Err f
+    by_end None e = e
+    by_end (Some q) e = absurd cc
+
+-- the last row, or the fault
+returns_behind : (p : CertifiedProgress) (ds : List Declaration) (rs : List Row) (r : Result CertRow GrammarError)
+    → Returns (λ x. certified [] (row_value x ∷ [])) r (certified_so_far p [] [])
+    → Returns (λ x. certified ds (rs ++ row_value x ∷ [])) r (certified_so_far p ds rs)
+returns_behind p ds rs (Ok x) h = end_behind p ds rs (row_value x) h
+returns_behind p ds rs (Err error.NoMemory) h = tt
+returns_behind p ds rs (Err (error.Unexpected at)) h = fault_behind p ds rs (error.Unexpected at) h
+returns_behind p ds rs (Err (error.TooDeep at)) h = fault_behind p ds rs (error.TooDeep at) h
+
+-- ---- the whole
+
+-- the machine's state by what it says
+abbrev pub IsTidy : Certifying → Type 0
+IsTidy c = with_done (bare c.phase) (done_declarations c.phase c.declarations) c.rows ≡ c
+
+abbrev pub AreTidy : Option Certifying → Type 0
+AreTidy None = ⊤
+AreTidy (Some c) = IsTidy c
+
+line_tidy : (o : Option ℕ) (f : ℕ → Certifying) → ((l : ℕ) → IsTidy (f l)) → AreTidy (in_line o None (λ l. Some (f l)))
+line_tidy None f h = tt
+line_tidy (Some l) f h = h l
+
+number_tidy : (o : Option Number) (f : Number → Certifying) → ((n : Number) → IsTidy (f n)) → AreTidy (in_option o None (λ n. Some (f n)))
+number_tidy None f h = tt
+number_tidy (Some n) f h = h n
+
+test_tidy : (b : Bool) (x y : Option Certifying) → AreTidy x → AreTidy y → AreTidy (if b then x else y)
+test_tidy true x y h i = h
+test_tidy false x y h i = i
+
+row_tidy : (ds : List Declaration) (rs : List Row) (ns : List ℕ) (line : ℕ) (o : Option State) (e : Option Tree) (t : Terminal)
+    → AreTidy (row_on ds rs ns line o e t)
+row_tidy ds rs ns line (Some s) e t = refl
+row_tidy ds rs ns line None None t = tt
+row_tidy ds rs ns line None (Some p) t =
+    line_tidy (row_in t) (λ l. certifying (number_wanted l) ds (rs ++ row ns p line ∷ [])) (λ l. refl)
+
+begins_tidy : (rs : List Row) (o : Option (List Declaration)) → AreTidy (certificate_begins rs o)
+begins_tidy rs None = tt
+begins_tidy rs (Some ds) = refl
+
+still_tidy : (rs : List Row) (o : Option Reading) → AreTidy (still_declaring rs o)
+still_tidy rs None = tt
+still_tidy rs (Some r) = refl
+
+pub tidy : (p : CertifiedPhase) (ds : List Declaration) (rs : List Row) (t : Terminal) → AreTidy (certify_one (with_done p ds rs) t)
+tidy (declaring r) ds rs t =
+    test_tidy (is_certificate t) (certificate_begins rs (text_ended r.phase ds)) (still_declaring rs (next_reading r.phase ds t))
+    (begins_tidy rs (text_ended r.phase ds)) (still_tidy rs (next_reading r.phase ds t))
+tidy row_wanted ds rs t = line_tidy (row_in t) (λ l. certifying (start_wanted l) ds rs) (λ l. refl)
+tidy (start_wanted line) ds rs t = test_tidy (is_start_word t) (Some (certifying (start_read line) ds rs)) None refl tt
+tidy (start_read line) ds rs t = test_tidy (is_colon t) (Some (certifying (in_row line [] start) ds rs)) None refl tt
+tidy (number_wanted line) ds rs t = number_tidy (number_in t) (λ n. certifying (numbers_read line (n.value ∷ [])) ds rs) (λ n. refl)
+tidy (numbers_read line ns) ds rs t =
+    test_tidy (is_colon t) (Some (certifying (in_row line ns start) ds rs))
+    (in_option (number_in t) None (λ m. Some (certifying (numbers_read line (ns ++ m.value ∷ [])) ds rs))) refl
+    (number_tidy (number_in t) (λ m. certifying (numbers_read line (ns ++ m.value ∷ [])) ds rs) (λ m. refl))
+tidy (in_row line ns s) ds rs t = row_tidy ds rs ns line (step s t) (ended s) t
+
+-- what the state says is the state
+pub tidied : (c : Certifying) (o : Option Certifying) → o ≡ Some c → AreTidy o → IsTidy c
+tidied c o e h = subst AreTidy e h
+
+-- what is known at the end
+abbrev end_of : SoFar → Result Certified GrammarError
+end_of s = certified_so_far s.progress s.declarations s.rows
+
+stays : (ts : List Token) (e : GrammarError) (ds : List Declaration) (rs : List Row)
+    → end_of (fold so_far_after (so_far (Stopped e) ds rs) ts) ≡ Err e
+stays [] e ds rs = refl
+stays (t ∷ ts) e ds rs = stays ts e ds rs
+
+rest_is : (ts : List Token) (p : CertifiedPhase) (line : ℕ) (ds : List Declaration) (rs : List Row)
+    → end_of (fold so_far_after (so_far (Going p line) ds rs) ts) ≡ rest_of_certified ts (with_done p ds rs) line
+rest_is [] p line ds rs = refl
+rest_is (t ∷ ts) p line ds rs = by_step (certify_one (with_done p ds rs) (terminal_of t)) (tidy p ds rs (terminal_of t)) (λ q l es qs. rest_is ts q l es qs)
+  where
+    by_step : (o : Option Certifying) → AreTidy o
+        → ((q : CertifiedPhase) (l : ℕ) (es : List Declaration) (qs : List Row)
+        → end_of (fold so_far_after (so_far (Going q l) es qs) ts) ≡ rest_of_certified ts (with_done q es qs) l)
+        → end_of (fold so_far_after (so_far_judged (judged_certified t.line o) (so_far (Going p line) ds rs) t.line) ts)
+        ≡ and_then (judged_certified t.line o) (λ c. rest_of_certified ts c t.line)
+    by_step None h ih = stays ts (error.Unexpected t.line) ds rs
+    by_step (Some c) h ih = by_count (nat_le (open_certified c) 256)
+      where
+        by_count : (b : Bool)
+            → end_of (fold so_far_after (so_far_judged (if b then Ok c else Err (error.TooDeep t.line)) (so_far (Going p line) ds rs) t.line) ts)
+            ≡ and_then (if b then Ok c else Err (error.TooDeep t.line)) (λ c. rest_of_certified ts c t.line)
+        by_count true =
+            ih (bare c.phase) t.line (done_declarations c.phase c.declarations) c.rows ∙ ap (λ x. rest_of_certified ts x t.line) h
+        by_count false = stays ts (error.TooDeep t.line) ds rs
+
+-- read token by token, a text with a certificate is what it is as a whole
+pub reads_as_whole : ReadsCertifiedAsWhole
+reads_as_whole ts ds rs p h = sym (ap end_of h) ∙ rest_is ts (declaring_first) 1 [] []
+  where
+    declaring_first : CertifiedPhase
+    declaring_first = first_certifying.phase
+
+-- the end of a reader
+pub ends_as_whole : (ts : List Token) (ds : List Declaration) (rs : List Row) (p : CertifiedProgress) (r : Result CertRow GrammarError) → IsRead ts ds rs p
+    → Returns (λ x. certified [] (row_value x ∷ [])) r (certified_so_far p [] [])
+    → Returns (λ x. certified ds (rs ++ row_value x ∷ [])) r (certified_of ts)
+ends_as_whole ts ds rs p r h e =
+    subst (Returns (λ x. certified ds (rs ++ row_value x ∷ [])) r) (reads_as_whole ts ds rs p h) (returns_behind p ds rs r e)
