@@ -113,24 +113,29 @@ holds false e = absurd cc
 pub has_maximum : (t : FieldTable) (w : List ℕ) (f : ℕ) → IsFieldTable t → field_named t w ≡ Some f → f < length t.maxima
 has_maximum t w f h e = let at = position-Some (bytes_eq w) t.names f [] e in omega (arith, at.0, h.named)
 
+-- a tag without fault makes a field table
+pub table_tagged : (t : FieldTable) (w : Word) → IsFieldTable t → tag_fault t w ≡ None
+    → IsFieldTable (record t { tag = field_named t w.text })
+table_tagged t w h none =
+    let r = none_both _ _ none in
+    record {
+      few = h.few;
+      named = h.named;
+      built_in_names = h.built_in_names;
+      built_in_maxima = h.built_in_maxima;
+      distinct = h.distinct;
+      tag_past_port = λ f e.
+          (from_low 2 (field_named t w.text) f (holds _ (not_wrong _ fault.TagUnknown w.line r.1)) e, has_maximum t w.text f h e);
+    }
+
 -- a writable table with a tag
 tag_more : (t : FieldTable) (w : Word) → IsWritable t → tag_fault t w ≡ None
     → IsWritable (record t { tag = field_named t w.text })
-tag_more t w h none =
-    let r = none_both _ _ none in
-    record {
-      table = record {
-        few = h.table.few;
-        named = h.table.named;
-        built_in_names = h.table.built_in_names;
-        built_in_maxima = h.table.built_in_maxima;
-        distinct = h.table.distinct;
-        tag_past_port = λ f e.
-            (from_low 2 (field_named t w.text) f (holds _ (not_wrong _ fault.TagUnknown w.line r.1)) e, has_maximum t w.text f h.table e);
-      };
-      maxima = h.maxima;
-      names = h.names;
-    }
+tag_more t w h none = record {
+  table = table_tagged t w h.table none;
+  maxima = h.maxima;
+  names = h.names;
+}
 
 -- one more declaration keeps fields that a text can write
 pub fields_kept : (s s' : DeclaredValue) (d : Declaration) → IsWritable s.fields → HasFieldOfText d → declared_with s d ≡ Ok s'

@@ -106,6 +106,23 @@ impl Declared {
         }
     }
 
+    /// One more switch with its ports. The first of these faults is answered: the switch is above 65,535; it is declared
+    /// already; then, port by port, the port is above 65,535 or stands before.
+    pub fn declare_switch(
+        &mut self,
+        alloc: Global,
+        n: Number,
+        ports: &[Number],
+    ) -> Result<(), DeclareError>
+        ensures answer { Returns (λ _. declared_in self.new) result (declared_with (declared_in self.old) (switch n ports.now)) }
+        ensures kept { OnErr result (declared_in self.new ≡ declared_in self.old) }
+    {
+        let number = self.new_switch(n)?;
+        let ports = ports_of(alloc, ports)?;
+        self.add_switch(number, ports.as_slice())?;
+        Ok(())
+    }
+
     /// One more link, from port `m` of switch `a` to port `n` of switch `b`. The first of these faults is answered: one
     /// of the four numbers is above 65,535; the source is no declared port; the target is none; a link begins at the
     /// source already; one ends at the target already.
@@ -133,55 +150,5 @@ impl Declared {
             Err(TopoError::SwitchTwice | TopoError::PortTwice) => unreachable!(),
         };
         Err(DeclareError::Fault { kind, line })
-    }
-
-    /// What is declared with one more field.
-    pub fn with_field(self, w: &Word, n: Number) -> Result<Declared, DeclareError>
-        ensures { Returns declared_in result (declared_with (declared_in self) (field w.now n)) }
-    {
-        let mut said = self;
-        said.add_field(w, n)?;
-        Ok(said)
-    }
-
-    /// What is declared with the tag.
-    pub fn with_tag(self, w: &Word) -> Result<Declared, DeclareError>
-        ensures { Returns declared_in result (declared_with (declared_in self) (tag w.now)) }
-    {
-        let mut said = self;
-        said.add_tag(w.text.as_slice(), w.line)?;
-        Ok(said)
-    }
-
-    /// What is declared with one more switch and its ports. The first of these faults is answered: the switch is above
-    /// 65,535; it is declared already; then, port by port, the port is above 65,535 or stands before.
-    pub fn with_switch(
-        self,
-        alloc: Global,
-        n: Number,
-        ports: &[Number],
-    ) -> Result<Declared, DeclareError>
-        ensures { Returns declared_in result (declared_with (declared_in self) (switch n ports.now)) }
-    {
-        let mut said = self;
-        let number = said.new_switch(n)?;
-        let ports = ports_of(alloc, ports)?;
-        said.add_switch(number, ports.as_slice())?;
-        Ok(said)
-    }
-
-    /// What is declared with one more link, from port `m` of switch `a` to port `n` of switch `b`.
-    pub fn with_link(
-        self,
-        a: Number,
-        m: Number,
-        b: Number,
-        n: Number,
-    ) -> Result<Declared, DeclareError>
-        ensures { Returns declared_in result (declared_with (declared_in self) (link a m b n)) }
-    {
-        let mut said = self;
-        said.add_link(a, m, b, n)?;
-        Ok(said)
     }
 }
