@@ -1,59 +1,29 @@
 -- From declaration to declaration: what is said after all of them, and what stays true of the policies.
-use Rattle.std.proofs.Common.{◌≡◌, ℕ, suc, ◌+◌, ◌<◌, ◌≤◌, None, Ok, List, [], ◌∷◌, ◌++◌, length, get_or, drop, map, refl, sym, ap, subst, ◌∙◌, arith, length-append}
+use Rattle.std.proofs.Common.{◌≡◌, ℕ, ◌≤◌, None, Ok, Err, List, [], ◌∷◌, ◌++◌, get_or, refl, subst, arith, length-append}
 use Rattle.std.specs.declared.result.Result.{Result}
 use Rattle.std.specs.Prelude.{slice_index, All}
 use Rattle.std.proofs.lemmas.List.{get_or_append_left}
-use Rattle.std.proofs.lemmas.List.Elements.{All-push}
-use Rattle.nk_field.specs.Packet.{FieldTable, IsFieldTable, IsValue, field_named, with_field}
+use Rattle.std.proofs.lemmas.List.Elements.{All-nil, All-push, recursion_from_All}
+use Rattle.nk_field.specs.Packet.{FieldTable, IsFieldTable, IsValue, built_in, field_named, with_field}
 use Rattle.nk_policy.specs.Policy.{Policy, marked_from}
 use Rattle.nk_lex.specs.declared.word.Word.{Word}
 use Rattle.nk_lex.specs.Faults.{and_then}
-use Rattle.nk_grammar.specs.declared.decl.Decl.{Decl}
 use Rattle.nk_grammar.specs.Tree.{Tree}
-use Rattle.nk_grammar.specs.File.{Declaration, field, tag, switch, declared_link, definition, declaration_of, IsWritten}
+use Rattle.nk_grammar.specs.File.{Declaration, field, tag, switch, declared_link, definition, IsWritten}
 use Rattle.nk_names.specs.declared.fault.NamesError.{NamesError}
+use Rattle.nk_names.specs.Declaring.{HasLets}
 use Rattle.nk_names.specs.Meant.{Lets, policy_for}
-use Rattle.nk_names.specs.ProgramOf.{Said, declared_part, said_with, said_after, let_fault}
+use Rattle.nk_names.specs.ProgramOf.{Said, nothing_said, declared_part, said_with, said_after, program_of, let_fault}
 use Rattle.nk_names.specs.ProgramValue.{IsLet}
 use Rattle.nk_policy.specs.Ranges.{IsOver}
 use Rattle.nk_names.specs.Complements.{NegatesPredicates}
 use Rattle.nk_declare.specs.Declarations.{DeclaredValue, declared_with}
 use Rattle.nk_declare.specs.Declarations as declare
-use Rattle.nk_declare.proofs.Kept.{unless_ok}
-use Rattle.nk_names.proofs.Beside.{beside, beside_is}
-use Rattle.nk_declare.proofs.Places.{rest_is}
-use Rattle.nk_names.proofs.Places.{image_at}
+use Rattle.nk_declare.proofs.Kept.{unless_ok, built_in_writable, table_more, table_tagged}
+use Rattle.nk_names.proofs.Beside.{beside, beside_is, all_said}
 use Rattle.nk_names.proofs.Good.{marked_again, size_marked, depth_marked, over_marked, over_in_range, negates_marked, over_more}
 use Rattle.nk_names.proofs.Declarations.{faultless}
 use Rattle.nk_names.proofs.Meanings.{over_meant, negates_meant}
-
--- what is left of the declarations begins with the one at the place
-rest_declared : (ds : List Decl) (i : ℕ) (d : Decl) → i < length ds → d ≡ get_or ds i d
-    → map declaration_of (drop i ds) ≡ declaration_of d ∷ map declaration_of (drop (i + 1) ds)
-rest_declared ds i d lt is = ap (map declaration_of) (rest_is ds i d d lt is)
-
--- after a declaration without fault the rest says the same
-pub said_more : (ds : List Decl) (i : ℕ) (d : Decl) (s s' : Said) (all : Result Said NamesError) → i < length ds → d ≡ get_or ds i d
-    → said_with s (declaration_of d) ≡ Ok s' → said_after (map declaration_of (drop i ds)) s ≡ all
-    → said_after (map declaration_of (drop (i + 1) ds)) s' ≡ all
-said_more ds i d s s' all lt is e h =
-    sym (ap (λ l. said_after l s) (rest_declared ds i d lt is) ∙ ap (λ r. and_then r (said_after (map declaration_of (drop (i + 1) ds)))) e) ∙ h
-
--- each declaration is written as the grammar has it
-pub written_at : (ds : List Decl) (i : ℕ) (d : Decl) → All IsWritten (map declaration_of ds) → i < length ds → d ≡ get_or ds i d → IsWritten (declaration_of d)
-written_at ds i d h lt is =
-    let s = declaration_of d in
-    subst IsWritten (image_at declaration_of ds i d s lt ∙ ap declaration_of (sym is))
-    (h i s (omega (arith, lt, length_is declaration_of ds)))
-  where
-    length_is : {A B : Type 0} (f : A → B) (xs : List A) → length (map f xs) ≡ length xs
-    length_is f [] = refl
-    length_is f (x ∷ xs) = ap suc (length_is f xs)
-
--- the largest values are numbers of a text, and the policies are those of a program
-pub record HasLets (s : Said) : Type 0 where
-  pub maxima : All (λ m. m ≤ 281474976710655) s.fields.maxima
-  pub policies : All (λ l. IsLet s.fields l.1) s.lets
 
 -- a policy stays one over more fields
 more_fields : (fields more : FieldTable) → ((f v : ℕ) → IsValue fields f v → IsValue more f v) → (p : Policy) → IsLet fields p → IsLet more p
@@ -95,37 +65,71 @@ let_is fields lets w t line table none known =
     }
 
 -- one more declaration keeps that
-pub lets_kept : (s t : Said) (d : Declaration) → IsFieldTable s.fields → IsWritten d → said_with s d ≡ Ok t → HasLets s → HasLets t
-lets_kept s t (field w n) table written h good =
+lets_kept : (s t : Said) (d : Declaration) → HasLets s → IsWritten d → said_with s d ≡ Ok t → HasLets t
+lets_kept s t (field w n) good written h =
     let r = beside_is s.lets (declared_with (declared_part s) (declare.field w n)) t h in
     let u = unless_ok _ _ r.0 r.1 in
     subst HasLets r.2
     (subst (λ (d : DeclaredValue). HasLets (beside s.lets d)) u.1 (record {
+      table = table_more s.fields w n.value good.table u.0;
       maxima = All-push (λ m. m ≤ 281474976710655) s.fields.maxima n.value good.maxima written;
       policies = all_kept (λ l. IsLet s.fields l.1) (λ l. IsLet (with_field s.fields w.text n.value) l.1) s.lets (λ l g. more_fields s.fields (with_field s.fields w.text n.value) (one_wider s.fields w.text n.value) l.1 g) good.policies;
     }))
-lets_kept s t (tag w) table written h good =
+lets_kept s t (tag w) good written h =
     let more : FieldTable = record s.fields { tag = field_named s.fields w.text } in
     let r = beside_is s.lets (declared_with (declared_part s) (declare.tag w)) t h in
     let u = unless_ok _ _ r.0 r.1 in
     subst HasLets r.2
     (subst (λ (d : DeclaredValue). HasLets (beside s.lets d)) u.1 (record {
+      table = table_tagged s.fields w good.table u.0;
       maxima = good.maxima;
       policies = all_kept (λ l. IsLet s.fields l.1) (λ l. IsLet more l.1) s.lets (λ l g. more_fields s.fields more (λ f v x. x) l.1 g) good.policies;
     }))
-lets_kept s t (switch n ps) table written h good =
+lets_kept s t (switch n ps) good written h =
     let r = beside_is s.lets (declared_with (declared_part s) (declare.switch n ps)) t h in
     let u = unless_ok _ _ r.0 r.1 in
     subst HasLets r.2
-    (subst (λ (d : DeclaredValue). HasLets (beside s.lets d)) u.1 (record { maxima = good.maxima; policies = good.policies }))
-lets_kept s t (declared_link a m b n) table written h good =
+    (subst (λ (d : DeclaredValue). HasLets (beside s.lets d)) u.1
+    (record { table = good.table; maxima = good.maxima; policies = good.policies }))
+lets_kept s t (declared_link a m b n) good written h =
     let r = beside_is s.lets (declared_with (declared_part s) (declare.link a m b n)) t h in
     let u = unless_ok _ _ r.0 r.1 in
     subst HasLets r.2
-    (subst (λ (d : DeclaredValue). HasLets (beside s.lets d)) u.1 (record { maxima = good.maxima; policies = good.policies }))
-lets_kept s t (definition w p line) table written h good =
+    (subst (λ (d : DeclaredValue). HasLets (beside s.lets d)) u.1
+    (record { table = good.table; maxima = good.maxima; policies = good.policies }))
+lets_kept s t (definition w p line) good written h =
     let u = unless_ok (let_fault s.fields s.lets w p line) _ t h in
     subst HasLets u.1 (record {
+      table = good.table;
       maxima = good.maxima;
-      policies = All-push (λ l. IsLet s.fields l.1) s.lets (w.text, marked_from (policy_for s.fields s.lets p) 1) good.policies (let_is s.fields s.lets w p line table u.0 good.policies);
+      policies = All-push (λ l. IsLet s.fields l.1) s.lets (w.text, marked_from (policy_for s.fields s.lets p) 1) good.policies (let_is s.fields s.lets w p line good.table u.0 good.policies);
     })
+
+-- before the first declaration
+none_has_lets : HasLets nothing_said
+none_has_lets = record {
+  table = built_in_writable.table;
+  maxima = built_in_writable.maxima;
+  policies = All-nil (λ l. IsLet built_in l.1);
+}
+
+-- what declarations say that were read from the tokens of a text
+pub said_has_lets : (ds : List Declaration) (s : Said) → All IsWritten ds → program_of ds ≡ Ok s → HasLets s
+said_has_lets ds s written h =
+    all_said HasLets IsWritten lets_kept ds nothing_said s none_has_lets (recursion_from_All IsWritten ds written) h
+
+-- one more declaration behind others
+pub one_more_said : (ds : List Declaration) (d : Declaration) (s : Said)
+    → said_after (ds ++ d ∷ []) s ≡ and_then (said_after ds s) (λ x. said_with x d)
+one_more_said [] d s = alone (said_with s d)
+  where
+    alone : (r : Result Said NamesError) → and_then r (said_after []) ≡ r
+    alone (Ok x) = refl
+    alone (Err e) = refl
+one_more_said (c ∷ ds) d s = by (said_with s c) (one_more_said ds d)
+  where
+    by : (r : Result Said NamesError)
+        → ((x : Said) → said_after (ds ++ d ∷ []) x ≡ and_then (said_after ds x) (λ y. said_with y d))
+        → and_then r (said_after (ds ++ d ∷ [])) ≡ and_then (and_then r (said_after ds)) (λ y. said_with y d)
+    by (Ok x) h = h x
+    by (Err e) h = refl

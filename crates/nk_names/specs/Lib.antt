@@ -3,6 +3,8 @@ pub mod Body
 pub mod CodedPolicy
 pub mod Accepted
 pub mod Complements
+pub mod Declaring
+pub mod InMemory
 pub mod Meant
 pub mod Named
 pub mod ProgramOf

@@ -1,5 +1,5 @@
 //! What is said after one more declaration.
-ghost use Rattle.std.specs.Prelude.{◌≡◌, None, Some, MatchResult, IfOk};
+ghost use Rattle.std.specs.Prelude.{◌≡◌, None, Some, MatchResult, IfOk, OnErr};
 ghost use Rattle.nk_grammar.specs.File.{declaration_of, field, tag, switch, declared_link, definition};
 ghost use Rattle.nk_grammar.specs.Tree.{tree_of};
 ghost use Rattle.nk_names.specs.ProgramOf.{Returns, kind_of, text_fault_of, said_in, said_with, nothing_said, let_fault};
@@ -81,95 +81,89 @@ fn fault_of(error: DeclareError) -> NamesError
     }
 }
 
-/// Nothing is declared yet.
-pub(crate) fn no_names(alloc: Global) -> Result<Names, AllocError>
-    ensures { IfOk result (λ n. said_in n ≡ nothing_said) }
-{
-    let declared = Declared::new(alloc)?;
-    let lets = Lets::new(alloc);
-    Ok(Names { declared, lets })
-}
-
-/// One more field.
-#[tactic(auto, using(crate::proofs::Beside::is_said, crate::proofs::Beside::is_refused))]
-fn with_field(names: Names, w: &Word, n: Number) -> Result<Names, NamesError>
-    ensures { Returns said_in result (said_with (said_in names) (field w.now n)) }
-{
-    let Names { declared, lets } = names;
-    match declared.with_field(w, n) {
-        Ok(declared) => Ok(Names { declared, lets }),
-        Err(error) => Err(fault_of(error)),
+impl Names {
+    /// Nothing is declared yet.
+    pub(crate) fn new(alloc: Global) -> Result<Names, AllocError>
+        ensures { IfOk result (λ n. said_in n ≡ nothing_said) }
+    {
+        let declared = Declared::new(alloc)?;
+        let lets = Lets::new(alloc);
+        Ok(Names { declared, lets })
     }
-}
 
-/// The tag.
-#[tactic(auto, using(crate::proofs::Beside::is_said, crate::proofs::Beside::is_refused))]
-fn with_tag(names: Names, w: &Word) -> Result<Names, NamesError>
-    ensures { Returns said_in result (said_with (said_in names) (tag w.now)) }
-{
-    let Names { declared, lets } = names;
-    match declared.with_tag(w) {
-        Ok(declared) => Ok(Names { declared, lets }),
-        Err(error) => Err(fault_of(error)),
+    /// One more field.
+    ///
+    /// An `Err` leaves what is said as it was, here and below.
+    #[tactic(auto, using(crate::proofs::Beside::is_said, crate::proofs::Beside::is_refused))]
+    fn add_field(&mut self, w: &Word, n: Number) -> Result<(), NamesError>
+        ensures answer { Returns (λ _. said_in self.new) result (said_with (said_in self.old) (field w.now n)) }
+        ensures kept { OnErr result (said_in self.new ≡ said_in self.old) }
+    {
+        match self.declared.add_field(w, n) {
+            Ok(()) => Ok(()),
+            Err(error) => Err(fault_of(error)),
+        }
     }
-}
 
-/// One more switch.
-#[tactic(auto, using(crate::proofs::Beside::is_said, crate::proofs::Beside::is_refused))]
-fn with_switch(
-    alloc: Global,
-    names: Names,
-    n: Number,
-    ports: &[Number],
-) -> Result<Names, NamesError>
-    ensures { Returns said_in result (said_with (said_in names) (switch n ports.now)) }
-{
-    let Names { declared, lets } = names;
-    match declared.with_switch(alloc, n, ports) {
-        Ok(declared) => Ok(Names { declared, lets }),
-        Err(error) => Err(fault_of(error)),
+    /// The tag.
+    #[tactic(auto, using(crate::proofs::Beside::is_said, crate::proofs::Beside::is_refused))]
+    fn add_tag(&mut self, w: &Word) -> Result<(), NamesError>
+        ensures answer { Returns (λ _. said_in self.new) result (said_with (said_in self.old) (tag w.now)) }
+        ensures kept { OnErr result (said_in self.new ≡ said_in self.old) }
+    {
+        match self.declared.add_tag(w.text.as_slice(), w.line) {
+            Ok(()) => Ok(()),
+            Err(error) => Err(fault_of(error)),
+        }
     }
-}
 
-/// One more link, from port `m` of switch `a` to port `n` of switch `b`.
-#[tactic(auto, using(crate::proofs::Beside::is_said, crate::proofs::Beside::is_refused))]
-fn with_link(names: Names, a: Number, m: Number, b: Number, n: Number) -> Result<Names, NamesError>
-    ensures { Returns said_in result (said_with (said_in names) (declared_link a m b n)) }
-{
-    let Names { declared, lets } = names;
-    match declared.with_link(a, m, b, n) {
-        Ok(declared) => Ok(Names { declared, lets }),
-        Err(error) => Err(fault_of(error)),
+    /// One more switch.
+    #[tactic(auto, using(crate::proofs::Beside::is_said, crate::proofs::Beside::is_refused))]
+    fn add_switch(&mut self, alloc: Global, n: Number, ports: &[Number]) -> Result<(), NamesError>
+        ensures answer { Returns (λ _. said_in self.new) result (said_with (said_in self.old) (switch n ports.now)) }
+        ensures kept { OnErr result (said_in self.new ≡ said_in self.old) }
+    {
+        match self.declared.declare_switch(alloc, n, ports) {
+            Ok(()) => Ok(()),
+            Err(error) => Err(fault_of(error)),
+        }
     }
-}
 
-/// One more policy.
-fn with_let(
-    alloc: Global,
-    names: Names,
-    w: &Word,
-    ast: &Ast,
-    line: u64,
-) -> Result<Names, NamesError>
-    ensures { Returns said_in result (said_with (said_in names) (definition w.now (tree_of ast.now) line)) }
-{
-    check_let(&names, w, ast, line)?;
-    let shape = Shape::of(&names.declared.fields, &names.lets, ast);
-    let policy = NamedPolicy::new(shared_of(alloc, &names.declared.fields, &names.lets, ast)?);
-    let Names { declared, lets } = names;
-    let lets = lets.with(alloc, w.text.as_slice(), policy, shape)?;
-    Ok(Names { declared, lets })
-}
+    /// One more link, from port `m` of switch `a` to port `n` of switch `b`.
+    #[tactic(auto, using(crate::proofs::Beside::is_said, crate::proofs::Beside::is_refused))]
+    fn add_link(&mut self, a: Number, m: Number, b: Number, n: Number) -> Result<(), NamesError>
+        ensures answer { Returns (λ _. said_in self.new) result (said_with (said_in self.old) (declared_link a m b n)) }
+        ensures kept { OnErr result (said_in self.new ≡ said_in self.old) }
+    {
+        match self.declared.add_link(a, m, b, n) {
+            Ok(()) => Ok(()),
+            Err(error) => Err(fault_of(error)),
+        }
+    }
 
-/// What is said after one more declaration.
-pub(crate) fn with_decl(alloc: Global, names: Names, decl: &Decl) -> Result<Names, NamesError>
-    ensures { Returns said_in result (said_with (said_in names) (declaration_of decl.now)) }
-{
-    match decl {
-        Decl::Field(w, n) => with_field(names, w, *n),
-        Decl::Tag(w) => with_tag(names, w),
-        Decl::Switch(n, ports) => with_switch(alloc, names, *n, ports.as_slice()),
-        Decl::Link(a, m, b, n) => with_link(names, *a, *m, *b, *n),
-        Decl::Let(w, ast, line) => with_let(alloc, names, w, ast, *line),
+    /// One more policy.
+    fn add_let(&mut self, alloc: Global, w: &Word, ast: &Ast, line: u64) -> Result<(), NamesError>
+        ensures answer { Returns (λ _. said_in self.new) result (said_with (said_in self.old) (definition w.now (tree_of ast.now) line)) }
+        ensures kept { OnErr result (said_in self.new ≡ said_in self.old) }
+    {
+        check_let(self, w, ast, line)?;
+        let shape = Shape::of(&self.declared.fields, &self.lets, ast);
+        let policy = NamedPolicy::new(shared_of(alloc, &self.declared.fields, &self.lets, ast)?);
+        self.lets.add(alloc, w.text.as_slice(), policy, shape)?;
+        Ok(())
+    }
+
+    /// One more declaration.
+    pub(crate) fn add(&mut self, alloc: Global, decl: &Decl) -> Result<(), NamesError>
+        ensures answer { Returns (λ _. said_in self.new) result (said_with (said_in self.old) (declaration_of decl.now)) }
+        ensures kept { OnErr result (said_in self.new ≡ said_in self.old) }
+    {
+        match decl {
+            Decl::Field(w, n) => self.add_field(w, *n),
+            Decl::Tag(w) => self.add_tag(w),
+            Decl::Switch(n, ports) => self.add_switch(alloc, *n, ports.as_slice()),
+            Decl::Link(a, m, b, n) => self.add_link(*a, *m, *b, *n),
+            Decl::Let(w, ast, line) => self.add_let(alloc, w, ast, *line),
+        }
     }
 }

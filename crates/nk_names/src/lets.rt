@@ -1,5 +1,5 @@
 //! The policies of a text by name.
-ghost use Rattle.std.specs.Prelude.{◌≡◌, ℕ, List as Items, ◌++◌, ◌∷◌, [], map, option_map, None, IfOk, IfSome, ◌<◌, length};
+ghost use Rattle.std.specs.Prelude.{◌≡◌, ℕ, List as Items, ◌++◌, ◌∷◌, [], map, option_map, None, IfSome, OnErr, OnOk, ◌<◌, length};
 ghost use Rattle.std.specs.Cmp.Lexicographic.{pointwise};
 ghost use Rattle.std.specs.Bool.{nat_eq};
 ghost use Rattle.std.specs.HashMap.{get_by};
@@ -78,34 +78,26 @@ impl Lets {
         List::from_vec(entries)
     }
 
-    /// One more policy, with a new name, behind the others.
-    pub(crate) fn with(
-        self,
+    /// One more policy, with a new name, behind the others. Where memory ran out, nothing changed.
+    pub(crate) fn add(
+        &mut self,
         alloc: Global,
         name: &[u8],
         policy: NamedPolicy,
         shape: Shape,
-    ) -> Result<Lets, AllocError>
-        requires new { policy_among self.entries.items name.now ≡ None }
+    ) -> Result<(), AllocError>
+        requires new { policy_among self.old.entries.items name.now ≡ None }
         requires shape { shape ≡ shape_of policy }
-        ensures { IfOk result (λ l. l.entries.items
-            ≡ self.entries.items ++ (name.now, policy) ∷ []) }
+        ensures ok { OnOk result (self.new.entries.items ≡ self.old.entries.items ++ (name.now, policy) ∷ []) }
+        ensures kept { OnErr result (self.new.entries.items ≡ self.old.entries.items) }
     {
-        let Lets {
-            entries,
-            shapes,
-            places,
-        } = self;
-        let mut entries = entries;
-        let mut shapes = shapes;
-        let mut places = places;
-        places.insert(Vec::from_slice(alloc, name)?, entries.len())?;
-        shapes.push(shape)?;
-        entries.push((List::from_vec(Vec::from_slice(alloc, name)?), policy))?;
-        Ok(Lets {
-            entries,
-            shapes,
-            places,
-        })
+        let key = Vec::from_slice(alloc, name)?;
+        let own = List::from_vec(Vec::from_slice(alloc, name)?);
+        self.entries.reserve(1)?;
+        self.shapes.reserve(1)?;
+        self.places.insert(key, self.entries.len())?;
+        self.shapes.push(shape).unwrap();
+        self.entries.push((own, policy)).unwrap();
+        Ok(())
     }
 }

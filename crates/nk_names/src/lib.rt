@@ -14,6 +14,7 @@ pub mod laws;
 mod lets;
 mod named_policy;
 mod names;
+mod reader;
 pub mod reading;
 mod rows;
 mod shape;
@@ -23,6 +24,7 @@ pub use fault::{FaultKind, NamesError};
 pub use named_policy::NamedPolicy;
 use nk_field::{Fields, List};
 use nk_topo::Topo;
+pub use reader::ProgramReader;
 pub use rows::resolve;
 use std::marker::Model;
 

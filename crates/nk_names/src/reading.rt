@@ -3,11 +3,8 @@ ghost use Rattle.std.specs.Prelude.{All, map};
 ghost use Rattle.nk_grammar.specs.File.{declaration_of, IsWritten};
 ghost use Rattle.nk_names.specs.ProgramOf.{Returns, said_by, program_of};
 
-use crate::Program;
-use crate::declare::{no_names, with_decl};
 use crate::fault::NamesError;
-use crate::names::Names;
-use nk_declare::Declared;
+use crate::{Program, ProgramReader};
 use nk_grammar::File;
 use std::alloc::Global;
 
@@ -20,19 +17,9 @@ pub fn program(alloc: Global, f: &File) -> Result<Program, NamesError>
     requires { All IsWritten (map declaration_of f.now.decls) }
     ensures { Returns said_by result (program_of (map declaration_of f.now.decls)) }
 {
-    let mut names = no_names(alloc)?;
+    let mut reader = ProgramReader::new(alloc)?;
     for decl in f.decls.as_slice() {
-        let _table = names.declared.fields.declared();
-        names = with_decl(alloc, names, decl)?;
+        reader.declare(alloc, decl)?;
     }
-    let Names { declared, lets } = names;
-    let Declared { fields, topo } = declared;
-    let topo = topo.finish()?;
-    let _switches = topo.switches();
-    let _table = fields.declared();
-    Ok(Program {
-        fields,
-        topo,
-        lets: lets.into_list(),
-    })
+    reader.finish()
 }

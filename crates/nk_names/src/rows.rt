@@ -29,6 +29,22 @@ fn check_predicate(fields: &Fields, lets: &Lets, ast: &Ast, line: u64) -> Result
     refuse(fault_if(deep, FaultKind::TooDeep, line))
 }
 
+/// The predicate that a row of a certificate has over these fields, or the first fault of its tree.
+pub(crate) fn resolve_over(
+    alloc: Global,
+    fields: &Fields,
+    ast: &Ast,
+    line: u64,
+) -> Result<Pol, NamesError>
+    ensures policy { Returns tree_of result (row_policy fields.now (written_of ast.now) line) }
+    ensures is { IfOk result (λ q. IsRowPolicy fields.now (tree_of q)) }
+{
+    let lets = Lets::new(alloc);
+    let _declared = fields.declared();
+    check_predicate(fields, &lets, ast, line)?;
+    Ok(policy_of(alloc, fields, &lets, ast)?)
+}
+
 /// The predicate that a row of a certificate has, or the first fault of its tree.
 ///
 /// The word `row` stands on `line`. The fields are those of the program, and no policy's name is known. The faults are
@@ -39,8 +55,5 @@ pub fn resolve(alloc: Global, p: &Program, ast: &Ast, line: u64) -> Result<Pol, 
     ensures policy { Returns tree_of result (row_policy p.now.fields (written_of ast.now) line) }
     ensures is { IfOk result (λ q. IsRowPolicy p.now.fields (tree_of q)) }
 {
-    let lets = Lets::new(alloc);
-    let _declared = p.fields.declared();
-    check_predicate(&p.fields, &lets, ast, line)?;
-    Ok(policy_of(alloc, &p.fields, &lets, ast)?)
+    resolve_over(alloc, &p.fields, ast, line)
 }
