@@ -12,6 +12,7 @@ ghost use Rattle.nk_grammar.specs.CertifiedProgress.{
   IsWrittenPart,
   certified_so_far,
   declarations_by,
+  is_stopped,
   rows_by,
   so_far,
   so_far_after,
@@ -67,6 +68,16 @@ impl CertifiedReader {
         CertifiedReader {
             known: Known::Sound(SoundReader::new(alloc)),
             line: 1,
+        }
+    }
+
+    /// Whether the tokens so far have a fault.
+    pub fn is_stopped(&self) -> bool
+        ensures { result ≡ is_stopped self.now }
+    {
+        match &self.known {
+            Known::Sound(_) => false,
+            Known::Stopped(_) => true,
         }
     }
 
