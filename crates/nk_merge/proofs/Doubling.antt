@@ -1,0 +1,177 @@
+-- The rows of states with each label twice, one after the other.
+use Rattle.std.proofs.Common.{◌≡◌, ℕ, ◌+◌, ◌-◌, ◌^◌, ◌<◌, Option, Some, None, inl, inr, ⊎_elim, List, [], ◌∷◌, ◌++◌, length, get_or, refl, sym, ap, subst, ◌∙◌, arith}
+use Rattle.std.specs.Prelude.{◌↔◌, slice_index, slice_index_or}
+use Rattle.std.proofs.lemmas.Bool.Decides.{leb_tells}
+use Rattle.nk_store.specs.declared.node.Out.{Out}
+use Rattle.nk_store.specs.Held.{Held, IsId, IsPacket, look, Grows, HasLeaves}
+use Rattle.nk_store.proofs.Stores.{grows_on}
+use Rattle.nk_algebra.specs.Unions.{AreIds}
+use Rattle.nk_algebra.proofs.Members.{Has, contains_has, has_contains, gathered_has, has_gathered}
+use Rattle.nk_determ.specs.Exact.{Sends}
+use Rattle.nk_determ.specs.Targets.{option_out, out_by_table, retargeted}
+use Rattle.nk_determ.specs.Pairs.{HavePlaces, AreStates}
+use Rattle.nk_reach.specs.Sides.{alone, ends_of, AreOneSided, IsGoalOf}
+use Rattle.nk_reach.proofs.Kept.{packet_on, packet_back}
+use Rattle.nk_reach.proofs.Growing.{sends_on, sends_back, states_grow}
+use Rattle.nk_merge.specs.Twice.{again, labels_of, AreTwice, IsTwice, IsTwiceUpTo}
+use Rattle.nk_merge.specs.declared.twice.Twice.{Twice}
+use Rattle.nk_merge.proofs.Marks.{again_is}
+use Rattle.nk_merge.proofs.Numbering.{before, last_is, longer, last_or_before}
+use Rattle.nk_merge.proofs.Growing.{one_sided_on, rows_on}
+
+-- an act to what a table has
+option_has : (a : List (ℕ × ℕ)) (q : Option ℕ) (o : Out) → Has (option_out a q) o → (t : ℕ) × (q ≡ Some t) × ((record { act = a; target = t }) ≡ o)
+option_has a None o h = absurd h
+option_has a (Some t) o (inl e) = (t, refl, e)
+option_has a (Some t) o (inr h) = absurd h
+
+-- what is there twice is one
+some_one : (a b : ℕ) → Some a ≡ Some b → a ≡ b
+some_one a b e = cc
+
+-- a diagram with targets by a table sends what it sent to what the table has
+module _ (st new : Held) (table : List (Option ℕ)) (d r : ℕ) (h : HasLeaves new r (λ pk. retargeted table (look st d pk))) (pk y : List ℕ) (p : IsPacket st pk) (t : ℕ) where
+  by_table : Sends new r pk y t → (u : ℕ) × Sends st d pk y u × (get_or table u None ≡ Some t)
+  by_table s =
+      let a = s.0 in
+      let m = has_gathered (out_by_table table) (look st d pk) (record { act = a; target = t }) (subst (λ os. Has os (record { act = a; target = t })) (h.leaf pk p.0) (contains_has (look new r pk) (record { act = a; target = t }) s.1)) in
+      let o = option_has m.0.act (get_or table m.0.target None) (record { act = a; target = t }) m.2 in
+      let act : m.0.act ≡ a = ap (λ (x : Out). x.act) o.2 in
+      let to : o.0 ≡ t = ap (λ (x : Out). x.target) o.2 in
+      let there : Has (look st d pk) (record { act = a; target = m.0.target }) = subst (λ x. Has (look st d pk) (record { act = x; target = m.0.target })) act m.1 in
+      (m.0.target, (a, has_contains (look st d pk) (record { act = a; target = m.0.target }) there, s.2), o.1 ∙ ap Some to)
+
+  to_table : (u : ℕ) → Sends st d pk y u → get_or table u None ≡ Some t → Sends new r pk y t
+  to_table u s e =
+      let a = s.0 in
+      let made : Has (option_out a (get_or table u None)) (record { act = a; target = t }) = subst (λ q. Has (option_out a q) (record { act = a; target = t })) (sym e) (inl refl) in
+      let all = gathered_has (out_by_table table) (look st d pk) (record { act = a; target = u }) (record { act = a; target = t }) (contains_has (look st d pk) (record { act = a; target = u }) s.1) made in
+      (a, has_contains (look new r pk) (record { act = a; target = t }) (subst (λ os. Has os (record { act = a; target = t })) (sym (h.leaf pk p.0)) all), s.2)
+
+-- the states as they are stand there once
+pub none_again : (old new : Held) (states rows : List ℕ) → rows ≡ states → IsTwiceUpTo old new states rows 1
+none_again old new states rows e = record {
+  count = ap (λ xs. length xs + 1) e;
+  once = λ l lt. ap (λ xs. get_or xs l 0) e;
+  ids = λ l some lt. absurd (omega (arith, some, lt));
+  twice = λ l pk y t some lt r. absurd (omega (arith, some, lt));
+}
+
+module _ (old mid new : Held) (states rows : List ℕ) (n row : ℕ) (table : List (Option ℕ)) (begun : Grows old mid) (grows : Grows mid new) (ok : AreStates old states) (some : 0 < n) (lt : n < length states)
+    (k : IsTwiceUpTo old mid states rows n)
+    (is : (t : ℕ) → t < length states → slice_index_or table t None ≡ Some (again (labels_of states) t))
+    (h : HasLeaves new row (λ pk. retargeted table (look mid (slice_index states n) pk))) where
+  -- an earlier row, and the new one
+  earlier : (l : ℕ) → 0 < l → l < n → slice_index (rows ++ row ∷ []) (again (labels_of states) l) ≡ slice_index rows (again (labels_of states) l)
+  earlier l above less =
+      let e = again_is (labels_of states) l above in
+      before rows row (again (labels_of states) l) (omega (arith, e, less, lt, k.count))
+
+  newest : slice_index (rows ++ row ∷ []) (again (labels_of states) n) ≡ row
+  newest = last_is rows row (again (labels_of states) n) (omega (arith, again_is (labels_of states) n some, lt, k.count))
+
+  -- the new row does what the state does, to labels that are marked again
+  new_sends : (pk y : List ℕ) (t : ℕ) → IsPacket old pk
+      → Sends new row pk y t ↔ ((u : ℕ) × Sends old (slice_index states n) pk y u × (t ≡ again (labels_of states) u))
+  new_sends pk y t r =
+      let q : IsPacket mid pk = packet_on old mid pk begun r in
+      let id = ok.ids n lt in (
+        λ s.
+            let b = by_table mid new table (slice_index states n) row h pk y q t s in
+            let was : Sends old (slice_index states n) pk y b.0 = sends_back old mid (slice_index states n) pk y b.0 begun id b.1 in
+            let within : b.0 < length states = ok.targets n pk y b.0 lt r was in
+            (b.0, was, some_one t (again (labels_of states) b.0) (sym b.2 ∙ is b.0 within)),
+        λ s.
+            let within : s.0 < length states = ok.targets n pk y s.0 lt r s.1 in
+            to_table mid new table (slice_index states n) row h pk y q t s.0 (sends_on old mid (slice_index states n) pk y s.0 begun id s.1)
+            (is s.0 within ∙ ap Some (sym s.2)),
+      )
+
+  -- one label more
+  pub one_again : IsTwiceUpTo old new states (rows ++ row ∷ []) (n + 1)
+  one_again = record {
+    count = omega (arith, longer rows row, k.count);
+    once = λ l less. before rows row l (omega (arith, less, k.count, some)) ∙ k.once l less;
+    ids = λ l above less.
+        ⊎_elim
+        (λ old_one. subst (λ d. IsId new d) (sym (earlier l above old_one)) (grows.ids (get_or rows (again (labels_of states) l) 0) (k.ids l above old_one)))
+        (λ e. subst (λ d. IsId new d) (sym (ap (λ j. slice_index (rows ++ row ∷ []) (again (labels_of states) j)) e ∙ newest)) h.id)
+        (last_or_before n l (omega (arith, less)));
+    twice = λ l pk y t above less r.
+        ⊎_elim
+        (λ old_one. by_earlier l pk y t above old_one r)
+        (λ e. by_newest l pk y t e r)
+        (last_or_before n l (omega (arith, less)));
+  }
+    where
+      by_earlier : (l : ℕ) (pk y : List ℕ) (t : ℕ) → 0 < l → l < n → IsPacket old pk
+          → Sends new (slice_index (rows ++ row ∷ []) (again (labels_of states) l)) pk y t
+          ↔ ((u : ℕ) × Sends old (slice_index states l) pk y u × (t ≡ again (labels_of states) u))
+      by_earlier l pk y t above old_one r =
+          let e = earlier l above old_one in
+          let b = k.twice l pk y t above old_one r in
+          let id = k.ids l above old_one in (
+            λ s. b.0 (sends_back mid new (get_or rows (again (labels_of states) l) 0) pk y t grows id (subst (λ d. Sends new d pk y t) e s)),
+            λ s. subst (λ d. Sends new d pk y t) (sym e) (sends_on mid new (get_or rows (again (labels_of states) l) 0) pk y t grows id (b.1 s)),
+          )
+
+      by_newest : (l : ℕ) (pk y : List ℕ) (t : ℕ) → l ≡ n → IsPacket old pk
+          → Sends new (slice_index (rows ++ row ∷ []) (again (labels_of states) l)) pk y t
+          ↔ ((u : ℕ) × Sends old (slice_index states l) pk y u × (t ≡ again (labels_of states) u))
+      by_newest l pk y t e r =
+          let at = ap (λ j. slice_index (rows ++ row ∷ []) (again (labels_of states) j)) e ∙ newest in
+          let b = new_sends pk y t r in (
+            λ s. let w = b.0 (subst (λ d. Sends new d pk y t) at s) in (w.0, subst (λ j. Sends old (slice_index states j) pk y w.0) (sym e) w.1, w.2),
+            λ s. subst (λ d. Sends new d pk y t) (sym at) (b.1 (s.0, subst (λ j. Sends old (slice_index states j) pk y s.0) e s.1, s.2)),
+          )
+
+-- all labels
+pub all_again : (old new : Held) (states rows : List ℕ) (n : ℕ) → Grows old new → AreStates old states → 0 < length states → n ≡ length states
+    → IsTwiceUpTo old new states rows n → AreTwice new states rows
+all_again old new states rows n g ok some e k = record {
+  some = some;
+  count = omega (arith, k.count, e);
+  ids = λ i lt. id_at i lt;
+  once = k.once;
+  twice = λ l pk y t above less r.
+      let b = k.twice l pk y t above (omega (arith, less, e)) (packet_back old new pk g r) in (
+        λ s. let w = b.0 s in (w.0, sends_on old new (get_or states l 0) pk y w.0 g (ok.ids l less) w.1, w.2),
+        λ s. b.1 (s.0, sends_back old new (get_or states l 0) pk y s.0 g (ok.ids l less) s.1, s.2),
+      );
+}
+  where
+    id_at : (i : ℕ) → i < length rows → IsId new (slice_index rows i)
+    id_at i lt =
+        ⊎_elim
+        (λ high.
+        let l : ℕ = i - labels_of states in
+        let above : 0 < l = omega (arith, high.1, some) in
+        let less : l < n = omega (arith, lt, k.count, high.1, some) in
+        let is : again (labels_of states) l ≡ i = again_is (labels_of states) l above ∙ omega (arith, high.1, some) in
+        subst (λ j. IsId new (slice_index rows j)) is (k.ids l above less))
+        (λ low. subst (λ d. IsId new d) (sym (k.once i low.1)) (g.ids (get_or states i 0) (ok.ids i low.1)))
+        (leb_tells (length states) i)
+
+-- with a goal of ends of one copy alone
+pub made_twice : (old mid new : Held) (states rows given : List ℕ) (start : ℕ) (t : Twice) → AreStates old states → length states + length states < 2 ^ 64
+    → Grows old mid → Grows mid new → AreTwice mid states rows → given ≡ rows → start ≡ slice_index states 0 → t.rows ≡ rows
+    → IsGoalOf new t.goal.ends t.goal.seen.entries → length t.goal.ends ≡ length given
+    → ((set pk : List ℕ) → HavePlaces (length given) set → IsPacket mid pk → AreOneSided mid given start start (length states) set pk (alone (ends_of new t.goal.ends set pk)))
+    → IsTwice new states t
+made_twice old mid new states rows given start t ok few begun grows twice same first rows_is fits labels sides = record {
+  states_are = states_grow old new states (grows_on old mid new begun grows) ok;
+  few = few;
+  rows = subst (λ r. AreTwice new states r) (sym rows_is) (rows_on mid new states rows grows states_mid twice);
+  fits = fits;
+  labels = labels ∙ ap length (same ∙ sym rows_is);
+  sides = λ set pk places range.
+      let one : given ≡ t.rows = same ∙ sym rows_is in
+      let there : HavePlaces (length given) set = subst (λ r. HavePlaces (length r) set) (sym one) places in
+      let kept = one_sided_on mid new given start (length states) set pk (alone (ends_of new t.goal.ends set pk)) grows
+      (subst (λ d. IsId mid d) (sym first) (states_mid.ids 0 twice.some)) (subst (λ r. AreIds mid r) (sym same) twice.ids) there (sides set pk there (packet_back mid new pk grows range)) in
+      subst (λ r. AreOneSided new r (slice_index states 0) (slice_index states 0) (length states) set pk (alone (ends_of new t.goal.ends set pk))) one
+      (subst (λ d. AreOneSided new given d d (length states) set pk (alone (ends_of new t.goal.ends set pk))) first kept);
+}
+  where
+    states_mid : AreStates mid states
+    states_mid = states_grow old mid states begun ok

@@ -1,0 +1,13 @@
+pub mod Marks
+pub mod Runs
+pub mod Copies
+pub mod Ends
+pub mod Growing
+pub mod Telling
+pub mod Numbering
+pub mod Policies
+pub mod Lawful
+pub mod Raising
+pub mod Doubling
+pub mod Levelling
+pub mod Sorting

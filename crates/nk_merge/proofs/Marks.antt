@@ -1,0 +1,132 @@
+-- Labels marked again, the marks of the sides, and what is decided of labels.
+use Rattle.std.proofs.Common.{◌≡◌, ℕ, zero, suc, ◌+◌, ◌<◌, ◌≤◌, Bool, true, false, cond, ◌⊎◌, inl, inr, ⊎_elim, List, [], ◌∷◌, refl, sym, ap, subst, ◌∙◌, arith}
+use Rattle.std.specs.Prelude.{nat_lt, map, Contains, slice_index}
+use Rattle.std.proofs.lemmas.Bool.{ltb-true, ltb-false, lt-ltb, le-ltb}
+use Rattle.nk_field.proofs.Lists.{in_from_contains, contains_from_in, in_left, in_right, in_either, in_mapped, from_mapped, in_decided, numbers_decided, Decided}
+use Rattle.nk_store.specs.Held.{Held}
+use Rattle.nk_determ.specs.Exact.{Sends}
+use Rattle.nk_determ.specs.States.{StateLeads}
+use Rattle.nk_reach.specs.Sides.{mark_of, EndsAt}
+use Rattle.nk_runs.proofs.Listings.{some_decided, sends_decided}
+use Rattle.nk_merge.specs.Alike.{behind}
+use Rattle.nk_merge.specs.Twice.{again}
+use Rattle.nk_merge.specs.Joined.{both_sets}
+
+-- the mark by the side
+abbrev mark_by : Bool → ℕ
+mark_by b = cond b 1 2
+
+-- labels below the bound have mark 1, and the others mark 2
+pub mark_below : (bound l : ℕ) → l < bound → mark_of bound l ≡ 1
+mark_below bound l lt = ap mark_by (lt-ltb l bound lt)
+
+pub mark_above : (bound l : ℕ) → bound ≤ l → mark_of bound l ≡ 2
+mark_above bound l le = ap mark_by (le-ltb l bound le)
+
+pub below_from : (bound l : ℕ) → mark_of bound l ≡ 1 → l < bound
+below_from bound l e = by (nat_lt l bound) refl
+  where
+    by : (b : Bool) → nat_lt l bound ≡ b → l < bound
+    by true is = ltb-true l bound is
+    by false is = let two : 2 ≡ 1 = sym (ap mark_by is) ∙ e in absurd (omega (arith, two))
+
+pub above_from : (bound l : ℕ) → mark_of bound l ≡ 2 → bound ≤ l
+above_from bound l e = by (nat_lt l bound) refl
+  where
+    by : (b : Bool) → nat_lt l bound ≡ b → bound ≤ l
+    by true is = let one : 1 ≡ 2 = sym (ap mark_by is) ∙ e in absurd (omega (arith, one))
+    by false is = ltb-false l bound is
+
+-- a label that is marked again is raised
+pub again_is : (n l : ℕ) → 0 < l → again n l ≡ l + n
+again_is n zero lt = absurd (omega (arith, lt))
+again_is n (suc l) lt = refl
+
+-- what is no label has none marked again
+pub again_some : (n l : ℕ) → 0 < again n l → 0 < l
+again_some n zero lt = lt
+again_some n (suc l) lt = omega arith
+
+-- and a label has one
+pub some_again : (n l : ℕ) → 0 < l → 0 < again n l
+some_again n zero lt = lt
+some_again n (suc l) lt = omega arith
+
+-- labels marked again are one where they were
+pub again_one : (n k l : ℕ) → again n k ≡ again n l → k ≡ l
+again_one n zero zero e = refl
+again_one n zero (suc l) e = absurd (omega (arith, e))
+again_one n (suc k) zero e = absurd (omega (arith, e))
+again_one n (suc k) (suc l) e = omega (arith, e)
+
+-- both, either and an equivalent of what is decided are decided
+pub both_decided : {P Q : Type 0} → Decided P → Decided Q → Decided (P × Q)
+both_decided (inl p) (inl q) = inl (p, q)
+both_decided (inl p) (inr other) = inr (λ h. other h.1)
+both_decided (inr other) d = inr (λ h. other h.0)
+
+pub either_decided : {P Q : Type 0} → Decided P → Decided Q → Decided (P ⊎ Q)
+either_decided (inl p) d = inl (inl p)
+either_decided (inr other) (inl q) = inl (inr q)
+either_decided (inr other) (inr not) = inr (λ h. ⊎_elim (λ p. other p) (λ q. not q) h)
+
+pub decided_for : {P Q : Type 0} → (P → Q) → (Q → P) → Decided P → Decided Q
+decided_for f g (inl p) = inl (f p)
+decided_for f g (inr other) = inr (λ q. other (g q))
+
+pub above_zero : (l : ℕ) → Decided (0 < l)
+above_zero zero = inr (λ lt. omega (arith, lt))
+above_zero (suc l) = inl (omega arith)
+
+-- whether the states at some labels send a packet to a target
+pub leads_decided : (st : Held) (states s x y : List ℕ) (t : ℕ) → Decided (StateLeads st states s x y t)
+leads_decided st states s x y t =
+    decided_for
+    (λ h. (h.0, contains_from_in s h.0 h.1, h.2))
+    (λ h. (h.0, in_from_contains s h.0 h.1, h.2))
+    (some_decided (λ l. Sends st (slice_index states l) x y t) (λ l. sends_decided st (slice_index states l) x y t) s)
+
+-- whether a side ends at a packet
+pub ends_decided : (st : Held) (states : List ℕ) (d bound k : ℕ) (s x y : List ℕ) → Decided (EndsAt st states d bound k s x y)
+ends_decided st states d bound k s x y =
+    either_decided
+    (both_decided
+    (decided_for (λ i. contains_from_in s 0 i) (λ c. in_from_contains s 0 c) (in_decided numbers_decided s 0))
+    (sends_decided st d x y 0))
+    (decided_for (λ h. (h.0, contains_from_in s h.0 h.1, h.2.0, h.2.1.0, h.2.1.1)) (λ h. (h.0, in_from_contains s h.0 h.1, (h.2, (h.3, h.4))))
+    (some_decided (λ l. (0 < l) × ((mark_of bound l ≡ k) × Sends st (slice_index states l) x y 0))
+    (λ l. both_decided (above_zero l) (both_decided (numbers_decided (mark_of bound l) k) (sends_decided st (slice_index states l) x y 0)))
+    s))
+
+-- a label of both sets is one of the first set, or one of the second that is marked again
+pub from_both : (n : ℕ) (s t : List ℕ) (l : ℕ) → Contains (both_sets n s t) l → Contains s l ⊎ ((k : ℕ) × Contains t k × (l ≡ again n k))
+from_both n s t l c =
+    ⊎_elim
+    (λ i. inl (contains_from_in s l i))
+    (λ i. let m = from_mapped (again n) t l i in inr (m.0, contains_from_in t m.0 m.1, m.2))
+    (in_either s (map (again n) t) l (in_from_contains (both_sets n s t) l c))
+
+pub first_of_both : (n : ℕ) (s t : List ℕ) (l : ℕ) → Contains s l → Contains (both_sets n s t) l
+first_of_both n s t l c = contains_from_in (both_sets n s t) l (in_left s (map (again n) t) l (in_from_contains s l c))
+
+pub second_of_both : (n : ℕ) (s t : List ℕ) (k : ℕ) → Contains t k → Contains (both_sets n s t) (again n k)
+second_of_both n s t k c =
+    contains_from_in (both_sets n s t) (again n k) (in_right s (map (again n) t) (again n k) (in_mapped (again n) t k (in_from_contains t k c)))
+
+-- a label behind others is above 0
+pub behind_some : (s : List ℕ) (l : ℕ) → Contains (behind s) l → 0 < l
+behind_some s l c = let m = from_mapped (λ k. k + 1) s l (in_from_contains (behind s) l c) in omega (arith, m.2)
+
+-- a list that can't but be empty is empty
+pub empty_from : {X : Type 0} (xs : List X) → ((xs ≡ [] → ⊥) → ⊥) → xs ≡ []
+empty_from [] h = refl
+empty_from (x ∷ xs) h = absurd (h (λ e. cc))
+
+-- a list that isn't empty has a first element
+pub first_of_some : {X : Type 0} (xs : List X) → (xs ≡ [] → ⊥) → (x : X) × Contains xs x
+first_of_some [] h = absurd (h refl)
+first_of_some (x ∷ xs) h = (x, contains_from_in (x ∷ xs) x (inl refl))
+
+-- the empty list has no element
+pub none_in : {X : Type 0} (xs : List X) (x : X) → xs ≡ [] → Contains xs x → ⊥
+none_in xs x e c = in_from_contains [] x (subst (λ z. Contains z x) e c)

@@ -1,0 +1,6 @@
+pub mod Alike
+pub mod Classes
+pub mod Twice
+pub mod Apart
+pub mod Joined
+pub mod SumsAfter

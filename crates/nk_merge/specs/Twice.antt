@@ -1,0 +1,46 @@
+-- The states of an automaton with each label twice.
+use Rattle.std.specs.Prelude.{◌≡◌, ℕ, zero, suc, ◌+◌, ◌-◌, ◌^◌, ◌<◌, ◌↔◌, List, length, slice_index}
+use Rattle.nk_store.specs.Held.{Held, IsId, IsPacket}
+use Rattle.nk_algebra.specs.Unions.{AreIds}
+use Rattle.nk_determ.specs.Exact.{Sends}
+use Rattle.nk_determ.specs.Pairs.{HavePlaces, AreStates}
+use Rattle.nk_reach.specs.Sides.{alone, ends_of, AreOneSided, IsGoalOf}
+use Rattle.nk_merge.specs.declared.twice.Twice.{Twice}
+
+-- the label marked again behind n labels; 0 is none
+abbrev pub again : ℕ → ℕ → ℕ
+again n zero = zero
+again n (suc l) = suc l + n
+
+-- how many labels an automaton with these states has, 0 being none
+abbrev pub labels_of : List ℕ → ℕ
+labels_of states = length states - 1
+
+-- the states, and behind them for each label again a state that does what the label's does, to labels marked again
+pub record AreTwice (st : Held) (states rows : List ℕ) : Type 0 where
+  pub some : 0 < length states
+  pub count : length rows + 1 ≡ length states + length states
+  pub ids : AreIds st rows
+  pub once : (l : ℕ) → l < length states → slice_index rows l ≡ slice_index states l
+  pub twice : (l : ℕ) (pk y : List ℕ) (t : ℕ) → 0 < l → l < length states → IsPacket st pk →
+      Sends st (slice_index rows (again (labels_of states) l)) pk y t
+      ↔ ((u : ℕ) × Sends st (slice_index states l) pk y u × (t ≡ again (labels_of states) u))
+
+-- such rows of these states, and the goal of ends of one copy alone
+pub record IsTwice (st : Held) (states : List ℕ) (t : Twice) : Type 0 where
+  pub states_are : AreStates st states
+  pub few : length states + length states < 2 ^ 64
+  pub rows : AreTwice st states t.rows
+  pub fits : IsGoalOf st t.goal.ends t.goal.seen.entries
+  pub labels : length t.goal.ends ≡ length t.rows
+  pub sides : (set pk : List ℕ) → HavePlaces (length t.rows) set → IsPacket st pk →
+      AreOneSided st t.rows (slice_index states 0) (slice_index states 0) (length states) set pk (alone (ends_of st t.goal.ends set pk))
+
+-- the states, and behind them those of the labels before n again, each label with its row as it is made
+pub record IsTwiceUpTo (old new : Held) (states rows : List ℕ) (n : ℕ) : Type 0 where
+  pub count : length rows + 1 ≡ length states + n
+  pub once : (l : ℕ) → l < length states → slice_index rows l ≡ slice_index states l
+  pub ids : (l : ℕ) → 0 < l → l < n → IsId new (slice_index rows (again (labels_of states) l))
+  pub twice : (l : ℕ) (pk y : List ℕ) (t : ℕ) → 0 < l → l < n → IsPacket old pk →
+      Sends new (slice_index rows (again (labels_of states) l)) pk y t
+      ↔ ((u : ℕ) × Sends old (slice_index states l) pk y u × (t ≡ again (labels_of states) u))

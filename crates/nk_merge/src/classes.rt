@@ -1,0 +1,100 @@
+//! The classes of tags.
+ghost use Rattle.std.specs.Prelude.{◌≡◌, ◌+◌, ◌^◌, ◌<◌, ◌≤◌, ℕ, suc, [], ◌∷◌, ◌++◌, All, IfOk, OnOk, length, slice_index, slice_index_or};
+ghost use Rattle.nk_store.specs.Held.{Grows};
+ghost use Rattle.nk_determ.specs.Sets.{SetsGrow};
+ghost use Rattle.nk_reach.specs.Pairs.{HavePlaces};
+ghost use Rattle.nk_merge.specs.Alike.{behind, tag_set, AreAlike, AreTagsAlike};
+ghost use Rattle.nk_merge.specs.Classes.{AreClasses, AreFirsts, with_first};
+ghost use Rattle.nk_merge.specs.Twice.{IsTwice};
+
+use crate::compared::are_alike;
+use crate::twice::Twice;
+use nk_determ::{SetId, Sets};
+use nk_field::List;
+use nk_store::{Id, Store};
+use std::alloc::AllocError;
+
+/// The classes of tags.
+#[derive(Drop)]
+pub struct Classes {
+    /// By tag the number of its class: classes are numbered from 1 by their first tag.
+    pub numbers: List<u64>,
+    /// By class, from class 1 on, the place of its first tag.
+    pub firsts: List<usize>,
+}
+
+/// The class of each tag: two tags are of one class where what is left behind their sets gives the same histories from every
+/// packet in range. `tags` are the tags' sets in their order. The only error is that memory ran out.
+pub fn classes_of(
+    st: &mut Store,
+    ss: &mut Sets,
+    states: &[Id],
+    twice: &mut Twice,
+    tags: &[SetId],
+) -> Result<Classes, AllocError>
+    requires twice { IsTwice st.old states.now twice.old }
+    requires known { All (λ s. s < length ss.old) tags.now }
+    requires places { All (λ s. HavePlaces (length states.now) (behind (slice_index_or ss.old s []))) tags.now }
+    ensures grows { Grows st.old st.new }
+    ensures sets { SetsGrow ss.old ss.new }
+    ensures twice { OnOk result (IsTwice st.new states.now twice.new) }
+    ensures classes { IfOk result (λ c. AreClasses (AreTagsAlike st.old states.now ss.old tags.now) (length tags.now) c.numbers) }
+    ensures firsts { IfOk result (λ c. AreFirsts c.numbers c.firsts) }
+{
+    let mut all = Classes {
+        numbers: List::new(st.alloc()),
+        firsts: List::new(st.alloc()),
+    };
+    for i in 0..tags.len() {
+        let c = class_of(st, ss, states, twice, tags, all.firsts.as_slice(), tags[i])?;
+        add(&mut all, i, c)?;
+    }
+    Ok(all)
+}
+
+/// The place among the classes' first tags of the one that the tag is alike; how many there are where it is alike none.
+fn class_of(
+    st: &mut Store,
+    ss: &mut Sets,
+    states: &[Id],
+    twice: &mut Twice,
+    tags: &[SetId],
+    firsts: &[usize],
+    s: SetId,
+) -> Result<usize, AllocError>
+    requires twice { IsTwice st.old states.now twice.old }
+    requires known { All (λ s. s < length ss.old) tags.now }
+    requires places { All (λ s. HavePlaces (length states.now) (behind (slice_index_or ss.old s []))) tags.now }
+    requires firsts { All (λ i. i < length tags.now) firsts.now }
+    requires tag { s < length ss.old }
+    requires tag_places { HavePlaces (length states.now) (behind (slice_index_or ss.old s [])) }
+    ensures grows { Grows st.old st.new }
+    ensures sets { SetsGrow ss.old ss.new }
+    ensures twice { OnOk result (IsTwice st.new states.now twice.new) }
+    ensures within { IfOk result (λ c. c ≤ length firsts.now) }
+    ensures yes { IfOk result (λ c. c < length firsts.now →
+        AreAlike st.old states.now (behind (tag_set ss.old tags.now (slice_index firsts.now c))) (behind (slice_index_or ss.old s []))) }
+    ensures no { IfOk result (λ c. (b : ℕ) → b < c →
+        AreAlike st.old states.now (behind (tag_set ss.old tags.now (slice_index firsts.now b))) (behind (slice_index_or ss.old s [])) → ⊥) }
+{
+    for c in 0..firsts.len() {
+        if are_alike(st, ss, states, twice, tags[firsts[c]], s)? {
+            return Ok(c);
+        }
+    }
+    Ok(firsts.len())
+}
+
+/// Puts the next tag into the class at that place, a new one behind the last.
+fn add(all: &mut Classes, i: usize, c: usize) -> Result<(), AllocError>
+    requires within { c ≤ length all.old.firsts }
+    requires few { length all.old.firsts ≤ i }
+    requires place { i + 1 < 2 ^ 64 }
+    ensures numbers { OnOk result (all.new.numbers ≡ all.old.numbers ++ suc c ∷ []) }
+    ensures firsts { OnOk result (all.new.firsts ≡ with_first all.old.firsts i c) }
+{
+    if c == all.firsts.len() {
+        all.firsts.push(i)?;
+    }
+    all.numbers.push(c as u64 + 1)
+}

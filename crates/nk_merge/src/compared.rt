@@ -1,0 +1,100 @@
+//! Two sets of labels compared.
+ghost use Rattle.std.specs.Prelude.{◌≡◌, ◌<◌, ℕ, true, false, [], IfOk, OnOk, length, slice_index_or};
+ghost use Rattle.nk_store.specs.Held.{Grows};
+ghost use Rattle.nk_determ.specs.Sets.{SetsGrow};
+ghost use Rattle.nk_reach.specs.Pairs.{HavePlaces};
+ghost use Rattle.nk_merge.specs.Alike.{behind, AreAlike};
+ghost use Rattle.nk_merge.specs.Apart.{IsApart};
+ghost use Rattle.nk_merge.specs.Joined.{AreLevelsOfTwo};
+ghost use Rattle.nk_merge.specs.Twice.{IsTwice};
+
+use crate::joined::joined;
+use crate::twice::Twice;
+use nk_algebra::identity;
+use nk_determ::{SetId, Sets};
+use nk_reach::{Found, Levels, least_history, levels};
+use nk_store::{Id, Store};
+use std::alloc::AllocError;
+
+/// Whether what is left behind two sets of labels gives the same histories from every packet in range. The only error is that
+/// memory ran out.
+pub fn are_alike(
+    st: &mut Store,
+    ss: &mut Sets,
+    states: &[Id],
+    twice: &mut Twice,
+    s: SetId,
+    t: SetId,
+) -> Result<bool, AllocError>
+    requires twice { IsTwice st.old states.now twice.old }
+    requires first { s < length ss.old }
+    requires second { t < length ss.old }
+    requires first_places { HavePlaces (length states.now) (behind (slice_index_or ss.old s [])) }
+    requires second_places { HavePlaces (length states.now) (behind (slice_index_or ss.old t [])) }
+    ensures grows { Grows st.old st.new }
+    ensures sets { SetsGrow ss.old ss.new }
+    ensures twice { OnOk result (IsTwice st.new states.now twice.new) }
+    ensures yes { IfOk result (λ b. b ≡ true → AreAlike st.old states.now (behind (slice_index_or ss.old s [])) (behind (slice_index_or ss.old t []))) }
+    ensures no { IfOk result (λ b. b ≡ false → AreAlike st.old states.now (behind (slice_index_or ss.old s [])) (behind (slice_index_or ss.old t [])) → ⊥) }
+{
+    if s == t {
+        return Ok(true);
+    }
+    let lv = levels_of_two(st, ss, states, twice, s, t)?;
+    Ok(!lv.broken())
+}
+
+/// Where what is left behind two sets of labels doesn't give the same histories from every packet in range, the least history
+/// that one of them gives alone; its side is the left one where that is the first set. The only error is that memory ran out.
+pub fn apart(
+    st: &mut Store,
+    ss: &mut Sets,
+    states: &[Id],
+    twice: &mut Twice,
+    s: SetId,
+    t: SetId,
+) -> Result<Option<Found>, AllocError>
+    requires twice { IsTwice st.old states.now twice.old }
+    requires first { s < length ss.old }
+    requires second { t < length ss.old }
+    requires first_places { HavePlaces (length states.now) (behind (slice_index_or ss.old s [])) }
+    requires second_places { HavePlaces (length states.now) (behind (slice_index_or ss.old t [])) }
+    ensures grows { Grows st.old st.new }
+    ensures sets { SetsGrow ss.old ss.new }
+    ensures twice { OnOk result (IsTwice st.new states.now twice.new) }
+    ensures ok { IfOk result (λ r. IsApart st.old states.now (behind (slice_index_or ss.old s [])) (behind (slice_index_or ss.old t [])) r) }
+{
+    let both = levels_of_two(st, ss, states, twice, s, t)?;
+    if !both.broken() {
+        return Ok(None);
+    }
+    let found = least_history(st, ss, twice.rows.as_slice(), &both, &mut twice.goal)?;
+    Ok(Some(found))
+}
+
+/// The levels of both sets together, from all packets, up to an end of one of them alone.
+fn levels_of_two(
+    st: &mut Store,
+    ss: &mut Sets,
+    states: &[Id],
+    twice: &mut Twice,
+    s: SetId,
+    t: SetId,
+) -> Result<Levels, AllocError>
+    requires twice { IsTwice st.old states.now twice.old }
+    requires first { s < length ss.old }
+    requires second { t < length ss.old }
+    requires first_places { HavePlaces (length states.now) (behind (slice_index_or ss.old s [])) }
+    requires second_places { HavePlaces (length states.now) (behind (slice_index_or ss.old t [])) }
+    ensures grows { Grows st.old st.new }
+    ensures sets { SetsGrow ss.old ss.new }
+    ensures twice { OnOk result (IsTwice st.new states.now twice.new) }
+    ensures ok { IfOk result (λ lv. AreLevelsOfTwo st.new ss.new states.now (behind (slice_index_or ss.old s [])) (behind (slice_index_or ss.old t [])) twice.new lv.levels lv.broken) }
+{
+    let set = joined(st.alloc(), ss, s, t, states.len())?;
+    let from = identity(st)?;
+    st.laws();
+    let lv = levels(st, ss, twice.rows.as_slice(), set, from, &mut twice.goal)?;
+    st.laws();
+    Ok(lv)
+}
