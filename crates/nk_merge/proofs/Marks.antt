@@ -3,7 +3,9 @@ use Rattle.std.proofs.Common.{◌≡◌, ℕ, zero, suc, ◌+◌, ◌<◌, ◌�
 use Rattle.std.specs.Prelude.{nat_lt, map, Contains, slice_index}
 use Rattle.std.proofs.lemmas.Bool.{ltb-true, ltb-false, lt-ltb, le-ltb}
 use Rattle.nk_field.proofs.Lists.{in_from_contains, contains_from_in, in_left, in_right, in_either, in_mapped, from_mapped, in_decided, numbers_decided, Decided}
-use Rattle.nk_store.specs.Held.{Held}
+use Rattle.nk_store.specs.Held.{Held, IsPacket, HasLeaves}
+use Rattle.nk_algebra.specs.Seqs.{no_out}
+use Rattle.nk_sets.specs.PacketSets.{has_out, is_in}
 use Rattle.nk_determ.specs.Exact.{Sends}
 use Rattle.nk_determ.specs.States.{StateLeads}
 use Rattle.nk_reach.specs.Sides.{mark_of, EndsAt}
@@ -130,3 +132,7 @@ first_of_some (x ∷ xs) h = (x, contains_from_in (x ∷ xs) x (inl refl))
 -- the empty list has no element
 pub none_in : {X : Type 0} (xs : List X) (x : X) → xs ≡ [] → Contains xs x → ⊥
 none_in xs x e c = in_from_contains [] x (subst (λ z. Contains z x) e c)
+
+-- the diagram that passes each packet has all packets
+pub everywhere : (st : Held) (d : ℕ) (pk : List ℕ) → HasLeaves st d (λ x. no_out ∷ []) → IsPacket st pk → is_in st d pk ≡ true
+everywhere st d pk h r = ap has_out (h.leaf pk r.0)

@@ -1,6 +1,7 @@
 //! Two sets of labels compared.
-ghost use Rattle.std.specs.Prelude.{◌≡◌, ◌<◌, ℕ, true, false, [], IfOk, OnOk, length, slice_index_or};
-ghost use Rattle.nk_store.specs.Held.{Grows};
+ghost use Rattle.std.specs.Prelude.{◌≡◌, ◌<◌, ℕ, true, false, List as Items, [], IfOk, OnOk, length, slice_index_or};
+ghost use Rattle.nk_store.specs.Held.{IsPacket, Grows};
+ghost use Rattle.nk_sets.specs.PacketSets.{is_in, IsSet};
 ghost use Rattle.nk_determ.specs.Sets.{SetsGrow};
 ghost use Rattle.nk_reach.specs.Pairs.{HavePlaces};
 ghost use Rattle.nk_merge.specs.Alike.{behind, AreAlike};
@@ -92,9 +93,19 @@ fn levels_of_two(
     ensures ok { IfOk result (λ lv. AreLevelsOfTwo st.new ss.new states.now (behind (slice_index_or ss.old s [])) (behind (slice_index_or ss.old t [])) twice.new lv.levels lv.broken) }
 {
     let set = joined(st.alloc(), ss, s, t, states.len())?;
-    let from = identity(st)?;
+    let from = every_packet(st)?;
     st.laws();
     let lv = levels(st, ss, twice.rows.as_slice(), set, from, &mut twice.goal)?;
     st.laws();
     Ok(lv)
+}
+
+/// The set of all packets.
+#[tactic(auto, using(crate::proofs::Marks::everywhere))]
+fn every_packet(st: &mut Store) -> Result<Id, AllocError>
+    ensures grows { Grows st.old st.new }
+    ensures set { IfOk result (λ d. IsSet st.new d) }
+    ensures each { IfOk result (λ d. (pk : Items ℕ) → IsPacket st.new pk → is_in st.new d pk ≡ true) }
+{
+    identity(st)
 }

@@ -1,6 +1,5 @@
 use Rattle.std.proofs.Common.{◌∙◌, [], get_or, refl, ap}
 use Rattle.nk_store.proofs.Stores.{grows_on}
-use Rattle.nk_sets.specs.PacketSets.{has_out}
 use Rattle.nk_reach.proofs.Growing.{sets_same}
 use Rattle.nk_merge.specs.Alike.{behind}
 use Rattle.nk_merge.proofs.Growing.{twice_on, twice_with}
@@ -8,32 +7,32 @@ use Rattle.nk_merge.proofs.Levelling.{rows_stand, both_have_places, two_levels}
 use Rattle.nk_merge.proofs.compared.levels_of_two.Goals as goal
 
 pub levels-requires-clause-fits : goal.levels-requires-clause-fits
-levels-requires-clause-fits c = (twice_on c.args.st.now c.identity.new.st c.args.states.now c.args.twice.now c.identity.ensures.grows c.requires.twice).fits
+levels-requires-clause-fits c = (twice_on c.args.st.now c.every_packet.new.st c.args.states.now c.args.twice.now c.every_packet.ensures.grows c.requires.twice).fits
 
 pub levels-requires-clause-states : goal.levels-requires-clause-states
 levels-requires-clause-states c =
-    rows_stand c.identity.new.st c.args.states.now c.args.twice.now c.as_slice.result.now c.as_slice.ensures
-    (twice_on c.args.st.now c.identity.new.st c.args.states.now c.args.twice.now c.identity.ensures.grows c.requires.twice) c.laws.ensures.tidy
+    rows_stand c.every_packet.new.st c.args.states.now c.args.twice.now c.as_slice.result.now c.as_slice.ensures
+    (twice_on c.args.st.now c.every_packet.new.st c.args.states.now c.args.twice.now c.every_packet.ensures.grows c.requires.twice) c.laws.ensures.tidy
 
 pub levels-requires-clause-places : goal.levels-requires-clause-places
 levels-requires-clause-places c =
-    both_have_places c.identity.new.st c.args.states.now c.args.twice.now (get_or c.args.ss.now c.args.s []) (get_or c.args.ss.now c.args.t []) c.as_slice.result.now
+    both_have_places c.every_packet.new.st c.args.states.now c.args.twice.now (get_or c.args.ss.now c.args.s []) (get_or c.args.ss.now c.args.t []) c.as_slice.result.now
     (get_or c.joined.new.ss c.in_ok-set.set []) c.as_slice.ensures
-    (twice_on c.args.st.now c.identity.new.st c.args.states.now c.args.twice.now c.identity.ensures.grows c.requires.twice) c.laws.ensures.tidy
+    (twice_on c.args.st.now c.every_packet.new.st c.args.states.now c.args.twice.now c.every_packet.ensures.grows c.requires.twice) c.laws.ensures.tidy
     c.requires.first_places c.requires.second_places c.in_ok-set.ensures.is.members
 
 pub returns-clause-twice : goal.returns-clause-twice
 returns-clause-twice c =
     twice_with c.levels.new.st c.args.states.now c.args.twice.now (record { rows = c.args.twice.now.rows; goal = c.levels.new.g })
-    (twice_on c.args.st.now c.levels.new.st c.args.states.now c.args.twice.now (grows_on _ _ _ c.identity.ensures.grows c.levels.ensures.grows) c.requires.twice)
+    (twice_on c.args.st.now c.levels.new.st c.args.states.now c.args.twice.now (grows_on _ _ _ c.every_packet.ensures.grows c.levels.ensures.grows) c.requires.twice)
     refl c.in_ok-lv.ensures.fits c.in_ok-lv.ensures.labels c.in_ok-lv.ensures.same
 
 pub returns-clause-ok : goal.returns-clause-ok
 returns-clause-ok c =
-    two_levels c.identity.new.st c.levels.new.st c.levels.new.ss c.args.states.now (behind (get_or c.args.ss.now c.args.s [])) (behind (get_or c.args.ss.now c.args.t []))
+    two_levels c.every_packet.new.st c.levels.new.st c.levels.new.ss c.args.states.now (behind (get_or c.args.ss.now c.args.s [])) (behind (get_or c.args.ss.now c.args.t []))
     c.args.twice.now (record { rows = c.args.twice.now.rows; goal = c.levels.new.g }) c.as_slice.result.now c.in_ok-set.set c.in_ok-from.from c.in_ok-lv.lv.levels c.in_ok-lv.lv.broken
     c.levels.ensures.grows c.laws.ensures.tidy c.laws-2.ensures.tidy
-    (twice_on c.args.st.now c.identity.new.st c.args.states.now c.args.twice.now c.identity.ensures.grows c.requires.twice)
+    (twice_on c.args.st.now c.every_packet.new.st c.args.states.now c.args.twice.now c.every_packet.ensures.grows c.requires.twice)
     c.as_slice.ensures refl c.in_ok-lv.ensures.same
     (sets_same c.joined.new.ss c.levels.new.ss c.in_ok-set.set c.levels.ensures.sets c.in_ok-set.ensures.is.within ∙ c.in_ok-set.ensures.is.members)
-    c.in_ok-from.ensures.ok.id (λ pk r. ap has_out (c.in_ok-from.ensures.ok.leaf pk r.0)) c.in_ok-lv.ensures.ok
+    c.in_ok-from.ensures.set.id c.in_ok-from.ensures.each c.in_ok-lv.ensures.ok
