@@ -10,4 +10,5 @@ pub mod Lawful
 pub mod Raising
 pub mod Doubling
 pub mod Levelling
+pub mod Seeing
 pub mod Sorting

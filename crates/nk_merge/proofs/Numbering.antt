@@ -40,7 +40,7 @@ no_firsts = record {
 }
 
 module _ (Alike : ℕ → ℕ → Type 0) (eq : IsEquivalence Alike) (i : ℕ) (numbers firsts : List ℕ) (k : AreClasses Alike i numbers) (f : AreFirsts numbers firsts) (c : ℕ) (le : c ≤ length firsts)
-    (yes : c < length firsts → Alike (slice_index firsts c) i) (no : (b : ℕ) → b < c → Alike (slice_index firsts b) i → ⊥) where
+    (yes : c < length firsts → Alike (slice_index firsts c) i) (none : c ≡ length firsts → (b : ℕ) → b < c → Alike (slice_index firsts b) i → ⊥) where
   -- the numbers with the next one
   abbrev more : List ℕ
   more = numbers ++ suc c ∷ []
@@ -74,14 +74,15 @@ module _ (Alike : ℕ → ℕ → Type 0) (eq : IsEquivalence Alike) (i : ℕ) (
       let is : slice_index numbers (slice_index firsts d) ≡ slice_index numbers j = omega (arith, m.1, one) in
       let mine : Alike (slice_index firsts d) j = (k.same (slice_index firsts d) j (placed d less) lt).0 is in
       let next_one : Alike (slice_index firsts d) i = eq.on (slice_index firsts d) j i mine h in
-      ⊎_elim
-      (λ at.
-      let within : c < length firsts = omega (arith, at.1, less) in
+      let found : c < length firsts → slice_index numbers j ≡ suc c =
+      λ within.
       let n = f.member c within in
       let both : Alike (slice_index firsts c) (slice_index firsts d) = eq.on (slice_index firsts c) i (slice_index firsts d) (yes within) (eq.back (slice_index firsts d) i next_one) in
       let one_class = (k.same (slice_index firsts c) (slice_index firsts d) (placed c within) (placed d less)).1 both in
-      sym is ∙ sym one_class ∙ n.1)
-      (λ lower. absurd (no d lower.1 next_one))
+      sym is ∙ sym one_class ∙ n.1 in
+      ⊎_elim
+      (λ at. found (omega (arith, at.1, less)))
+      (λ lower. ⊎_elim (λ within. found within) (λ last. absurd (none last d lower.1 next_one)) (last_or_before (length firsts) c (omega (arith, le))))
       (leb_tells c d)
 
   -- the classes with the next thing

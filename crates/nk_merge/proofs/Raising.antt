@@ -1,8 +1,9 @@
 -- Labels that are raised by a number, and two lists of them one behind the other.
-use Rattle.std.proofs.Common.{◌≡◌, ℕ, ◌+◌, ◌-◌, ◌<◌, ◌≤◌, inl, inr, ⊎_elim, List, [], ◌∷◌, ◌++◌, refl, sym, ap, ◌∙◌, arith}
-use Rattle.std.specs.Prelude.{All, map}
+use Rattle.std.proofs.Common.{◌≡◌, ℕ, ◌+◌, ◌-◌, ◌<◌, ◌≤◌, inl, inr, ⊎_elim, List, [], ◌∷◌, ◌++◌, length, refl, sym, ap, ◌∙◌, arith}
+use Rattle.std.specs.Prelude.{All, map, slice_index}
+use Rattle.std.proofs.lemmas.List.{get_or_default}
 use Rattle.std.specs.List.Sorted.{IsStrictlyIncreasing}
-use Rattle.nk_field.proofs.Lists.{In, in_either, in_mapped, from_mapped}
+use Rattle.nk_field.proofs.Lists.{In, in_either, in_mapped, from_mapped, in_from_place}
 use Rattle.nk_field.proofs.Ascending.{Rising, all_from_members, members_from_all, rising_from, increasing_from}
 use Rattle.nk_determ.specs.Pairs.{HavePlaces}
 use Rattle.nk_merge.specs.Alike.{behind}
@@ -61,3 +62,7 @@ both_ascend n xs ys p a b =
     let m = from_mapped (λ l. l + n) ys y j in
     let lt = each_below n xs p k.0 k.1 in
     omega (arith, lt, k.2, m.2)))
+
+-- by its place
+pub places_below : (n : ℕ) (xs : List ℕ) → HavePlaces n (behind xs) → (k : ℕ) → k < length xs → slice_index xs k + 1 < n
+places_below n xs p k lt = each_below n xs p (slice_index xs k) (in_from_place xs (slice_index xs k) k lt (get_or_default xs k (slice_index xs k) 0 lt))

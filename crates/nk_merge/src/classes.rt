@@ -1,18 +1,22 @@
 //! The classes of tags.
-ghost use Rattle.std.specs.Prelude.{◌≡◌, ◌+◌, ◌^◌, ◌<◌, ◌≤◌, ℕ, suc, [], ◌∷◌, ◌++◌, All, IfOk, OnOk, length, slice_index, slice_index_or};
+ghost use Rattle.std.specs.Prelude.{◌≡◌, ◌+◌, ◌^◌, ◌<◌, ◌≤◌, ℕ, suc, eqb, [], ◌∷◌, ◌++◌, All, IfOk, OnOk, length, slice_index, slice_index_or};
+ghost use Rattle.std.specs.Map.{lookup};
 ghost use Rattle.nk_store.specs.Held.{Grows};
 ghost use Rattle.nk_determ.specs.Sets.{SetsGrow};
 ghost use Rattle.nk_reach.specs.Pairs.{HavePlaces};
 ghost use Rattle.nk_merge.specs.Alike.{behind, tag_set, AreAlike, AreTagsAlike};
 ghost use Rattle.nk_merge.specs.Classes.{AreClasses, AreFirsts, with_first};
+ghost use Rattle.nk_merge.specs.Seen.{DoesTogether, AreSeen};
 ghost use Rattle.nk_merge.specs.Twice.{IsTwice};
 
 use crate::compared::are_alike;
+use crate::together::diagram_behind;
 use crate::twice::Twice;
 use nk_determ::{SetId, Sets};
 use nk_field::List;
 use nk_store::{Id, Store};
 use std::alloc::AllocError;
+use std::collections::HashMap;
 
 /// The classes of tags.
 #[derive(Drop)]
@@ -45,11 +49,58 @@ pub fn classes_of(
         numbers: List::new(st.alloc()),
         firsts: List::new(st.alloc()),
     };
+    let mut seen = HashMap::new(st.alloc());
     for i in 0..tags.len() {
-        let c = class_of(st, ss, states, twice, tags, all.firsts.as_slice(), tags[i])?;
+        let s = tags[i];
+        let d = diagram_behind(st, ss, states, s)?;
+        let firsts = all.firsts.as_slice();
+        let c = class_by(st, ss, states, twice, tags, firsts, &seen, d, s)?;
         add(&mut all, i, c)?;
+        seen.insert(d, c)?;
     }
     Ok(all)
+}
+
+/// The place of a tag's class: where its diagram was seen before, that one's, else by comparisons with the first tags.
+fn class_by(
+    st: &mut Store,
+    ss: &mut Sets,
+    states: &[Id],
+    twice: &mut Twice,
+    tags: &[SetId],
+    firsts: &[usize],
+    seen: &HashMap<Id, usize>,
+    d: Id,
+    s: SetId,
+) -> Result<usize, AllocError>
+    requires twice { IsTwice st.old states.now twice.old }
+    requires known { All (λ s. s < length ss.old) tags.now }
+    requires places { All (λ s. HavePlaces (length states.now) (behind (slice_index_or ss.old s []))) tags.now }
+    requires firsts { All (λ i. i < length tags.now) firsts.now }
+    requires tag { s < length ss.old }
+    requires tag_places { HavePlaces (length states.now) (behind (slice_index_or ss.old s [])) }
+    requires diagram { DoesTogether st.old states.now (behind (slice_index_or ss.old s [])) d }
+    requires seen { AreSeen st.old states.now ss.old tags.now firsts.now seen.now.entries }
+    ensures grows { Grows st.old st.new }
+    ensures sets { SetsGrow ss.old ss.new }
+    ensures twice { OnOk result (IsTwice st.new states.now twice.new) }
+    ensures within { IfOk result (λ c. c ≤ length firsts.now) }
+    ensures yes { IfOk result (λ c. c < length firsts.now →
+        AreAlike st.old states.now (behind (tag_set ss.old tags.now (slice_index firsts.now c))) (behind (slice_index_or ss.old s []))) }
+    ensures none { IfOk result (λ c. c ≡ length firsts.now → (b : ℕ) → b < c →
+        AreAlike st.old states.now (behind (tag_set ss.old tags.now (slice_index firsts.now b))) (behind (slice_index_or ss.old s [])) → ⊥) }
+{
+    if let Some(c) = seen_at(seen, d) {
+        return Ok(c);
+    }
+    class_of(st, ss, states, twice, tags, firsts, s)
+}
+
+/// What the table has for a diagram.
+fn seen_at(seen: &HashMap<Id, usize>, d: Id) -> Option<usize>
+    ensures { result ≡ lookup (eqb d) seen.now.entries }
+{
+    seen.get(&d).copied()
 }
 
 /// The place among the classes' first tags of the one that the tag is alike; how many there are where it is alike none.
@@ -74,7 +125,7 @@ fn class_of(
     ensures within { IfOk result (λ c. c ≤ length firsts.now) }
     ensures yes { IfOk result (λ c. c < length firsts.now →
         AreAlike st.old states.now (behind (tag_set ss.old tags.now (slice_index firsts.now c))) (behind (slice_index_or ss.old s []))) }
-    ensures no { IfOk result (λ c. (b : ℕ) → b < c →
+    ensures none { IfOk result (λ c. c ≡ length firsts.now → (b : ℕ) → b < c →
         AreAlike st.old states.now (behind (tag_set ss.old tags.now (slice_index firsts.now b))) (behind (slice_index_or ss.old s [])) → ⊥) }
 {
     for c in 0..firsts.len() {

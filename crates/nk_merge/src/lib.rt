@@ -5,6 +5,7 @@ mod classes;
 mod compared;
 mod joined;
 pub mod laws;
+mod together;
 mod twice;
 
 pub use classes::{Classes, classes_of};

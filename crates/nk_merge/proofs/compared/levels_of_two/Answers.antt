@@ -1,4 +1,4 @@
-use Rattle.std.proofs.Common.{◌∙◌, [], get_or, refl, ap}
+use Rattle.std.proofs.Common.{◌∙◌, [], get_or, refl}
 use Rattle.nk_store.proofs.Stores.{grows_on}
 use Rattle.nk_reach.proofs.Growing.{sets_same}
 use Rattle.nk_merge.specs.Alike.{behind}
