@@ -1,6 +1,7 @@
 -- The rows of states with each label twice, one after the other.
-use Rattle.std.proofs.Common.{◌≡◌, ℕ, ◌+◌, ◌-◌, ◌^◌, ◌<◌, Option, Some, None, inl, inr, ⊎_elim, List, [], ◌∷◌, ◌++◌, length, get_or, refl, sym, ap, subst, ◌∙◌, arith}
+use Rattle.std.proofs.Common.{◌≡◌, ℕ, ◌+◌, ◌-◌, ◌^◌, ◌<◌, Option, Some, None, inl, inr, ⊎_elim, List, [], ◌∷◌, ◌++◌, length, get_or, refl, sym, ap, subst, ◌∙◌, arith, cond, eqb}
 use Rattle.std.specs.Prelude.{◌↔◌, slice_index, slice_index_or}
+use Rattle.std.specs.Map.{lookup}
 use Rattle.std.proofs.lemmas.Bool.Decides.{leb_tells}
 use Rattle.nk_store.specs.declared.node.Out.{Out}
 use Rattle.nk_store.specs.Held.{Held, IsId, IsPacket, look, Grows, HasLeaves}
@@ -13,9 +14,10 @@ use Rattle.nk_determ.specs.Pairs.{HavePlaces, AreStates}
 use Rattle.nk_reach.specs.Sides.{alone, ends_of, AreOneSided, IsGoalOf}
 use Rattle.nk_reach.proofs.Kept.{packet_on, packet_back}
 use Rattle.nk_reach.proofs.Growing.{sends_on, sends_back, states_grow}
-use Rattle.nk_merge.specs.Twice.{again, labels_of, AreTwice, IsTwice, IsTwiceUpTo}
+use Rattle.nk_merge.specs.Twice.{again, labels_of, AreTwice, IsTwice, IsTwiceUpTo, IsMadeBy, AreMadeBy}
 use Rattle.nk_merge.specs.declared.twice.Twice.{Twice}
 use Rattle.nk_merge.proofs.Marks.{again_is}
+use Rattle.nk_merge.proofs.Entries.{put_entry}
 use Rattle.nk_merge.proofs.Numbering.{before, last_is, longer, last_or_before}
 use Rattle.nk_merge.proofs.Growing.{one_sided_on, rows_on}
 
@@ -175,3 +177,26 @@ made_twice old mid new states rows given start t ok few begun grows twice same f
   where
     states_mid : AreStates mid states
     states_mid = states_grow old mid states begun ok
+
+-- what is made of states stays so as the store grows, with one state more
+made_on : (a b : Held) (table : List (Option ℕ)) (entries : List (ℕ × ℕ)) → Grows a b → AreMadeBy a table entries → AreMadeBy b table entries
+made_on a b table entries g k state r e =
+    let s = k state r e in
+    record {
+      state_id = g.ids state s.state_id;
+      leaves = record {
+        id = g.ids r s.leaves.id;
+        leaf = λ pk w. g.leaves r pk s.leaves.id ∙ s.leaves.leaf pk w ∙ sym (ap (retargeted table) (g.leaves state pk s.state_id));
+      };
+    }
+
+pub made_more : (a b : Held) (table : List (Option ℕ)) (state r : ℕ) (entries after : List (ℕ × ℕ)) → Grows a b → IsId a state → AreMadeBy a table entries
+    → HasLeaves b r (λ pk. retargeted table (look a state pk))
+    → ((q : ℕ) → lookup (eqb q) after ≡ cond (eqb state q) (Some r) (lookup (eqb q) entries)) → AreMadeBy b table after
+made_more a b table state r entries after g id k h put =
+    put_entry (λ q v. IsMadeBy b table q v) state r entries after (made_on a b table entries g k)
+    (record {
+      state_id = g.ids state id;
+      leaves = record { id = h.id; leaf = λ pk w. h.leaf pk w ∙ sym (ap (retargeted table) (g.leaves state pk id)) };
+    })
+    put

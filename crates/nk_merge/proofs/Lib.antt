@@ -12,3 +12,4 @@ pub mod Doubling
 pub mod Levelling
 pub mod Seeing
 pub mod Sorting
+pub mod Entries

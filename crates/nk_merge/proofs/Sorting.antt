@@ -1,8 +1,7 @@
 -- One tag more is put into a class.
-use Rattle.std.proofs.Common.{◌≡◌, ℕ, suc, ◌+◌, ◌<◌, ◌≤◌, Bool, true, false, cond, eqb, Some, ◌⊎◌, inl, inr, List, [], ◌∷◌, ◌++◌, length, get_or, sym, ap, subst, ◌∙◌, arith}
+use Rattle.std.proofs.Common.{◌≡◌, ℕ, suc, ◌+◌, ◌<◌, ◌≤◌, Bool, true, false, cond, eqb, Some, List, [], ◌∷◌, ◌++◌, length, get_or, sym, ap, subst, ◌∙◌, arith}
 use Rattle.std.specs.Prelude.{slice_index, All}
 use Rattle.std.specs.Map.{lookup}
-use Rattle.std.proofs.lemmas.Bool.Decides.{eqb_tells}
 use Rattle.std.proofs.lemmas.List.{get_or_default, append-nil}
 use Rattle.nk_store.specs.Held.{Held, Grows}
 use Rattle.nk_determ.specs.Sets.{SetsGrow}
@@ -14,6 +13,7 @@ use Rattle.nk_merge.specs.Alike.{behind, tag_set, AreAlike, AreTagsAlike}
 use Rattle.nk_merge.specs.Classes.{AreClasses, AreFirsts, with_first}
 use Rattle.nk_merge.proofs.Growing.{alike_on, alike_back}
 use Rattle.nk_merge.specs.Seen.{DoesTogether, IsSeenAt, AreSeen}
+use Rattle.nk_merge.proofs.Entries.{put_entry}
 use Rattle.nk_merge.proofs.Numbering.{before, last_is, longer, next_classes, next_firsts}
 use Rattle.nk_merge.proofs.Seeing.{does_on, seen_on, seen_longer, seen_one}
 use Rattle.nk_merge.proofs.Lawful.{tags_equivalence}
@@ -72,21 +72,6 @@ module _ (st : Held) (states : List ℕ) (ss : List (List ℕ)) (tags : List ℕ
       subst (λ v. AreFirsts v more_firsts) (sym numbers_are)
       (subst (λ v. AreFirsts (numbers ++ suc c ∷ []) v) (sym firsts_are)
       (next_firsts (AreTagsAlike st states ss tags) (tags_equivalence st states ss tags) i numbers firsts k f c le yes none))
-
--- what a table has once an entry is put in
-put_entry : (P : ℕ → ℕ → Type 0) (d c : ℕ) (entries after : List (ℕ × ℕ)) → ((q r : ℕ) → lookup (eqb q) entries ≡ Some r → P q r) → P d c
-    → ((q : ℕ) → lookup (eqb q) after ≡ cond (eqb d q) (Some c) (lookup (eqb q) entries)) → (q r : ℕ) → lookup (eqb q) after ≡ Some r → P q r
-put_entry P d c entries after each one put q r e = by (eqb_tells d q)
-  where
-    same : (a b : ℕ) → Some a ≡ Some b → a ≡ b
-    same a b is = cc
-
-    by : ((eqb d q ≡ true) × (d ≡ q)) ⊎ ((eqb d q ≡ false) × (d ≡ q → ⊥)) → P q r
-    by (inl h) =
-        let is : Some c ≡ Some r = sym (put q ∙ ap (λ b. cond b (Some c) (lookup (eqb q) entries)) h.0) ∙ e in
-        subst (λ z. P q z) (same c r is) (subst (λ z. P z c) h.1 one)
-    by (inr h) =
-        each q r (sym (put q ∙ ap (λ b. cond b (Some c) (lookup (eqb q) entries)) h.0) ∙ e)
 
 -- the first members are those of before, and perhaps one more
 firsts_stay : (firsts new : List ℕ) (i c : ℕ) → new ≡ with_first firsts i c → (b : ℕ) → b < length firsts → (b < length new) × (slice_index new b ≡ slice_index firsts b)

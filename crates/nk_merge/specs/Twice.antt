@@ -1,8 +1,10 @@
 -- The states of an automaton with each label twice.
-use Rattle.std.specs.Prelude.{◌≡◌, ℕ, zero, suc, ◌+◌, ◌-◌, ◌^◌, ◌<◌, ◌↔◌, List, length, slice_index}
-use Rattle.nk_store.specs.Held.{Held, IsId, IsPacket}
+use Rattle.std.specs.Prelude.{◌≡◌, ℕ, zero, suc, ◌+◌, ◌-◌, ◌^◌, ◌<◌, ◌↔◌, eqb, Option, Some, List, length, slice_index}
+use Rattle.std.specs.Map.{lookup}
+use Rattle.nk_store.specs.Held.{Held, IsId, IsPacket, look, HasLeaves}
 use Rattle.nk_algebra.specs.Unions.{AreIds}
 use Rattle.nk_determ.specs.Exact.{Sends}
+use Rattle.nk_determ.specs.Targets.{retargeted}
 use Rattle.nk_determ.specs.Pairs.{HavePlaces, AreStates}
 use Rattle.nk_reach.specs.Sides.{alone, ends_of, AreOneSided, IsGoalOf}
 use Rattle.nk_merge.specs.declared.twice.Twice.{Twice}
@@ -44,3 +46,12 @@ pub record IsTwiceUpTo (old new : Held) (states rows : List ℕ) (n : ℕ) : Typ
   pub twice : (l : ℕ) (pk y : List ℕ) (t : ℕ) → 0 < l → l < n → IsPacket old pk →
       Sends new (slice_index rows (again (labels_of states) l)) pk y t
       ↔ ((u : ℕ) × Sends old (slice_index states l) pk y u × (t ≡ again (labels_of states) u))
+
+-- the second diagram sends where the first one does, to targets by the table
+pub record IsMadeBy (st : Held) (table : List (Option ℕ)) (state r : ℕ) : Type 0 where
+  pub state_id : IsId st state
+  pub leaves : HasLeaves st r (λ pk. retargeted table (look st state pk))
+
+-- each entry leads from a state to what is made of it
+abbrev pub AreMadeBy : Held → List (Option ℕ) → List (ℕ × ℕ) → Type 0
+AreMadeBy st table entries = (state r : ℕ) → lookup (eqb state) entries ≡ Some r → IsMadeBy st table state r

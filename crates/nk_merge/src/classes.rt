@@ -90,8 +90,8 @@ fn class_by(
     ensures none { IfOk result (λ c. c ≡ length firsts.now → (b : ℕ) → b < c →
         AreAlike st.old states.now (behind (tag_set ss.old tags.now (slice_index firsts.now b))) (behind (slice_index_or ss.old s [])) → ⊥) }
 {
-    if let Some(c) = seen_at(seen, d) {
-        return Ok(c);
+    if let Some(place) = seen_at(seen, d) {
+        return Ok(place);
     }
     class_of(st, ss, states, twice, tags, firsts, s)
 }
