@@ -71,7 +71,7 @@ module _ (st : Held) (states : List ℕ) where
         runs_in_range w h.0 z m (ok.targets l x z h.0 lt r h.2) (sent_in_range st (slice_index states l) x z h.0 tidy r h.2) h.3
 
     -- all labels at which a set records a packet next
-    led_set : (set x z : List ℕ) → HavePlaces (length states) set → IsPacket st x
+    pub led_set : (set x z : List ℕ) → HavePlaces (length states) set → IsPacket st x
         → (s : List ℕ) × HasExactly (λ k. (0 < k) × StateLeads st states set x z k) s
     led_set set x z p r =
         all_listed (λ k. (0 < k) × StateLeads st states set x z k)
