@@ -11,7 +11,7 @@ use std::alloc::{AllocError, Global};
 pub(crate) fn buckets(alloc: Global, tag: Fid, outs: &[Out]) -> Result<List<Bucket>, AllocError>
     ensures { IfOk result (λ bs. bs ≡ bucket_list tag outs.now) }
 {
-    let mut all = List::new(alloc);
+    let mut all = List::with_capacity(alloc, outs.len())?;
     for out in outs {
         let b = bucket(alloc, tag, out)?;
         all.push(b)?;

@@ -29,9 +29,14 @@ impl Way {
         ensures matches { IfOk result (λ w. w.matches ≡ self.now.matches ++ at ∷ []) }
         ensures shown { IfOk result (λ w. w.shown ≡ shown) }
     {
-        let mut matches = self.matches.copy()?;
-        matches.push(at)?;
-        Ok(Way { matches, shown })
+        let before = self.matches.as_slice();
+        let mut all = Vec::with_capacity(alloc, before.len().saturating_add(1))?;
+        all.extend_from_slice(before)?;
+        all.push(at)?;
+        Ok(Way {
+            matches: List::from_vec(all),
+            shown,
+        })
     }
 }
 
@@ -108,7 +113,8 @@ fn tagged(
     ensures { IfOk result (λ ms. ms ≡ put_match tag matches.now) }
 {
     let k = place(tag.0, matches);
-    let mut all = Vec::from_slice(alloc, &matches[..k])?;
+    let mut all = Vec::with_capacity(alloc, matches.len().saturating_add(1))?;
+    all.extend_from_slice(&matches[..k])?;
     all.push(tag)?;
     all.extend_from_slice(&matches[k..])?;
     Ok(List::from_vec(all))

@@ -1,12 +1,13 @@
 //! The walk through a diagram, down each way, that makes the rows in order.
-ghost use Rattle.std.specs.Prelude.{◌≡◌, ◌≤◌, ◌++◌, not, ◌||◌, OnOk};
+ghost use Rattle.std.specs.Prelude.{◌≡◌, ◌≤◌, [], ◌∷◌, ◌++◌, not, ◌||◌, OnOk};
 ghost use Rattle.nk_store.specs.Held.{IsId, node_of, IsCase};
 ghost use Rattle.nk_store.specs.declared.node.Node.TheVariants.{Case};
 ghost use Rattle.nk_extract.specs.Ways.{node_ways, span_rows, ways, rows_behind, is_empty_leaf};
 
 use crate::row::{Frame, Way, leaf_row};
 use nk_field::Fid;
-use nk_prefix::blocks;
+use nk_prefix::laws::blocks_are_aligned;
+use nk_prefix::{blocks, digits_of};
 use nk_store::{Id, Node, Store, else_child};
 use nk_table::Plain;
 use std::alloc::AllocError;
@@ -108,24 +109,43 @@ fn walk_span(
         ++ span_rows frame.now.width frame.now.tag way.now.matches choice.max choice.field choice.shown choice.other
         (ways frame.now.tag.0 st.now) (record { first = span.first; last = span.last; child = span.child })) }
 {
-    let Choice {
-        field,
-        max,
-        other,
-        shown,
-    } = choice;
     let Span { first, last, child } = span;
-    if child == other {
+    if child == choice.other {
         return Ok(());
     }
-    let all = blocks(st.alloc(), first, last, max)?;
+    if first == last {
+        blocks_are_aligned();
+        let block = (first, digits_of(choice.max));
+        return walk_block(st, frame, choice, child, block, way, rows);
+    }
+    let all = blocks(st.alloc(), first, last, choice.max)?;
     let cut = all.as_slice();
     for block in cut {
-        let (value, len) = *block;
-        let next = way.with(st.alloc(), (field, value, len), shown)?;
-        walk(st, frame, child, &next, rows)?;
+        walk_block(st, frame, choice, child, *block, way, rows)?;
     }
     Ok(())
+}
+
+/// The rows of a child for one block of values behind a way.
+#[cycle(walk)]
+fn walk_block(
+    st: &Store,
+    frame: &Frame,
+    choice: Choice,
+    child: Id,
+    block: (u64, u8),
+    way: &Way,
+    rows: &mut Vec<Plain>,
+) -> Result<(), AllocError>
+    requires id { IsId st.now child }
+    requires width { frame.now.width ≤ 18 }
+    ensures { OnOk result (rows.new.items ≡ rows.old.items
+        ++ rows_behind frame.now.width frame.now.tag (way.now.matches ++ (choice.field, block.0, block.1) ∷ [])
+        choice.shown (ways frame.now.tag.0 st.now child)) }
+{
+    let (value, len) = block;
+    let next = way.with(st.alloc(), (choice.field, value, len), choice.shown)?;
+    walk(st, frame, child, &next, rows)
 }
 
 /// Whether a drop is printed behind a block, by the else-child's being the empty leaf.

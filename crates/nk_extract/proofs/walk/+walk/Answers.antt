@@ -1,17 +1,12 @@
-use Rattle.std.proofs.Common.{add-one, arith, ◌≡◌, ◌<◌, ◌≤◌, ◌∙◌, subst, sym, ap, ◌+◌, ℕ, [], ◌∷◌, ◌++◌, length, drop, get_or, not, ◌||◌, List, false}
-use Rattle.std.specs.List.{flat_map}
+use Rattle.std.proofs.Common.{arith, ◌≡◌, ◌<◌, ◌≤◌, ◌∙◌, subst, sym, ap, ◌+◌, ℕ, [], ◌∷◌, ◌++◌, length, drop, get_or, not, ◌||◌, List, false}
 use Rattle.nk_store.specs.Nodes.{Each, Rises}
 use Rattle.nk_store.specs.Held.{IsId, node_of, IsNodeOf, IsCase, IsChild}
 use Rattle.nk_store.proofs.Looks.{joined_some}
 use Rattle.nk_store.specs.declared.node.Node.TheVariants.{Case}
-use Rattle.std.proofs.Math.Seq.{drop-cons}
-use Rattle.nk_prefix.specs.Blocks.{blocks_of}
-use Rattle.std.specs.Prelude.{◌==◌}
-use Rattle.nk_table.specs.declared.Plain.{Plain}
 use Rattle.std.proofs.lemmas.List.{drop_all}
 use Rattle.nk_extract.specs.Ways.{ways, rows_behind, bucket_list, node_ways, is_empty_leaf}
 use Rattle.nk_store.proofs.Children.{rest_is, else_has, each_of, each_drop}
-use Rattle.nk_extract.proofs.Walks.{ways_leaf, ways_case, on_ok, case_returns, blocks_step, blocks_end}
+use Rattle.nk_extract.proofs.Walks.{ways_leaf, ways_case, on_ok, case_returns}
 use Rattle.nk_extract.proofs.walk.+walk.Goals as goal
 
 pub walk-returns-in-Leaf : goal.walk-returns-in-Leaf
@@ -67,32 +62,3 @@ walk_case-returns t c =
     (drop_all c.loop-end.end-index c.args.parts.now c.loop-end-test.false)
     c.loop-end.invariant.made)
     c.walk.ensures
-
-pub walk_span-loop-block-init : goal.walk_span-loop-block-init
-walk_span-loop-block-init t c =
-    let g : ℕ × ℕ → List Plain = λ b. rows_behind c.args.frame.now.width c.args.frame.now.tag (c.args.way.now.matches ++ (c.args.choice.field, b.0, b.1) ∷ []) c.args.choice.shown (ways c.args.frame.now.tag.0 c.args.st.now c.args.span.child) in
-    ap (λ bs. c.args.rows.now.items ++ flat_map g bs) (c.as_slice-cut.ensures.value ∙ c.in_ok-all.ensures)
-
-pub walk_span-loop-block-preserved : goal.walk_span-loop-block-preserved
-walk_span-loop-block-preserved t c =
-    let tag = c.args.frame.now.tag in
-    let bs = c.as_slice-cut.result.now in
-    let i = c.loop-block.block-index in
-    let b = get_or bs i (0, 0) in
-    let g : ℕ × ℕ → List Plain = λ b. rows_behind c.args.frame.now.width tag (c.args.way.now.matches ++ (c.args.choice.field, b.0, b.1) ∷ []) c.args.choice.shown (ways tag.0 c.args.st.now c.args.span.child) in
-    let e : c.walk.new.rows.items ≡ c.loop-block.rows.items ++ g b =
-    c.in_ok-walk.ensures
-    ∙ ap (λ ms. c.loop-block.rows.items ++ rows_behind c.args.frame.now.width tag ms c.in_ok-next.next.shown (ways tag.0 c.args.st.now c.args.span.child)) c.in_ok-next.ensures.matches
-    ∙ ap (λ d. c.loop-block.rows.items ++ rows_behind c.args.frame.now.width tag (c.args.way.now.matches ++ (c.args.choice.field, b.0, b.1) ∷ []) d (ways tag.0 c.args.st.now c.args.span.child)) c.in_ok-next.ensures.shown in
-    blocks_step g c.loop-block.rows.items c.walk.new.rows.items (c.args.rows.now.items ++ flat_map g (blocks_of c.args.span.first c.args.span.last c.args.choice.max)) b (drop i bs) (drop (i + 1) bs)
-    (drop-cons bs i (0, 0) c.loop-block-test.true ∙ ap (λ n. b ∷ drop n bs) (sym (add-one i)))
-    c.loop-block.invariant e
-
-pub walk_span-returns : goal.walk_span-returns
-walk_span-returns t c =
-    blocks_end
-    (λ b. rows_behind c.args.frame.now.width c.args.frame.now.tag (c.args.way.now.matches ++ (c.args.choice.field, b.0, b.1) ∷ []) c.args.choice.shown (ways c.args.frame.now.tag.0 c.args.st.now c.args.span.child))
-    c.args.rows.now.items c.loop-block.rows.items (c.args.span.child == c.args.choice.other) (blocks_of c.args.span.first c.args.span.last c.args.choice.max) (drop c.loop-block.block-index c.as_slice-cut.result.now)
-    (sym c.eq.ensures ∙ c.if-eq.false)
-    (drop_all c.loop-block.block-index c.as_slice-cut.result.now c.loop-block-test.false)
-    c.loop-block.invariant

@@ -7,13 +7,16 @@ use Rattle.nk_extract.specs.Ways.{ways, span_rows, rows_behind}
 use Rattle.nk_extract.proofs.walk.+walk.Given as goal
 
 abbrev pub decreases-walk : goal.decreases-walk
-decreases-walk l = 3 * l.d + 2
+decreases-walk l = 4 * l.d + 3
 
 abbrev pub decreases-walk_case : goal.decreases-walk_case
-decreases-walk_case l = 3 * l.d + 1
+decreases-walk_case l = 4 * l.d + 2
 
 abbrev pub decreases-walk_span : goal.decreases-walk_span
-decreases-walk_span l = 3 * l.span.child + 3
+decreases-walk_span l = 4 * l.span.child + 5
+
+abbrev pub decreases-walk_block : goal.decreases-walk_block
+decreases-walk_block l = 4 * l.child + 4
 
 abbrev pub invariant-walk_case-loop-end : goal.invariant-walk_case-loop-end
 invariant-walk_case-loop-end l = record {
@@ -23,4 +26,4 @@ invariant-walk_case-loop-end l = record {
 
 abbrev pub invariant-walk_span-loop-block : goal.invariant-walk_span-loop-block
 invariant-walk_span-loop-block l =
-    l.rows.items ++ flat_map (λ b. rows_behind l.frame.width l.frame.tag (l.way.matches ++ (l.field, b.0, b.1) ∷ []) l.shown (ways l.frame.tag.0 l.st l.child)) (drop l.block-index l.cut) ≡ l.fn.rows.items ++ flat_map (λ b. rows_behind l.frame.width l.frame.tag (l.way.matches ++ (l.field, b.0, b.1) ∷ []) l.shown (ways l.frame.tag.0 l.st l.child)) (blocks_of l.first l.last l.max)
+    l.rows.items ++ flat_map (λ b. rows_behind l.frame.width l.frame.tag (l.way.matches ++ (l.choice.field, b.0, b.1) ∷ []) l.choice.shown (ways l.frame.tag.0 l.st l.child)) (drop l.block-index l.cut) ≡ l.fn.rows.items ++ flat_map (λ b. rows_behind l.frame.width l.frame.tag (l.way.matches ++ (l.choice.field, b.0, b.1) ∷ []) l.choice.shown (ways l.frame.tag.0 l.st l.child)) (blocks_of l.first l.last l.choice.max)
