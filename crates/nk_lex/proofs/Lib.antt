@@ -6,6 +6,7 @@ pub mod Held
 pub mod Arms
 pub mod Cuts
 pub mod Steps
+mod ReadLexemes
 pub mod Standing
 pub mod Names
 pub mod Digits

@@ -8,3 +8,4 @@ pub mod Pieces
 pub mod Kept
 pub mod NextPiece
 pub mod Faults
+pub mod Texts

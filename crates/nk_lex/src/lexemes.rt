@@ -8,7 +8,9 @@ ghost use Rattle.std.specs.Prelude.{
   ◌^◌,
   ◌++◌,
   [],
+  ◌∷◌,
   length,
+  Option,
   Some,
   None,
   Ok,
@@ -24,6 +26,7 @@ ghost use Rattle.std.specs.Prelude.{
   IsUtf8,
 };
 ghost use Rattle.std.specs.List.{All};
+ghost use Rattle.nk_lex.specs.declared.token.Token.{Token};
 ghost use Rattle.nk_lex.specs.Kinds.{kind_of_name};
 ghost use Rattle.nk_lex.specs.Kept.{value_on};
 ghost use Rattle.nk_lex.specs.Lex.{
@@ -34,6 +37,7 @@ ghost use Rattle.nk_lex.specs.Lex.{
   token,
   tokens_of,
   value_of,
+  Fails,
   HasToken,
   Returns,
 };
@@ -177,6 +181,59 @@ pub fn add(tokens: &mut Vec<Token>, token: Option<Token>) -> Result<(), LexError
     }
 }
 
+/// Puts a token at the end, with the error of a text.
+fn push(tokens: &mut Vec<Token>, token: Token) -> Result<(), LexError>
+    ensures ok { OnOk result (tokens.new.items ≡ tokens.old.items ++ token ∷ []) }
+    ensures err { IfErr result (λ e. e ≡ LexError.NoMemory) }
+{
+    match tokens.push(token) {
+        Ok(()) => Ok(()),
+        Err(AllocFailed { .. }) => Err(LexError::NoMemory),
+    }
+}
+
+/// The same as `lexeme`, which puts the token at the end at once.
+fn read_lexeme(
+    alloc: Global,
+    tokens: &mut Vec<Token>,
+    bytes: &[u8],
+    at: usize,
+    line: u64,
+) -> Result<usize, LexError>
+    requires some { 0 < length bytes.now }
+    requires room { at + length bytes.now < 2 ^ 64 }
+    ensures ok { IfOk result (λ n. (t : Option Token) × (cut_front bytes.now line at ≡ Ok (n, t))
+        × (tokens.new.items ≡ tokens.old.items ++ option_to_list t)) }
+    ensures err { IfErr result (λ e. Fails e (cut_front bytes.now line at)) }
+    ensures fits { IfOk result (λ n. (0 < n) × (n ≤ length bytes.now)) }
+{
+    let [first, rest @ ..] = bytes else {
+        unreachable!()
+    };
+    match front_at(*first, rest) {
+        Front::Blank(len) => Ok(len),
+        Front::Name(len) => match word(alloc, &bytes[..len], at, line) {
+            Ok(token) => {
+                push(tokens, token)?;
+                Ok(len)
+            }
+            Err(AllocError) => Err(LexError::NoMemory),
+        },
+        Front::Number(len) => match number(alloc, &bytes[..len], at, line) {
+            Ok(token) => {
+                push(tokens, token)?;
+                Ok(len)
+            }
+            Err(fault) => Err(fault),
+        },
+        Front::Symbol(len, kind) => {
+            push(tokens, plain(alloc, kind, at, len, line, 0))?;
+            Ok(len)
+        }
+        Front::Bad => Err(LexError::BadByte { line }),
+    }
+}
+
 /// The line behind a byte.
 pub fn line_past(line: u64, byte: u8) -> u64
     requires { line < 2 ^ 64 - 1 }
@@ -196,8 +253,7 @@ pub fn tokens(alloc: Global, text: &[u8]) -> Result<Vec<Token>, LexError>
     let mut at = 0;
     let mut line = 1u64;
     'lexemes: while at < text.len() {
-        let (len, token) = lexeme(alloc, &text[at..], at, line)?;
-        add(&mut tokens, token)?;
+        let len = read_lexeme(alloc, &mut tokens, &text[at..], at, line)?;
         line = line_past(line, text[at]);
         at += len;
     }

@@ -7,9 +7,10 @@ use Rattle.nk_lex.proofs.lexemes.tokens.Goals as goal
 
 pub lexemes-preserved : goal.lexemes-preserved
 lexemes-preserved c =
-    rw (c.in_ok-add.ensures.ok, c.line_past-line.ensures)
-    (kept c.args.text.now c.lexemes.at c.in_ok-len.len c.lexemes.line c.in_ok-len.token c.lexemes.tokens.items
-    c.lexemes-test.true c.lexemes.invariant c.in_ok-len.ensures.fits c.in_ok-len.ensures.cut)
+    let read = c.in_ok-len.ensures.ok in
+    rw (read.2, c.line_past-line.ensures)
+    (kept c.args.text.now c.lexemes.at c.in_ok-len.len c.lexemes.line read.0 c.lexemes.tokens.items
+    c.lexemes-test.true c.lexemes.invariant c.in_ok-len.ensures.fits read.1)
 
 pub returns-clause-small : goal.returns-clause-small
 returns-clause-small c =
