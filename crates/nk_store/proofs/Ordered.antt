@@ -1,11 +1,12 @@
 -- Outs put in order, each once.
-use Rattle.std.proofs.Common.{◌≡◌, sym, subst, List, [], ◌∷◌, refl, zero, suc, ℕ, ◌<◌, length, arith, get_or, Contains}
+use Rattle.std.proofs.Common.{◌≡◌, sym, subst, List, [], ◌∷◌, refl, zero, suc, ℕ, ◌+◌, ◌<◌, length, arith, get_or, Contains}
 use Rattle.std.specs.declared.cmp.Ordering.TheVariants.{Less}
 use Rattle.std.specs.Cmp.{decided}
 use Rattle.std.specs.List.{AllByRecursion, dedup}
 use Rattle.std.specs.List.Sorted.{IsPermutation, IsSorted, IsStrictlySortedBy}
 use Rattle.std.proofs.lemmas.List.Kept.{Contains-dedup, Contains-from_dedup, IsStrictlySortedBy-dedup}
 use Rattle.std.proofs.lemmas.List.Sorted.{Contains-permutation, IsPermutation-sym}
+use Rattle.std.proofs.lemmas.Map.Keys.{sorted_from_all_adjacent}
 use Rattle.nk_store.specs.declared.node.Out.{Out}
 use Rattle.nk_store.specs.contracts.node.OutOrd.TheImpl.Laws.{total-law, matches_eq-law}
 use Rattle.nk_store.specs.contracts.node.OutPartialEq.TheImpl as out_impl
@@ -22,6 +23,16 @@ strict_list : (xs : List Out) → IsStrictlySortedBy out_cmp xs → Strict xs
 unfolding IsStrictlySortedBy
 strict_list [] h = tt
 strict_list (x ∷ xs) h = (every_out (λ y. out_cmp x y ≡ Less) xs h.0, strict_list xs h.1)
+
+-- outs each before the next one are in strict order
+pub strict_from_neighbours : (xs : List Out)
+    → ((k : ℕ) (d : Out) → k + 1 < length xs → out_cmp (get_or xs k d) (get_or xs (k + 1) d) ≡ Less) → Strict xs
+strict_from_neighbours [] h = tt
+strict_from_neighbours (x ∷ xs) h = strict_list (x ∷ xs) (sorted_from_all_adjacent total-law (x ∷ xs) x (λ k l. h k x l))
+
+-- outs in strict order are in order, each once
+pub ordered_already : (outs : List Out) → Strict outs → AreOrdered outs outs
+ordered_already outs s = record { sorted = s; members = λ o. (λ h. h, λ h. h) }
 
 -- what holds of each out holds of a member
 pub every_member : (P : Out → Type 0) (xs : List Out) (o : Out) → Every P xs → Contains xs o → P o

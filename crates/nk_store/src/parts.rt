@@ -51,7 +51,7 @@ pub fn join_neighbours(
 ) -> Result<List<(u64, Id)>, AllocError>
     ensures { IfOk result (λ kept. kept ≡ joined parts.now) }
 {
-    let mut kept = List::new(alloc);
+    let mut kept = List::with_capacity(alloc, runs(parts.as_slice()))?;
     let n = parts.len();
     for i in 0..n {
         let part = *parts.at(i);
@@ -60,4 +60,15 @@ pub fn join_neighbours(
         }
     }
     Ok(kept)
+}
+
+/// How many runs of parts with one child there are.
+fn runs(parts: &[(u64, Id)]) -> usize {
+    let mut count = 1usize;
+    for i in 1..parts.len() {
+        if parts[i - 1].1 != parts[i].1 {
+            count = count.saturating_add(1);
+        }
+    }
+    count
 }

@@ -2,7 +2,8 @@
 ghost use Rattle.std.specs.Prelude.{◌≡◌, ℕ, ◌≤◌, [], ◌∷◌, length, true, slice_index, IfOk, IfSome, List as Items};
 ghost use Rattle.nk_store.specs.declared.node.Out.{Out};
 ghost use Rattle.nk_store.specs.Nodes.{child_at, is_empty_leaf, Sound};
-ghost use Rattle.nk_store.specs.Leaves.{Strict, Every, Suits, AreOrdered};
+ghost use Rattle.std.specs.declared.cmp.Ordering.TheVariants.{Less};
+ghost use Rattle.nk_store.specs.Leaves.{out_cmp, Strict, Every, Suits, AreOrdered};
 ghost use Rattle.nk_store.specs.Held.{IsId, node_of, look, top, Grows, HasLeaves, AreParts, IsNodeOf, IsStill, IsReduced, AreTidy, Agree, IsCanonical, IsOver, HasFields};
 ghost use Rattle.nk_store.specs.KeptAnswers.{IsAnswer, passing};
 
@@ -12,6 +13,7 @@ use crate::node_table::NodeTable;
 use crate::operation::Operation;
 use nk_field::{Act, Fid, Fields, List, Packet};
 use std::alloc::{AllocError, Global};
+use std::cmp::Ordering;
 use std::marker::Model;
 
 /// Diagrams that share their nodes. Two diagrams are equal exactly where their numbers are. The store also keeps answers
@@ -228,8 +230,30 @@ impl Store {
 fn in_order(outs: List<Out>) -> List<Out>
     ensures { AreOrdered outs result }
 {
+    if ascend(outs.as_slice()) {
+        return outs;
+    }
     let mut all = outs.into_vec();
     all.sort_unstable();
     all.dedup();
     List::from_vec(all)
+}
+
+/// Whether each out is before the next one.
+fn ascend(outs: &[Out]) -> bool
+    ensures { result ≡ true → Strict outs.now }
+{
+    for i in 1..outs.len() {
+        if !is_before(&outs[i - 1], &outs[i]) {
+            return false;
+        }
+    }
+    true
+}
+
+/// Whether an out is before another one.
+fn is_before(a: &Out, b: &Out) -> bool
+    ensures { result ≡ true → out_cmp a.now b.now ≡ Less }
+{
+    a.cmp(b) == Ordering::Less
 }
