@@ -10,6 +10,7 @@ pub mod Sorted
 pub mod Acts
 pub mod Members
 pub mod Unite
+pub mod Alone
 pub mod Predicates
 pub mod Laters
 pub mod OverPlaces

@@ -39,7 +39,7 @@ impl Join for Together {
 }
 
 /// Two diagrams together, where they are one or one of them drops each packet.
-fn united(st: &Store, a: Id, b: Id) -> Option<Id>
+pub(crate) fn united(st: &Store, a: Id, b: Id) -> Option<Id>
     requires left { IsId st.now a }
     requires right { IsId st.now b }
     ensures { IfSome result (λ d. HasLeaves st.now d (λ pk. merged (look st.now a pk) (look st.now b pk))) }

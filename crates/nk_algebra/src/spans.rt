@@ -43,7 +43,7 @@ fn span_parts(
 ) -> Result<List<(u64, Id)>, AllocError>
     ensures { IfOk result (λ ps. ps ≡ span_list max lo hi inside outside) }
 {
-    let mut parts = List::new(alloc);
+    let mut parts = List::with_capacity(alloc, 3)?;
     if lo != 0 {
         parts.push((lo - 1, outside))?;
     }

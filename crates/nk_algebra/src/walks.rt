@@ -65,20 +65,24 @@ pub fn map_nodes<M: NodeMap>(st: &mut Store, m: &M, d: Id) -> Result<Id, AllocEr
 {
     match first_before(st, d, m.place()) {
         None => m.change(st, d),
-        Some(_) => map_below(st, m, d),
+        Some(g) => map_below(st, m, g, d),
     }
 }
 
 /// The same of a diagram that tests a field which is kept.
-fn map_below<M: NodeMap>(st: &mut Store, m: &M, d: Id) -> Result<Id, AllocError>
+fn map_below<M: NodeMap>(st: &mut Store, m: &M, g: Fid, d: Id) -> Result<Id, AllocError>
     requires id { IsId st.old d }
+    requires field { g < 18 }
+    requires before { g < M.kept m.now }
+    requires first { top st.old d ≡ g }
+    requires split { IsSplit st.old g d }
     requires allowed { M.allowed m.now st.old.maxes }
     ensures grows { Grows st.old st.new }
     ensures ok { IfOk result (λ r. HasLeaves st.new r (λ pk. M.made m.now st.old.maxes pk (look st.old d (M.taken m.now pk)))) }
     ensures later { IfOk result (λ r. M.first m.now (top st.old d) ≤ top st.new r) }
 {
     let mut seen = HashMap::new(st.alloc());
-    walk_once(st, &mut seen, m, d)
+    walk_node(st, &mut seen, m, g, d)
 }
 
 /// What is made of a diagram, by whether it tests a field which is kept.
@@ -227,7 +231,7 @@ fn walk_parts<M: NodeMap>(
 {
     m.laws();
     let max = st.max(g);
-    let mut parts = List::new(st.alloc());
+    let mut parts = List::with_capacity(st.alloc(), part_count(st, d))?;
     let mut near = 0;
     let mut from = 0;
     loop {
@@ -238,5 +242,15 @@ fn walk_parts<M: NodeMap>(
             return Ok(parts);
         }
         from = end + 1;
+    }
+}
+
+/// How many parts a diagram has by the field that it tests first.
+fn part_count(st: &Store, d: Id) -> usize
+    requires { IsId st.now d }
+{
+    match st.view(d) {
+        Node::Case(_, parts) => parts.len(),
+        Node::Leaf(_) => 1,
     }
 }
