@@ -1,5 +1,5 @@
 //! Sets with a field forgotten.
-ghost use Rattle.std.specs.Prelude.{◌≡◌, ◌<◌, map, IfOk, OnOk, MatchOption};
+ghost use Rattle.std.specs.Prelude.{◌≡◌, ◌<◌, true, map, IfOk, IfSome, OnOk, MatchOption};
 ghost use Rattle.nk_store.specs.Held.{IsId, IsStill, IsCase, Grows, top};
 ghost use Rattle.nk_sets.specs.PacketSets.{IsSet};
 ghost use Rattle.nk_sets.specs.Forgets.{IsForgotten, AreForgotten};
@@ -10,6 +10,9 @@ use nk_store::{Id, Node, Store};
 use std::alloc::{AllocError, Global};
 use std::collections::HashMap;
 
+/// Up to how many parts a set's children are put together without keeping what they are.
+const FEW: usize = 4;
+
 /// The packets that are in the set for some value of the field. Each node of the set is visited once.
 pub(crate) fn forget(st: &mut Store, s: Id, f: Fid) -> Result<Id, AllocError>
     requires { IsSet st.old s }
@@ -17,8 +20,11 @@ pub(crate) fn forget(st: &mut Store, s: Id, f: Fid) -> Result<Id, AllocError>
     ensures ok { IfOk result (λ r. IsForgotten st.new f s r) }
 {
     let _place = f.place();
+    if is_past(st, s, f) {
+        return Ok(s);
+    }
     let mut seen = HashMap::new(st.alloc());
-    forget_once(st, &mut seen, s, f)
+    forget_new(st, &mut seen, s, f)
 }
 
 /// The set with the field forgotten, which is looked up where it was made before.
@@ -31,12 +37,47 @@ fn forget_once(st: &mut Store, seen: &mut HashMap<Id, Id>, s: Id, f: Fid) -> Res
     ensures ok { IfOk result (λ r. IsForgotten st.new f s r) }
     ensures seen { OnOk result (AreForgotten st.new f seen.new.entries) }
 {
+    if is_past(st, s, f) {
+        return Ok(s);
+    }
+    if let Some(parts) = few_here(st, s, f)? {
+        return forget_here(st, s, f, parts.as_slice());
+    }
     if let Some(r) = known(seen, s) {
         return Ok(r);
     }
     let r = forget_new(st, seen, s, f)?;
     seen.insert(s, r)?;
     Ok(r)
+}
+
+/// Whether a set tests neither the field nor one before it.
+fn is_past(st: &Store, s: Id, f: Fid) -> bool
+    requires { IsId st.now s }
+    ensures past { result ≡ true → f < top st.now s }
+    ensures still { IsStill st.now s }
+{
+    match st.view(s) {
+        Node::Leaf(_) => true,
+        Node::Case(g, _) => f.place() < g.place(),
+    }
+}
+
+/// The parts of a set that tests the field first, where they are few: then finding the answer again costs less than keeping it.
+fn few_here(st: &Store, s: Id, f: Fid) -> Result<Option<List<(u64, Id)>>, AllocError>
+    requires { IsId st.now s }
+    ensures { IfOk result (λ o. IfSome o (λ parts. IsCase st.now s f parts)) }
+{
+    match st.view(s) {
+        Node::Case(g, parts) => {
+            if *g == f && parts.len() <= FEW {
+                Ok(Some(parts.copy()?))
+            } else {
+                Ok(None)
+            }
+        }
+        Node::Leaf(_) => Ok(None),
+    }
 }
 
 /// The set with the field forgotten, made anew.

@@ -23,8 +23,8 @@ forget_case-returns-else-eq-clause-ok t c =
     let right = c.place-2.ensures.is in
     stays c.args.st.now c.args.f c.args.s c.requires.set (c.laws-laws.ensures.still c.args.s c.requires.set.id) (omega (arith, top, other, not_before, left, right))
 
-pub forget_once-returns-in-Some-clause-ok : goal.forget_once-returns-in-Some-clause-ok
-forget_once-returns-in-Some-clause-ok t c = c.requires.seen c.args.s c.in-Some.r (sym c.known.ensures ∙ c.in-Some.is)
+pub forget_once-returns-in-Some-known-clause-ok : goal.forget_once-returns-in-Some-known-clause-ok
+forget_once-returns-in-Some-known-clause-ok t c = c.requires.seen c.args.s c.in-Some-known.r (sym c.known.ensures ∙ c.in-Some-known.is)
 
 pub forget_case-returns-then-eq-clause-seen : goal.forget_case-returns-then-eq-clause-seen
 forget_case-returns-then-eq-clause-seen t c =
@@ -64,3 +64,11 @@ forget_parts-returns-clause-ok t c =
 pub forget_parts-returns-clause-seen : goal.forget_parts-returns-clause-seen
 forget_parts-returns-clause-seen t c =
     on_any c.case.result _ (entries_grow c.loop-end.st c.case.new.self c.args.f c.loop-end.seen.entries c.case.ensures.grows c.loop-end.invariant.seen)
+
+pub forget_once-returns-then-is_past-clause-ok : goal.forget_once-returns-then-is_past-clause-ok
+forget_once-returns-then-is_past-clause-ok t c =
+    stays c.args.st.now c.args.f c.args.s c.requires.set c.is_past.ensures.still (c.is_past.ensures.past c.if-is_past.true)
+
+pub forget_once-returns-in-Some-clause-seen : goal.forget_once-returns-in-Some-clause-seen
+forget_once-returns-in-Some-clause-seen t c =
+    on_any c.forget_here.result _ (entries_grow c.args.st.now c.forget_here.new.st c.args.f c.args.seen.now.entries c.forget_here.ensures.grows c.requires.seen)
