@@ -74,13 +74,40 @@ fn collect_all<C: Collector>(st: &Store, c: &C, d: Id) -> Result<List<u64>, Allo
 {
     let mut seen = HashSet::new(st.alloc());
     let mut found = List::new(st.alloc());
-    collect(st, c, &mut seen, &mut found, d)?;
+    collect_new(st, c, &mut seen, &mut found, d)?;
     Ok(found)
 }
 
 /// Collects of the leaves of a diagram, unless that was done before.
 #[cycle(collect)]
 fn collect<C: Collector>(
+    st: &Store,
+    c: &C,
+    seen: &mut HashSet<Id>,
+    found: &mut List<u64>,
+    d: Id,
+) -> Result<(), AllocError>
+    requires id { IsId st.now d }
+    requires seen { AllHaveItems (C.items c.now) found.old st.now seen.old.keys }
+    ensures more { AreAmong found.old found.new }
+    ensures ok { OnOk result (HasItems (C.items c.now) found.new st.now d) }
+    ensures seen { OnOk result (AllHaveItems (C.items c.now) found.new st.now seen.new.keys) }
+{
+    match st.view(d) {
+        Node::Leaf(outs) => {
+            if outs.len() < 2 {
+                c.add(found, outs.as_slice())
+            } else {
+                collect_once(st, c, seen, found, d)
+            }
+        }
+        Node::Case(_, _) => collect_once(st, c, seen, found, d),
+    }
+}
+
+/// Collects of the leaves of a diagram, unless that was done before, which is kept.
+#[cycle(collect)]
+fn collect_once<C: Collector>(
     st: &Store,
     c: &C,
     seen: &mut HashSet<Id>,
