@@ -112,7 +112,7 @@ fn length(out: &mut Vec<u8>, fs: &Fields, m: &(Fid, u64, u8)) -> Result<(), Allo
         return Ok(());
     }
     let (_, _, length) = *m;
-    out.extend_from_slice(b"/")?;
+    out.push(b'/')?;
     number(out, length as u64)
 }
 
@@ -122,10 +122,10 @@ fn one_match(out: &mut Vec<u8>, fs: &Fields, m: &(Fid, u64, u8)) -> Result<(), A
 {
     let (f, value, _) = *m;
     out.extend_from_slice(fs.name(f).as_bytes())?;
-    out.extend_from_slice(b"=")?;
+    out.push(b'=')?;
     number(out, value)?;
     length(out, fs, m)?;
-    out.extend_from_slice(b" ")?;
+    out.push(b' ')?;
     Ok(())
 }
 
@@ -136,7 +136,7 @@ fn one_set(out: &mut Vec<u8>, fs: &Fields, f: Fid, n: u64) -> Result<(), AllocEr
     out.extend_from_slice(fs.name(f).as_bytes())?;
     out.extend_from_slice(b":=")?;
     number(out, n)?;
-    out.extend_from_slice(b" ")?;
+    out.push(b' ')?;
     Ok(())
 }
 
@@ -197,11 +197,11 @@ fn set_if(out: &mut Vec<u8>, fs: &Fields, f: Fid, n: u64, tag: bool) -> Result<(
 fn bucket(out: &mut Vec<u8>, fs: &Fields, b: &Bucket) -> Result<(), AllocError>
     ensures { OnOk result (out.new.items ≡ out.old.items ++ bucket_text fs.now b.now) }
 {
-    out.extend_from_slice(b"[")?;
+    out.push(b'[')?;
     some_sets(out, fs, b.sets.as_slice(), false)?;
     some_sets(out, fs, b.sets.as_slice(), true)?;
     exit(out, &b.exit)?;
-    out.extend_from_slice(b"]")?;
+    out.push(b']')?;
     Ok(())
 }
 
@@ -249,7 +249,7 @@ fn row(out: &mut Vec<u8>, fs: &Fields, r: &Row) -> Result<(), AllocError>
     some_matches(out, fs, r.matches.as_slice(), false)?;
     out.extend_from_slice(b"-> ")?;
     target(out, fs, &r.target)?;
-    out.extend_from_slice(b"\n")?;
+    out.push(b'\n')?;
     Ok(())
 }
 
@@ -258,7 +258,7 @@ fn spaced(out: &mut Vec<u8>, fs: &Fields, bs: &[Bucket]) -> Result<(), AllocErro
     ensures { OnOk result (out.new.items ≡ out.old.items ++ flat_map (λ b. codes " " ++ bucket_text fs.now b) bs.now) }
 {
     for b in bs {
-        out.extend_from_slice(b" ")?;
+        out.push(b' ')?;
         bucket(out, fs, b)?;
     }
     Ok(())
@@ -272,7 +272,7 @@ fn group(out: &mut Vec<u8>, fs: &Fields, g: &Group) -> Result<(), AllocError>
     number(out, g.number)?;
     out.extend_from_slice(b" =")?;
     spaced(out, fs, g.buckets.as_slice())?;
-    out.extend_from_slice(b"\n")?;
+    out.push(b'\n')?;
     Ok(())
 }
 
@@ -320,6 +320,6 @@ pub(crate) fn section(
 {
     out.extend_from_slice(b"table ")?;
     number(out, sw as u64)?;
-    out.extend_from_slice(b"\n")?;
+    out.push(b'\n')?;
     rules(out, fs, tables, sw)
 }
