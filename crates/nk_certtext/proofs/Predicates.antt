@@ -12,11 +12,11 @@ use Rattle.nk_names.specs.declared.fault.NamesError.{NamesError}
 use Rattle.nk_names.specs.Meant.{MaybeTextFault, policy_for}
 use Rattle.nk_names.specs.ProgramOf.{predicate_fault, row_policy}
 use Rattle.nk_names.proofs.Predicates.{faultless_row}
-use Rattle.nk_cert.specs.Certificates.{RowValue, CertRow, later_row, rows_of}
+use Rattle.nk_cert.specs.Certificates.{RowValue, CertificateValue, CertRow, later_row, rows_of}
 use Rattle.nk_cert.specs.Verdicts.{HasPredicates}
 use Rattle.nk_certtext.specs.declared.error.CertError.{CertError}
 use Rattle.nk_certtext.specs.declared.error.CertError.TheVariants.{CertFault}
-use Rattle.nk_certtext.specs.Rows.{is_misplaced, with_predicate, with_row, rows_after}
+use Rattle.nk_certtext.specs.Rows.{is_misplaced, with_predicate, with_row, rows_after, with_rows, from_start, certificate_of}
 
 -- each row's predicate is one
 abbrev HavePredicates : List RowValue → Type 0
@@ -81,7 +81,7 @@ later_predicate (v ∷ vs) h r (inl e) = ap (λ (x : CertRow). is_predicate x.pr
 later_predicate (v ∷ vs) h r (inr i) = later_predicate vs (λ q j. h q (inr j)) r i
 
 -- so all rows of a certificate that is read have predicates
-pub read_predicates : (fields : FieldTable) (t : Tree) (line : ℕ) (p : Policy) (later : List Row) (rows : List RowValue)
+read_predicates : (fields : FieldTable) (t : Tree) (line : ℕ) (p : Policy) (later : List Row) (rows : List RowValue)
     → row_policy fields t line ≡ Ok p → rows_after fields later [] ≡ Ok rows
     → HasPredicates (record { start = p; rows = rows })
 read_predicates fields t line p later rows first rest r c = by (in_from_contains (rows_of (record { start = p; rows = rows })) r c)
@@ -89,3 +89,20 @@ read_predicates fields t line p later rows first rest r c = by (in_from_contains
     by : In (rows_of (record { start = p; rows = rows })) r → is_predicate r.predicate ≡ true
     by (inl e) = ap (λ (x : CertRow). is_predicate x.predicate) e ∙ row_predicate fields t line p first
     by (inr i) = later_predicate rows (with_all fields later [] rows (λ q j. absurd j) rest) r i
+
+-- so those of a certificate that rows make
+pub of_certificate : (fields : FieldTable) (rs : List Row) (c : CertificateValue) → certificate_of fields rs ≡ Ok c → HasPredicates c
+of_certificate fields [] c e = absurd cc
+of_certificate fields (row ns t line ∷ rs) c e = first (row_policy fields t line) refl e
+  where
+    certificate_is : (a b : CertificateValue) → ◌≡◌ {A = Result CertificateValue CertError} (Ok a) (Ok b) → a ≡ b
+    certificate_is a b e = cc
+
+    later : (p : Policy) (x : Result (List RowValue) CertError) → rows_after fields rs [] ≡ x → row_policy fields t line ≡ Ok p
+        → with_rows p x ≡ Ok c → HasPredicates c
+    later p (Ok rows) is start e = subst HasPredicates (certificate_is _ c e) (read_predicates fields t line p rs rows start is)
+    later p (Err f) is start e = absurd cc
+
+    first : (x : Result Policy NamesError) → row_policy fields t line ≡ x → from_start fields x rs ≡ Ok c → HasPredicates c
+    first (Ok p) is e = later p (rows_after fields rs []) refl is e
+    first (Err f) is e = absurd cc

@@ -25,7 +25,7 @@ use Rattle.nk_grammar.specs.FileMachine.{file_of}
 use Rattle.nk_grammar.specs.Certified.{row, WrittenRow, written_row, number_value, row_of, rows_of}
 use Rattle.nk_grammar.specs.CertifiedText.{lexemes_of_numbers, lexemes_of_predicate, lexemes_of_rows, lexemes_of_certificate, AreRowsOn, ReadsCertificateTexts}
 use Rattle.nk_grammar.specs.Moved.{tree_moved, row_moved, nesting_of_row, ReadsTogether}
-use Rattle.nk_names.specs.ProgramOf.{Said, program_of}
+use Rattle.nk_names.specs.ProgramOf.{Said, program_of, row_policy}
 use Rattle.nk_names.specs.ReadBack.{IsWritable, DeclaresWritable, IsPredicateReadBack, ReadsPrintedPredicates}
 use Rattle.nk_names.proofs.Printed.{text_append}
 use Rattle.nk_cert.specs.Certificates.{RowValue, CertificateValue}
@@ -189,7 +189,7 @@ module _ (reads : ReadsPrintedPredicates) (fields : FieldTable) (writable : IsWr
           let at = line + lines in
           let later = map (row_moved lines) (map row_of rest.written) in
           let moved : (before ++ r ∷ []) ++ rs ≡ before ++ r ∷ rs = append_assoc before (r ∷ []) rs in
-          let read = row_read fields before r.positions t at r.predicate (before ++ r ∷ [])
+          let read = row_read before r.positions at (row_policy fields t at) r.predicate (before ++ r ∷ [])
           (not_misplaced before r rs h.ascend apart) (one.predicate.meant lines at) refl in
           ap (λ l. and_then (with_row fields before (row l t at)) (rows_after fields later)) one.positions
           ∙ ap (λ x. and_then x (rows_after fields later)) read

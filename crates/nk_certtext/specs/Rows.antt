@@ -46,11 +46,13 @@ abbrev pub with_predicate : (before : List RowValue) → List ℕ → Result Pol
 with_predicate before ns (Ok p) = Ok (before ++ record { positions = ns; predicate = p } ∷ [])
 with_predicate before ns (Err e) = Err (fault_of e)
 
--- the rows with one more, or its first fault: of its positions, and then of its predicate
+-- the rows with one more of this predicate, or its first fault: of its positions, and then of its predicate
+abbrev pub placed_row : (before : List RowValue) → List ℕ → (line : ℕ) → Result Policy NamesError → Result (List RowValue) CertError
+placed_row before ns line predicate = if is_misplaced before ns then Err (CertFault line) else with_predicate before ns predicate
+
+-- the same of a row as it is written
 abbrev pub with_row : FieldTable → (before : List RowValue) → Row → Result (List RowValue) CertError
-with_row fields before (row ns t line) = if is_misplaced before ns
-    then Err (CertFault line)
-    else with_predicate before ns (row_policy fields t line)
+with_row fields before (row ns t line) = placed_row before ns line (row_policy fields t line)
 
 -- the rows behind those that were read before
 abbrev pub rows_after : FieldTable → List Row → (before : List RowValue) → Result (List RowValue) CertError
@@ -71,6 +73,39 @@ from_start fields (Err e) later = Err (fault_of e)
 abbrev pub certificate_of : FieldTable → List Row → Result CertificateValue CertError
 certificate_of fields [] = Err (CertFault 1)
 certificate_of fields (row ns t line ∷ later) = from_start fields (row_policy fields t line) later
+
+-- ---- row by row
+
+-- a certificate of a start row with this predicate alone
+abbrev pub starts : Result Policy NamesError → Result CertificateValue CertError
+starts (Ok p) = Ok (record { start = p; rows = [] })
+starts (Err e) = Err (fault_of e)
+
+-- the certificate with one more row; the first fault stays
+abbrev pub goes_on : Result CertificateValue CertError → List ℕ → (line : ℕ) → Result Policy NamesError → Result CertificateValue CertError
+goes_on (Ok c) ns line predicate = with_rows c.start (placed_row c.rows ns line predicate)
+goes_on (Err e) ns line predicate = Err e
+
+-- the certificate of the rows so far, or their first fault; none where there is no row
+abbrev pub RowsValue : Type 0
+RowsValue = Option (Result CertificateValue CertError)
+
+-- with one more row of this predicate, where the first row is the start row
+abbrev pub row_on : RowsValue → List ℕ → (line : ℕ) → Result Policy NamesError → RowsValue
+row_on None ns line predicate = Some (starts predicate)
+row_on (Some c) ns line predicate = Some (goes_on c ns line predicate)
+
+-- what these rows make
+abbrev pub made_of : FieldTable → List Row → RowsValue
+made_of fields [] = None
+made_of fields (r ∷ rs) = Some (certificate_of fields (r ∷ rs))
+
+-- the certificate, where no further row comes
+abbrev pub certificate_at_end : RowsValue → Result CertificateValue CertError
+certificate_at_end None = Err (CertFault 1)
+certificate_at_end (Some c) = c
+
+-- ---- what a call takes and answers
 
 -- there is a first row, and it has no positions
 abbrev pub HasStartRow : List Row → Type 0

@@ -154,6 +154,7 @@ impl ProgramReader {
     pub fn declare(&mut self, alloc: Global, decl: &Decl) -> Result<(), AllocError>
         ensures declared { (ds : List Declaration) → IsDeclared ds self.old
             → OnOk result (IsDeclared (ds ++ declaration_of decl.now ∷ []) self.new) }
+        ensures step { OnOk result (self.new ≡ said_on self.old (declaration_of decl.now)) }
         ensures faulty { IsFaulty self.old → IsOk result × (self.new ≡ self.old) }
         ensures err { OnErr result (self.new ≡ self.old) }
     {

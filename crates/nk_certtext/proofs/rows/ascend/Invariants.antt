@@ -1,6 +1,6 @@
 use Rattle.std.proofs.Common.{◌≡◌, drop}
 use Rattle.nk_certtext.specs.Rows.{ascend, ascend_after}
-use Rattle.nk_certtext.proofs.reading.ascend.Given as goal
+use Rattle.nk_certtext.proofs.rows.ascend.Given as goal
 
 -- whether what is left ascends from the last number on is whether all do
 abbrev pub invariant-loop-n : goal.invariant-loop-n

@@ -1,5 +1,5 @@
 use Rattle.std.proofs.Common.{◌≡◌, ◌++◌}
-use Rattle.nk_certtext.proofs.reading.listed.Given as goal
+use Rattle.nk_certtext.proofs.rows.listed.Given as goal
 
 -- the list so far, then the rest, is all rows
 abbrev pub invariant-loop-row : goal.invariant-loop-row
