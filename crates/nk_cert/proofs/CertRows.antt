@@ -22,14 +22,14 @@ use Rattle.nk_determ.specs.States.{StateLeads}
 use Rattle.nk_auto.proofs.Stating.{label_within}
 use Rattle.nk_reach.specs.Pairs.{HavePlaces, IsStep}
 use Rattle.nk_reach.specs.Sides.{alone, alone_sided, ends_of, ends_same, Makes, AreOneSided}
-use Rattle.nk_reach.specs.Sides.{EndsAt as SideEndsAt}
+use Rattle.nk_reach.specs.Sides.{EndsAt}
 use Rattle.nk_reach.proofs.Growing.{place_of}
 use Rattle.nk_runs.proofs.Numbers.{dup_within}
 use Rattle.nk_runs.proofs.Listings.{all_listed, some_decided, sends_decided}
 use Rattle.nk_runs.proofs.Stands.{stands, state_on, are_states}
 use Rattle.nk_runs.proofs.Steps.{start_leads, members_lead, led_in_range}
 use Rattle.nk_cert.specs.Together.{either_of, EndsWithin}
-use Rattle.nk_cert.specs.Certificates.{Place, at_start, behind, CertRow, EndsAt, RecordsNext, IsPlaceOf, MeetsPosition, MeetsFinals, MeetsHop}
+use Rattle.nk_cert.specs.Certificates.{Place, at_start, behind, CertRow, SomeEndsAt, RecordsNext, IsPlaceOf, MeetsPosition, MeetsFinals, MeetsHop}
 use Rattle.nk_cert.specs.Levelled.{IsAutomatonOfBoth, IsOneSided}
 use Rattle.nk_cert.specs.Checked.{labels_at, IsSetAt, HasNoBad, StepsLeadToRows}
 use Rattle.nk_cert.proofs.Together.{sides_of, either_distinct, held_left, held_right, after_left, after_right, left_state, right_state}
@@ -112,10 +112,10 @@ module _ (fields : FieldTable) (st : Held) (states : List ℕ) (left right : ℕ
             omega (arith, w.1, a.states_are.count)
 
     -- what a side ends at
-    ends_there : (b : Policy) → ((l : ℕ) → has_dup b l ≡ true → 0 < l) → (x y : Packet) → EndsAt b place x y ↔ EndsWithin b set x y
+    ends_there : (b : Policy) → ((l : ℕ) → has_dup b l ≡ true → 0 < l) → (x y : Packet) → SomeEndsAt b place x y ↔ EndsWithin b set x y
     ends_there b above x y = by place ok same
       where
-        by : (at : Place) → IsPlaceOf p q at → IsSetAt at set → EndsAt b at x y ↔ EndsWithin b set x y
+        by : (at : Place) → IsPlaceOf p q at → IsSetAt at set → SomeEndsAt b at x y ↔ EndsWithin b set x y
         by at_start k s = (
           λ e. (0, (s 0).1 (contains_from_in (0 ∷ []) 0 (inl refl)), inl refl, subst (λ z. Gives z x [] y) e.1 e.2),
           λ e.
@@ -139,7 +139,7 @@ module _ (fields : FieldTable) (st : Held) (states : List ℕ) (left right : ℕ
         )
 
     -- the ends of both sides at a packet
-    pub left_there : (x y : Packet) → IsPacket st x → SideEndsAt st states left (1 + dups_of p) 1 set x y ↔ EndsAt p place x y
+    pub left_there : (x y : Packet) → IsPacket st x → EndsAt st states left (1 + dups_of p) 1 set x y ↔ SomeEndsAt p place x y
     left_there x y range =
         let e =
         side_ends st states left (1 + dups_of p) 1 p a.left_start
@@ -158,7 +158,7 @@ module _ (fields : FieldTable) (st : Held) (states : List ℕ) (left right : ℕ
         let f = ends_there p left_above x y in
         (λ h. f.1 (e.0 h), λ h. e.1 (f.0 h))
 
-    pub right_there : (x y : Packet) → IsPacket st x → SideEndsAt st states right (1 + dups_of p) 2 set x y ↔ EndsAt q place x y
+    pub right_there : (x y : Packet) → IsPacket st x → EndsAt st states right (1 + dups_of p) 2 set x y ↔ SomeEndsAt q place x y
     right_there x y range =
         let e =
         side_ends st states right (1 + dups_of p) 2 q a.right_start
@@ -181,13 +181,13 @@ module _ (fields : FieldTable) (st : Held) (states : List ℕ) (left right : ℕ
 
     -- both sides end alike exactly where nothing is bad
     alike : (bad : List ℕ → List ℕ → List Out) → IsOneSided st states left right (1 + dups_of p) bad → (x : Packet) → IsPacket st x
-        → ((y : Packet) → EndsAt p place x y ↔ EndsAt q place x y) ↔ (bad set x ≡ [])
+        → ((y : Packet) → SomeEndsAt p place x y ↔ SomeEndsAt q place x y) ↔ (bad set x ≡ [])
     alike bad goal x range = (λ h. forth h, λ e y. (λ k. there e y k, λ k. back e y k))
       where
         sided : AreOneSided st states left right (1 + dups_of p) set x (bad set x)
         sided = goal.sides set x places range
 
-        forth : ((y : Packet) → EndsAt p place x y ↔ EndsAt q place x y) → bad set x ≡ []
+        forth : ((y : Packet) → SomeEndsAt p place x y ↔ SomeEndsAt q place x y) → bad set x ≡ []
         forth h = empty_from (bad set x) (λ some.
             let o = first_of_some (bad set x) some in
             let y = applied o.0.act x in
@@ -202,7 +202,7 @@ module _ (fields : FieldTable) (st : Held) (states : List ℕ) (left right : ℕ
             w.1 ((left_there x y range).1 ((h y).1 ((right_there x y range).0 w.0))))
             (goal.targets set x o.0 o.1))
 
-        there : bad set x ≡ [] → (y : Packet) → EndsAt p place x y → EndsAt q place x y
+        there : bad set x ≡ [] → (y : Packet) → SomeEndsAt p place x y → SomeEndsAt q place x y
         there e y k =
             let mine = (left_there x y range).1 k in
             let its = stable (ends_decided st states right (1 + dups_of p) 2 set x y) (λ other.
@@ -210,7 +210,7 @@ module _ (fields : FieldTable) (st : Held) (states : List ℕ) (left right : ℕ
             in_from_contains {X = Out} [] (record { act = m.0; target = 0 }) (subst (λ os. Contains os (record { act = m.0; target = 0 })) e m.1)) in
             (right_there x y range).0 its
 
-        back : bad set x ≡ [] → (y : Packet) → EndsAt q place x y → EndsAt p place x y
+        back : bad set x ≡ [] → (y : Packet) → SomeEndsAt q place x y → SomeEndsAt p place x y
         back e y k =
             let mine = (right_there x y range).1 k in
             let its = stable (ends_decided st states left (1 + dups_of p) 1 set x y) (λ other.

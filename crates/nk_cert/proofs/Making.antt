@@ -1,6 +1,6 @@
 -- The certificate that is made of levels.
 use Rattle.std.proofs.Common.{◌≡◌, ℕ, suc, ◌+◌, ◌-◌, ◌<◌, ◌≤◌, true, false, inl, inr, ⊎_elim, List, [], ◌∷◌, ◌++◌, length, Option, Some, None, refl, sym, ap, subst, ◌∙◌, arith}
-use Rattle.std.specs.Prelude.{◌↔◌, eqb, All, slice_index_or}
+use Rattle.std.specs.Prelude.{◌↔◌, eqb, All, slice_index_or, unwrap_or}
 use Rattle.std.specs.Map.{lookup}
 use Rattle.std.proofs.lemmas.Bool.Decides.{eqb_tells}
 use Rattle.std.proofs.lemmas.List.Elements.{All-head, All-tail}
@@ -18,7 +18,7 @@ use Rattle.nk_tag.specs.Numbers.{later_level, AreEntries, AreLaterSets}
 use Rattle.nk_determ.proofs.Naming.{named_within}
 use Rattle.nk_cert.specs.Certificates.{RowValue, CertificateValue}
 use Rattle.nk_cert.specs.FromLevels.{HaveRows, IsRowOf, IsCertificateOf}
-use Rattle.nk_cert.specs.Later.{or_else, packets_at, IsRowBy, AreLaterPackets}
+use Rattle.nk_cert.specs.Later.{packets_at, IsRowBy, AreLaterPackets}
 
 -- no packets before any level
 pub none_later : (st : Held) (ls : List (List (ℕ × ℕ))) → AreLaterPackets st ls 0 st []
@@ -66,7 +66,7 @@ later_done old ls i st met le k = record {
 pub packets_set : (st : Held) (met : List (ℕ × ℕ)) (none s : ℕ) → HaveSets st met → IsSet st none → IsSet st (packets_at met none s)
 packets_set st met none s h k = by (lookup (eqb s) met) refl
   where
-    by : (o : Option ℕ) → lookup (eqb s) met ≡ o → IsSet st (or_else o none)
+    by : (o : Option ℕ) → lookup (eqb s) met ≡ o → IsSet st (unwrap_or o none)
     by (Some d) e = found_set st met s d e h
     by None e = k
 
@@ -131,7 +131,7 @@ module _ (old final : Held) (ss : List (List ℕ)) (ls : List (List (ℕ × ℕ)
           let lt = named_within ls (suc j) s (under_named old (later_level ls j) s x u) in
           k.every s j x range (omega (arith, lt)) u
 
-      by : (o : Option ℕ) → lookup (eqb s) met ≡ o → (is_in final (or_else o none) x ≡ true) ↔ ((j : ℕ) × Under old (later_level ls j) s x)
+      by : (o : Option ℕ) → lookup (eqb s) met ≡ o → (is_in final (unwrap_or o none) x ≡ true) ↔ ((j : ℕ) × Under old (later_level ls j) s x)
       by (Some d) e = (
         λ h. let w = k.from s x range (found_under final met s d x e h) in (w.0, w.2),
         λ u. under_found final met s d x k.once e (under_some u.0 u.1),

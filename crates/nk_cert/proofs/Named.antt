@@ -1,10 +1,9 @@
 -- Named policies of a program: what holds of them, and that they fit a store over the program's fields.
-use Rattle.std.proofs.Common.{◌≡◌, ℕ, ◌+◌, ◌<◌, ◌≤◌, Bool, true, false, List, [], ◌∷◌, inl, inr, refl, sym, subst, arith, Some, None}
+use Rattle.std.proofs.Common.{ℕ, ◌+◌, ◌<◌, ◌≤◌, sym, subst, arith}
 use Rattle.nk_field.specs.Packet.{FieldTable}
 use Rattle.nk_policy.specs.Policy.{Policy, Policies, test, range, assign, sum_of, seq_of, not_of, star_of, dup, link, no_part, part, dups_of}
 use Rattle.nk_policy.specs.Ranges.{IsInRange, AssignsOnly, AllAssignOnly}
 use Rattle.nk_names.specs.Complements.{NegatesPredicates, AllNegatePredicates}
-use Rattle.nk_names.specs.declared.Program.{Program}
 use Rattle.nk_names.specs.ProgramValue.{IsLet}
 use Rattle.nk_names.proofs.Good.{few_dups}
 pub use Rattle.nk_names.proofs.Named.{let_named}

@@ -1,5 +1,5 @@
 -- Rows made of the packets that levels have under sets.
-use Rattle.std.specs.Prelude.{◌≡◌, ℕ, ◌<◌, eqb, List, [], Option, Some, None, slice_index_or}
+use Rattle.std.specs.Prelude.{◌≡◌, ℕ, ◌<◌, eqb, List, [], slice_index_or, unwrap_or}
 use Rattle.std.specs.Map.{lookup}
 use Rattle.nk_store.specs.Held.{Held, IsPacket}
 use Rattle.nk_sets.specs.PacketSets.{IsSet}
@@ -9,14 +9,9 @@ use Rattle.nk_reach.specs.Rounds.{HaveSets}
 use Rattle.nk_tag.specs.Numbers.{later_level}
 use Rattle.nk_cert.specs.Certificates.{RowValue}
 
--- what was found, or something else
-abbrev pub or_else : Option ℕ → ℕ → ℕ
-or_else (Some x) d = x
-or_else None d = d
-
 -- the packets under a set, none where it has no entry
 abbrev pub packets_at : List (ℕ × ℕ) → ℕ → ℕ → ℕ
-packets_at met none s = or_else (lookup (eqb s) met) none
+packets_at met none s = unwrap_or (lookup (eqb s) met) none
 
 -- the row of a set: its members, and the predicate of its packets
 pub record IsRowBy (st : Held) (ss : List (List ℕ)) (met : List (ℕ × ℕ)) (none s : ℕ) (row : RowValue) : Type 0 where

@@ -1,5 +1,5 @@
 //! What is found of a certificate of two policies.
-ghost use Rattle.std.specs.Prelude.{◌≡◌, ◌∷◌, [], ◌+◌, ◌<◌, ◌^◌, ℕ, true, IfOk, All, length};
+ghost use Rattle.std.specs.Prelude.{◌≡◌, ◌+◌, ◌<◌, ◌^◌, true, IfOk, All, length};
 ghost use Rattle.nk_policy.specs.Policy.{is_predicate, dups_of};
 ghost use Rattle.nk_policy.specs.Ranges.{IsInRange};
 ghost use Rattle.nk_policy.specs.Tree.{tree_of};
@@ -9,8 +9,8 @@ ghost use Rattle.nk_names.specs.Complements.{NegatesPredicates};
 ghost use Rattle.nk_auto.specs.Continued.{IsFit};
 ghost use Rattle.nk_cert.specs.Together.{AreNumbered};
 ghost use Rattle.nk_cert.specs.Verdicts.{HasPredicates, IsFinding};
-ghost use Rattle.nk_cert.specs.Values.{row_values, certificate_value, finding_of};
-ghost use Rattle.nk_cert.specs.Judged.{IsStartEntryOf, AreEntriesOf, AreTold, IsJudge};
+ghost use Rattle.nk_cert.specs.Values.{certificate_value, finding_of};
+ghost use Rattle.nk_cert.specs.Judged.{IsJudge};
 
 use crate::certificate::{Certificate, Verdict};
 use crate::entries::{row_entries, start_entry};

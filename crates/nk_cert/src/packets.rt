@@ -1,8 +1,8 @@
 //! Predicates as sets of packets.
-ghost use Rattle.std.specs.Prelude.{◌≡◌, ◌↔◌, ℕ, true, false, IfOk, List as Items};
+ghost use Rattle.std.specs.Prelude.{◌≡◌, true, false, IfOk};
 ghost use Rattle.nk_policy.specs.Policy.{is_predicate};
 ghost use Rattle.nk_policy.specs.Tree.{tree_of};
-ghost use Rattle.nk_store.specs.Held.{IsId, IsPacket, Grows};
+ghost use Rattle.nk_store.specs.Held.{IsId, Grows};
 ghost use Rattle.nk_cert.specs.Levelled.{HasEach};
 ghost use Rattle.nk_cert.specs.Judged.{IsPacketsOf};
 

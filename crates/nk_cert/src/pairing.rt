@@ -1,5 +1,5 @@
 //! The automaton of two policies together.
-ghost use Rattle.std.specs.Prelude.{◌≡◌, ◌+◌, ◌<◌, ◌^◌, ◌++◌, ℕ, IfOk, OnOk, drop, length};
+ghost use Rattle.std.specs.Prelude.{◌≡◌, ◌+◌, ◌<◌, ◌^◌, ◌++◌, IfOk, OnOk, drop, length};
 ghost use Rattle.nk_field.specs.Packet.{FieldTable};
 ghost use Rattle.nk_policy.specs.Policy.{marked_from, dups_of};
 ghost use Rattle.nk_policy.specs.Tree.{tree_of};
