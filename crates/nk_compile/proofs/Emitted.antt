@@ -1,6 +1,7 @@
--- Where the row for a copy has the bucket list of its tag, what is sent is each result of the tag once, with its tag.
+-- Where the row for a copy has the bucket list of the tag that acts for its number, what is sent is each result of this tag once,
+-- with the number of the result's tag.
 use Rattle.std.proofs.Common.{◌≡◌, ℕ, ◌<◌, inl, inr, ⊎_elim, Option, Some, None, List, [], ◌∷◌, length, refl, sym, ap, subst, ◌∙◌, arith, get_or-set_same}
-use Rattle.std.specs.Prelude.{filter_map, AllPairs, slice_index, slice_set}
+use Rattle.std.specs.Prelude.{◌↔◌, filter_map, AllPairs, slice_index, slice_set}
 use Rattle.std.specs.List.{cons_option}
 use Rattle.std.proofs.lemmas.List.{set-set}
 use Rattle.nk_field.specs.declared.packet.Packet.{Packet}
@@ -11,16 +12,19 @@ use Rattle.nk_policy.proofs.Untouched.{IsZeroAt}
 use Rattle.nk_table.specs.declared.Tables.{Tables}
 use Rattle.nk_table.specs.declared.Bucket.{Bucket}
 use Rattle.nk_table.specs.Rules.{sent_by, sent_for}
-use Rattle.nk_compile.specs.PrintedTable.{IsResult, IsBucketList}
+use Rattle.nk_compile.specs.MergedTable.{IsNumberedList}
+use Rattle.nk_compile.specs.PrintedTable.{IsResult}
 use Rattle.nk_extract.specs.Buckets.{bucket_of, bucket_key, tag_of, IsBucketBefore}
 use Rattle.nk_compile.proofs.TagPlaces.{never_before}
 use Rattle.nk_compile.proofs.Sent.{sends}
-use Rattle.nk_compile.proofs.Reached.{Setting, AtState, Emits, past, result_ok}
+use Rattle.nk_compile.proofs.Acting.{Acts}
+use Rattle.nk_compile.proofs.Reached.{Setting, AtState, Under, past, result_ok}
 
--- the row for a copy with a tag has the tag's bucket list at its packet
-abbrev pub HasBuckets : Tables → Policy → ℕ → List (List ℕ) → Type 0
-HasBuckets t p tag tags =
-    (tg : ℕ) (x : Packet) → AtState t p tag tags tg x → (buckets : List Bucket) × IsBucketList (length t.fields.maxima) tag p tags tg x buckets × (sent_for t (slice_set x tag tg) ≡ filter_map (sent_by (slice_set x tag tg)) buckets)
+-- the row for a copy with this number has the bucket list of a tag at its packet
+pub record HasBuckets (t : Tables) (p : Policy) (tag : ℕ) (tags : List (List ℕ)) (number : ℕ → ℕ) (c tg : ℕ) (x : Packet) : Type 0 where
+  pub buckets : List Bucket
+  pub list : IsNumberedList number (length t.fields.maxima) tag p tags tg x buckets
+  pub sent_is : sent_for t (slice_set x tag c) ≡ filter_map (sent_by (slice_set x tag c)) buckets
 
 -- equal options have equal values
 some_is : {A : Type 0} (a b : A) → Some a ≡ Some b → a ≡ b
@@ -85,32 +89,30 @@ apart_images {X} {Y} R f never (z ∷ zs) h own =
       a,
     )
 
-module _ (t : Tables) (p : Policy) (tag : ℕ) (tags : List (List ℕ)) (g : Setting t p tag tags) (buckets : HasBuckets t p tag tags) where
+module _ (t : Tables) (p : Policy) (tag : ℕ) (tags : List (List ℕ)) (g : Setting t p tag tags) (number : ℕ → ℕ) (c tg : ℕ) (x : Packet) (at : AtState t p tag tags tg x) (has : HasBuckets t p tag tags number c tg x) where
   -- the tag is a field
   within : tag < length t.fields.maxima
   within = (g.fields_ok.tag_past_port tag g.tag_is).1
 
   -- a result's bucket sends it
   bucket_sends :
-      (tg : ℕ) (x : Packet) → AtState t p tag tags tg x → (z : Packet) (n : ℕ) → IsResult p tags tg x z n
-      → sent_by (slice_set x tag tg) (bucket_of (length t.fields.maxima) tag x z n) ≡ Some (slice_set z tag n)
-  bucket_sends tg x a z n e =
-      let ok = result_ok t p tag tags g tg x a z n e in
-      sends t.fields tag (past t p tag tags g) within g.fields_ok.few x z tg n a.packet ok.0 ok.2
+      (z : Packet) (n : ℕ) → IsResult p tags tg x z n
+      → sent_by (slice_set x tag c) (bucket_of (length t.fields.maxima) tag x z (number n)) ≡ Some (slice_set z tag (number n))
+  bucket_sends z n e =
+      let ok = result_ok t p tag tags g tg x at z n e in
+      sends t.fields tag (past t p tag tags g) within g.fields_ok.few x z c (number n) at.packet ok.0 ok.2
 
   -- what is sent are the results
-  pub emitted : Emits t p tag tags
-  emitted tg x a q = (
+  pub emitted : (q : Packet) → In (sent_for t (slice_set x tag c)) q ↔ ((z : Packet) × (n : ℕ) × IsResult p tags tg x z n × (q ≡ slice_set z tag (number n)))
+  emitted q = (
     λ i.
-        let s = buckets tg x a in
-        let r = from_images (sent_by (slice_set x tag tg)) s.0 q (subst (λ l. In l q) s.2 i) in
-        let e = (s.1.exactly r.0).0 (contains_from_in s.0 r.0 r.1) in
-        (e.0, e.1, e.2, some_is q (slice_set e.0 tag e.1) (sym r.2 ∙ ap (sent_by (slice_set x tag tg)) e.3 ∙ bucket_sends tg x a e.0 e.1 e.2)),
+        let r = from_images (sent_by (slice_set x tag c)) has.buckets q (subst (λ l. In l q) has.sent_is i) in
+        let e = (has.list.exactly r.0).0 (contains_from_in has.buckets r.0 r.1) in
+        (e.0, e.1, e.2, some_is q (slice_set e.0 tag (number e.1)) (sym r.2 ∙ ap (sent_by (slice_set x tag c)) e.3 ∙ bucket_sends e.0 e.1 e.2)),
     λ e.
-        let s = buckets tg x a in
-        let b = bucket_of (length t.fields.maxima) tag x e.0 e.1 in
-        let i = in_from_contains s.0 b ((s.1.exactly b).1 (e.0, e.1, e.2, refl)) in
-        subst (λ l. In l q) (sym s.2) (in_images (sent_by (slice_set x tag tg)) s.0 b q i (bucket_sends tg x a e.0 e.1 e.2 ∙ ap Some (sym e.3))),
+        let b = bucket_of (length t.fields.maxima) tag x e.0 (number e.1) in
+        let i = in_from_contains has.buckets b ((has.list.exactly b).1 (e.0, e.1, e.2, refl)) in
+        subst (λ l. In l q) (sym has.sent_is) (in_images (sent_by (slice_set x tag c)) has.buckets b q i (bucket_sends e.0 e.1 e.2 ∙ ap Some (sym e.3))),
   )
 
   -- a sent packet has one result
@@ -124,23 +126,26 @@ module _ (t : Tables) (p : Policy) (tag : ℕ) (tags : List (List ℕ)) (g : Set
       )
 
   -- each once
-  pub emitted_apart : (tg : ℕ) (x : Packet) → AtState t p tag tags tg x → Apart (sent_for t (slice_set x tag tg))
-  emitted_apart tg x a =
-      let s = buckets tg x a in
+  pub emitted_apart : Apart (sent_for t (slice_set x tag c))
+  emitted_apart =
       subst
       (λ l. Apart l)
-      (sym s.2)
-      (apart_images (IsBucketBefore tag) (sent_by (slice_set x tag tg)) (never_itself tag) s.0 s.1.in_order
+      (sym has.sent_is)
+      (apart_images (IsBucketBefore tag) (sent_by (slice_set x tag c)) (never_itself tag) has.buckets has.list.in_order
       (λ b b' q i i' f f'.
-      let e = (s.1.exactly b).0 (contains_from_in s.0 b i) in
-      let e' = (s.1.exactly b').0 (contains_from_in s.0 b' i') in
-      let ok = result_ok t p tag tags g tg x a e.0 e.1 e.2 in
-      let ok' = result_ok t p tag tags g tg x a e'.0 e'.1 e'.2 in
-      let sent : slice_set e.0 tag e.1 ≡ slice_set e'.0 tag e'.1 =
-      some_is (slice_set e.0 tag e.1) (slice_set e'.0 tag e'.1)
-      (sym (bucket_sends tg x a e.0 e.1 e.2) ∙ ap (sent_by (slice_set x tag tg)) (sym e.3) ∙ f ∙ sym f' ∙ ap (sent_by (slice_set x tag tg)) e'.3 ∙ bucket_sends tg x a e'.0 e'.1 e'.2) in
+      let e = (has.list.exactly b).0 (contains_from_in has.buckets b i) in
+      let e' = (has.list.exactly b').0 (contains_from_in has.buckets b' i') in
+      let ok = result_ok t p tag tags g tg x at e.0 e.1 e.2 in
+      let ok' = result_ok t p tag tags g tg x at e'.0 e'.1 e'.2 in
+      let sent : slice_set e.0 tag (number e.1) ≡ slice_set e'.0 tag (number e'.1) =
+      some_is (slice_set e.0 tag (number e.1)) (slice_set e'.0 tag (number e'.1))
+      (sym (bucket_sends e.0 e.1 e.2) ∙ ap (sent_by (slice_set x tag c)) (sym e.3) ∙ f ∙ sym f' ∙ ap (sent_by (slice_set x tag c)) e'.3 ∙ bucket_sends e'.0 e'.1 e'.2) in
       let lt = within in
       let few = g.fields_ok.few in
       let long : tag < length e.0 = omega (arith, ok.0.places, lt, few) in
-      let one = one_result e.0 e'.0 e.1 e'.1 long ok.1 ok'.1 (ok.0.places ∙ sym ok'.0.places) sent in
-      e.3 ∙ ap (λ z. bucket_of (length t.fields.maxima) tag x z e.1) one.0 ∙ ap (λ n. bucket_of (length t.fields.maxima) tag x e'.0 n) one.1 ∙ sym e'.3))
+      let one = one_result e.0 e'.0 (number e.1) (number e'.1) long ok.1 ok'.1 (ok.0.places ∙ sym ok'.0.places) sent in
+      e.3 ∙ ap (λ z. bucket_of (length t.fields.maxima) tag x z (number e.1)) one.0 ∙ ap (λ n. bucket_of (length t.fields.maxima) tag x e'.0 n) one.1 ∙ sym e'.3))
+
+  -- so this tag acts for the number
+  pub acts_for : Under t p tags tg x → number tg ≡ c → Acts t p tag tags number c x
+  acts_for under is = record { state = tg; under = under; number_is = is; emits = emitted; apart = emitted_apart }

@@ -1,3 +1,4 @@
+pub mod Acting
 pub mod Begun
 pub mod Behind
 pub mod Carried
@@ -11,6 +12,7 @@ pub mod Fitting
 pub mod Levelled
 pub mod LinkEnds
 pub mod Making
+pub mod Merging
 pub mod Naming
 pub mod Padding
 pub mod PairRows

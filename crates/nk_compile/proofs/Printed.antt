@@ -1,15 +1,14 @@
 -- The printed table of a compilable policy carries it, whatever tags its own are numbered behind.
-use Rattle.std.proofs.Common.{◌≡◌, ℕ, suc, ◌+◌, ◌*◌, ◌<◌, ◌≤◌, Some, List, length, sym, subst, ◌∙◌, arith}
-use Rattle.std.specs.Prelude.{◌↔◌, All, Contains, map, slice_index}
+use Rattle.std.proofs.Common.{◌≡◌, ℕ, suc, ◌+◌, ◌<◌, ◌≤◌, Some, List, length, sym, subst, ◌∙◌, arith}
+use Rattle.std.specs.Prelude.{All, slice_index}
 use Rattle.std.proofs.lemmas.Option.{slice_get_within}
-use Rattle.nk_field.specs.Packet.{FieldTable, IsFieldTable, IsUntagged}
+use Rattle.nk_field.specs.Packet.{FieldTable, IsFieldTable}
 use Rattle.nk_field.proofs.Ascending.{all_from_members}
 use Rattle.nk_topo.specs.Topology.{Topology, AreLinks}
 use Rattle.nk_policy.specs.Policy.{Policy}
-use Rattle.nk_policy.specs.Meaning.{Gives}
 use Rattle.nk_policy.specs.Distinct.{HasDistinct}
 use Rattle.nk_policy.specs.Ranges.{IsInRange}
-use Rattle.nk_policy.specs.Labels.{IsWithoutDoubles, IsTagSet, AtMost}
+use Rattle.nk_policy.specs.Labels.{IsTagSet, AtMost}
 use Rattle.nk_policy.proofs.Numbering.{numbered_distinct}
 use Rattle.nk_names.specs.declared.Program.{Program}
 use Rattle.nk_names.specs.Accepted.{IsStart, IsCompilable, IsAccepted}
@@ -17,18 +16,17 @@ use Rattle.nk_names.specs.Named.{policy_named}
 use Rattle.nk_names.specs.ProgramValue.{IsLet, IsProgram}
 use Rattle.nk_names.proofs.Named.{let_named}
 use Rattle.nk_table.specs.declared.Tables.{Tables}
-use Rattle.nk_table.specs.Hops.{Copy, waiting, left_after}
+use Rattle.nk_table.specs.Hops.{Copy, waiting}
 use Rattle.nk_compile.specs.NumberedBehind.{tags_behind, IsTableBehind}
 use Rattle.nk_compile.specs.WholeTable.{IsTableOf}
-use Rattle.nk_compile.specs.Carries.{erased_copy, Carries}
+use Rattle.nk_compile.specs.Carries.{Carries}
 use Rattle.nk_compile.proofs.Behind.{from_behind, stand_behind, behind_none}
 use Rattle.nk_compile.proofs.FewTags.{tags_fit}
 use Rattle.nk_compile.proofs.Reached.{Setting, same_some}
 use Rattle.nk_compile.proofs.TagPlaces.{tags_stand}
-use Rattle.nk_compile.proofs.Emitted.{emitted, emitted_apart}
-use Rattle.nk_compile.proofs.RowsFor.{has_buckets}
-use Rattle.nk_compile.proofs.Carried.{once, exactly, none_tagged}
-use Rattle.nk_compile.proofs.Waits.{crossed_tag}
+use Rattle.nk_compile.proofs.RowsFor.{own_numbering}
+use Rattle.nk_compile.proofs.Carried.{Leaving, leaving_by}
+use Rattle.nk_compile.proofs.Waits.{crossed_number}
 
 -- what is asked of fields, topology, policy and tables, whose tags are numbered behind the first ones
 abbrev pub Asked : ℕ → Policy → Tables → FieldTable → Topology → Type 0
@@ -42,13 +40,7 @@ Asked first p t fields topo =
 
 -- from each start, after each number of crossings
 record Facts (first : ℕ) (p : Policy) (t : Tables) (fields : FieldTable) (topo : Topology) : Type 0 where
-  leave_once :
-      (k : ℕ) (pk : List ℕ) → IsStart fields topo pk
-      → IsWithoutDoubles (map (erased_copy t) (left_after t k pk))
-  leave_exactly : (k : ℕ) (pk : List ℕ) → IsStart fields topo pk → (w : List (List ℕ)) (last : List ℕ) → Contains (map (erased_copy t) (left_after t k pk)) record { records = w; packet = last } ↔ (Gives p pk w last × (length w ≡ 2 * k))
-  leave_untagged :
-      (k : ℕ) (pk : List ℕ) → IsStart fields topo pk
-      → All (λ c. IsUntagged t.fields c.packet) (left_after t k pk)
+  leave : Leaving p t fields topo
   cross_tagged :
       (tag most : ℕ) → fields.tag ≡ Some tag → AtMost most (IsTagSet p (IsStart fields topo)) → (k : ℕ) (pk : List ℕ)
       → IsStart fields topo pk
@@ -74,16 +66,12 @@ module _ (first : ℕ) (p : Policy) (t : Tables) (a : Asked first p t t.fields t
   here =
       let tags = tags_behind first table.tags in
       let g = setting in
-      let buckets = has_buckets t p table.tag tags g table.switches table.each in
-      let emits = emitted t p table.tag tags g buckets in
-      let apart = emitted_apart t p table.tag tags g buckets in
+      let num = own_numbering t p table.tag tags g table.switches table.each in
       record {
-        leave_once = λ k pk start. once t p table.tag tags g emits apart pk start k;
-        leave_exactly = λ k pk start w last. exactly t p table.tag tags g emits apart pk start k w last;
-        leave_untagged = λ k pk start. none_tagged t p table.tag tags g emits apart pk start k;
+        leave = leaving_by t p table.tag tags g (λ n. n) num;
         cross_tagged = λ tag most declared few k pk start.
             all_from_members (λ (c : Copy). (first < slice_index c.packet tag) × (slice_index c.packet tag ≤ first + most)) (waiting t (suc k) pk) (λ c i.
-            let d = crossed_tag t p table.tag tags g emits apart pk start k c i in
+            let d = crossed_number t p table.tag tags g (λ n. n) num pk start k c i in
             let b = from_behind first table.tags d.0 d.1 d.3 d.2 in
             let fit = tags_fit p (IsStart t.fields t.topo) table.tags most table.in_order few in
             let inside : b.0 < length table.tags = slice_get_within table.tags b.0 d.1 b.2 in
@@ -120,7 +108,7 @@ pub behind_carries :
     → HasDistinct p → IsInRange p program.fields → IsCompilable program.fields program.topo p
     → IsTableBehind first program.fields program.topo (IsStart program.fields program.topo) p t → Carries program p t
 behind_carries program first p t fields_ok links_ok distinct in_range compilable table =
-    let h = facts first p t program.fields program.topo table.same_fields table.same_topology (fields_ok, links_ok, distinct, in_range, compilable, table) in
+    let h = (facts first p t program.fields program.topo table.same_fields table.same_topology (fields_ok, links_ok, distinct, in_range, compilable, table)).leave in
     record {
       same_fields = table.same_fields;
       same_topology = table.same_topology;

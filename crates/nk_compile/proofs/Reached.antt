@@ -1,5 +1,5 @@
 -- Where a run is after an even list of records: at a packet, under the tag of the set of dups that it crossed last.
-use Rattle.std.proofs.Common.{◌≡◌, ◌≢◌, ℕ, zero, suc, ◌+◌, ◌*◌, ◌≤◌, ◌<◌, Bool, true, false, ◌⊎◌, inl, inr, ⊎_elim, Some, List, [], ◌∷◌, ◌++◌, length, refl, sym, ap, subst, ◌∙◌, arith, append_assoc, length-append, get_or-set_other, get_or-set_same}
+use Rattle.std.proofs.Common.{◌≡◌, ◌≢◌, ℕ, zero, suc, ◌+◌, ◌*◌, ◌≤◌, ◌<◌, Bool, true, false, ◌⊎◌, inl, inr, ⊎_elim, Some, List, [], ◌∷◌, ◌++◌, length, refl, sym, ap, subst, ◌∙◌, arith, length-append, get_or-set_other, get_or-set_same}
 use Rattle.std.specs.Prelude.{◌↔◌, ◌==◌, ◌&&◌, ◌||◌, map, slice_get, slice_index, slice_set, Contains}
 use Rattle.std.specs.List.{list_any}
 use Rattle.nk_field.specs.declared.packet.Packet.{Packet}
@@ -12,22 +12,24 @@ use Rattle.nk_policy.specs.Progress.{RecordsAt}
 use Rattle.nk_policy.specs.After.{after}
 use Rattle.nk_policy.specs.Distinct.{HasDistinct}
 use Rattle.nk_policy.specs.Ranges.{IsInRange, AssignsOnly}
-use Rattle.nk_policy.specs.Labels.{IsAt, HasExactly}
+use Rattle.nk_policy.specs.Labels.{IsAt, IsLabelSet}
 use Rattle.nk_policy.specs.Leaves.{has_leaf, is_on_field}
-use Rattle.nk_policy.specs.Literals.{Literal, HoldsLiteral, moved_by}
+use Rattle.nk_policy.specs.Literals.{Literal, HoldsLiteral, IsAtSource, moved_by}
 use Rattle.nk_policy.specs.Crossings.{IsBetween}
 use Rattle.nk_policy.proofs.Kept
 use Rattle.nk_policy.proofs.Untouched.{IsOther, IsZeroAt, assigns_others, others_keep}
 use Rattle.nk_policy.proofs.InRange.{ways_keep, records_keep, after_in_range}
-use Rattle.nk_policy.proofs.LabelSteps.{gives_is_runs, at_first, at_next, gives_at, gives_from, rest_gives_from}
+use Rattle.nk_policy.proofs.LabelSteps.{packet_of, gives_is_runs, at_first, at_next, gives_at, gives_from, rest_gives_from}
+use Rattle.nk_policy.proofs.ListParts.{last_is, last_of_list}
 use Rattle.nk_policy.proofs.LinkStructure.{between, on_link, off_link}
-use Rattle.nk_policy.proofs.Parity.{no_records}
+use Rattle.nk_policy.proofs.Parity.{no_records, odd_at}
 use Rattle.nk_names.specs.Accepted.{IsStart, IsCompilable}
 use Rattle.nk_names.proofs.Declared.{link_of, literal_declared, link_at_source}
 use Rattle.nk_table.specs.declared.Tables.{Tables}
 use Rattle.nk_table.specs.Rules.{sent_for}
 use Rattle.nk_table.specs.Hops.{moved_to}
 use Rattle.nk_compile.specs.PrintedTable.{IsOfTag, StateRecords, IsResult}
+use Rattle.nk_compile.specs.MergedTable.{IsMetUnder}
 use Rattle.nk_compile.specs.WholeTable.{HasRowsAt, link_end}
 use Rattle.nk_compile.proofs.LinkEnds.{end_of_literal}
 use Rattle.nk_compile.proofs.TagPlaces.{StandOnce}
@@ -54,6 +56,9 @@ pub record IsRest (t : Tables) (p : Policy) (tag : ℕ) (s : Policy) : Type 0 wh
   pub goes :
       (x y : Packet) (w : List Packet) (z : Packet) → Gives s x (y ∷ w) z
       → (l : ℕ) × RecordsAt s x [] y l × Gives (after p l) y w z
+  pub comes :
+      (x y : Packet) (w : List Packet) (z : Packet) (l : ℕ) → RecordsAt s x [] y l → Gives (after p l) y w z
+      → Gives s x (y ∷ w) z
 
 -- the packet x can come with the tag tg
 pub record AtState (t : Tables) (p : Policy) (tag : ℕ) (tags : List (List ℕ)) (tg : ℕ) (x : Packet) : Type 0 where
@@ -133,6 +138,7 @@ module _ (t : Tables) (p : Policy) (tag : ℕ) (tags : List (List ℕ)) (g : Set
     range = g.in_range;
     others = assigns_others tag past p no_tag;
     goes = λ x y w z gv. (gives_from p g.distinct x y w z).0 gv;
+    comes = λ x y w z l r gv. (gives_from p g.distinct x y w z).1 (l, r, gv);
   }
 
   -- and what is left after a crossing is
@@ -142,6 +148,7 @@ module _ (t : Tables) (p : Policy) (tag : ℕ) (tags : List (List ℕ)) (g : Set
     range = after_in_range t.fields p (k.mark + 1) g.in_range;
     others = Kept.after_assigns (IsOther tag) (IsZeroAt tag) (others_keep tag) p (k.mark + 1) (assigns_others tag past p no_tag);
     goes = λ x y w z gv. (rest_gives_from p g.distinct (k.mark + 1) x y w z).0 gv;
+    comes = λ x y w z l r gv. (rest_gives_from p g.distinct (k.mark + 1) x y w z).1 (l, r, gv);
   }
 
   -- what a tag's policies end at or record is in range, untagged and at its switch
@@ -186,23 +193,54 @@ module _ (t : Tables) (p : Policy) (tag : ℕ) (tags : List (List ℕ)) (g : Set
       ends = λ s z e gv. subst (λ q. Gives q pk [] z) e gv;
     }
 
-    module _ (k : ℕ) (u : List Packet) (tg : ℕ) (x : Packet) (r : Reached t p tag tags pk k u tg x) (z : Packet) (t2 : ℕ) (N : List ℕ) (get : slice_get tags t2 ≡ Some N) (any : N ≢ []) (exact : HasExactly (StateRecords p tags tg x z) N) (to : ℕ × ℕ) (leads : link_from t.topo (slice_index z 0) (slice_index z 1) ≡ Some to) where
-      abbrev target : Packet
-      target = moved_to to z
+    -- what is recorded is in range and untagged
+    recorded :
+        (u : List Packet) (x : Packet) (l : ℕ) → IsAt p pk (u ++ x ∷ []) l
+        → IsPacket t.fields x × IsZeroAt tag x
+    recorded u x l a =
+        let e = last_is (map packet_of a.0) a.1 u x a.2 in
+        let others = assigns_others tag past p no_tag in
+        let zero_pk = sym (erases pk) ∙ start.untagged in
+        subst
+        (λ q. IsPacket t.fields q × IsZeroAt tag q)
+        e.1
+        (records_keep t.fields p g.in_range pk a.0 a.1 l a.3 start.packet, Kept.records_keep (IsOther tag) (IsZeroAt tag) (others_keep tag) p others pk a.0 a.1 l a.3 zero_pk)
 
-      -- each member of the set is the first dup of a literal that leads along the link
+    -- behind an odd list of records, whose set of labels is that of a tag, and one record more
+    module _ (n : ℕ) (front : List Packet) (z : Packet) (odd : length (front ++ z ∷ []) ≡ 2 * n + 1) (t2 : ℕ) (N : List ℕ) (get : slice_get tags t2 ≡ Some N) (set : IsLabelSet p pk (front ++ z ∷ []) N) (x : Packet) (l0 : ℕ) (at : IsAt p pk ((front ++ z ∷ []) ++ x ∷ []) l0) where
+      -- each member of the set is the first dup of a literal at whose source the last of them is
+      source :
+          (l : ℕ) → Contains N l
+          → (i : Literal) × HoldsLiteral p i × (i.mark ≡ l) × (link_from t.topo (slice_index z 0) (slice_index z 1) ≡ Some (i.to_switch, i.to_port))
+      source l m =
+          let q = odd_at p g.distinct g.compilable.dups_in_links n pk (front ++ z ∷ []) l odd ((set.1.1 l).0 m) in
+          let e = (last_is front z q.3.0 q.3.1 q.3.2).1 in
+          let here = subst (λ y. IsAtSource q.0 y) (sym e) q.3.3 in
+          (q.0, q.1, q.2, link_at_source t.topo g.links_ok p g.compilable.links_declared q.0 q.1 z here)
+
+      -- by one of them the record came
+      by : (l : ℕ) × Contains N l × RecordsAt (after p l) z [] x l0
+      by = let c = (at_next p g.distinct pk front z x l0).0 at in (c.0, (set.1.1 c.0).1 c.1, c.2)
+
+      first :
+          (i : Literal) × (x ≡ moved_by i z) × (link_from t.topo (slice_index z 0) (slice_index z 1) ≡ Some (i.to_switch, i.to_port))
+      first =
+          let q = source by.0 by.1 in
+          (q.0, ((on_link p g.distinct q.0 q.1).only z x l0 (subst (λ j. RecordsAt (after p j) z [] x l0) (sym q.2) by.2)).1, q.3)
+
+      -- and each leads there
       literal :
           (l : ℕ) → Contains N l
-          → (i : Literal) × HoldsLiteral p i × (i.mark ≡ l) × (target ≡ moved_by i z) × (i.to_switch ≡ to.0)
+          → (i : Literal) × HoldsLiteral p i × (i.mark ≡ l) × (x ≡ moved_by i z) × (i.to_switch ≡ first.0.to_switch)
       literal l m =
-          let q = next_literal tg x r.at z l ((exact.1 l).0 m) in
-          let e : (q.0.to_switch, q.0.to_port) ≡ to = same_some (q.0.to_switch, q.0.to_port) to (sym q.3 ∙ leads) in
-          (q.0, q.1, q.2, ap (λ o. moved_to o z) (sym e), ap (λ (o : ℕ × ℕ). o.0) e)
+          let q = source l m in
+          let e : (q.0.to_switch, q.0.to_port) ≡ (first.0.to_switch, first.0.to_port) = same_some (q.0.to_switch, q.0.to_port) (first.0.to_switch, first.0.to_port) (sym q.3 ∙ first.2) in
+          (q.0, q.1, q.2, first.1 ∙ ap (λ o. moved_to o z) (sym e), ap (λ (o : ℕ × ℕ). o.0) e)
 
-      crossed : (l : ℕ) → Contains N l → RecordsAt (after p l) z [] target (l + 1)
+      crossed : (l : ℕ) → Contains N l → RecordsAt (after p l) z [] x (l + 1)
       crossed l m =
           let q = literal l m in
-          subst (λ j. RecordsAt (after p j) z [] target (j + 1)) q.2 (subst (λ y. RecordsAt (after p q.0.mark) z [] y (q.0.mark + 1)) (sym q.3) ((on_link p g.distinct q.0 q.1).there z))
+          subst (λ j. RecordsAt (after p j) z [] x (j + 1)) q.2 (subst (λ y. RecordsAt (after p q.0.mark) z [] y (q.0.mark + 1)) (sym q.3) ((on_link p g.distinct q.0 q.1).there z))
 
       only_next : (l : ℕ) → Contains N l → (y : Packet) (l' : ℕ) → RecordsAt (after p l) z [] y l' → l' ≡ l + 1
       only_next l m y l' c =
@@ -210,68 +248,61 @@ module _ (t : Tables) (p : Policy) (tag : ℕ) (tags : List (List ℕ)) (g : Set
           ((on_link p g.distinct q.0 q.1).only z y l' (subst (λ j. RecordsAt (after p j) z [] y l') (sym q.2) c)).0
           ∙ ap (λ j. j + 1) q.2
 
-      at_source : (l : ℕ) → Contains N l → IsAt p pk (u ++ z ∷ []) l
-      at_source l m = (r.same z l).1 ((exact.1 l).0 m)
-
-      at_target : (l : ℕ) → Contains N l → IsAt p pk ((u ++ z ∷ []) ++ target ∷ []) (l + 1)
-      at_target l m = (at_next p g.distinct pk u z target (l + 1)).1 (l, at_source l m, crossed l m)
-
-      two : u ++ z ∷ target ∷ [] ≡ (u ++ z ∷ []) ++ target ∷ []
-      two = sym (append_assoc u (z ∷ []) (target ∷ []))
+      at_target : (l : ℕ) → Contains N l → IsAt p pk ((front ++ z ∷ []) ++ x ∷ []) (l + 1)
+      at_target l m = (at_next p g.distinct pk front z x (l + 1)).1 (l, (set.1.1 l).0 m, crossed l m)
 
       is_member : (labels : List ℕ) → slice_get tags t2 ≡ Some labels → (l : ℕ) → Contains labels l → Contains N l
       is_member labels e l m = subst (λ n. Contains n l) (same_some labels N (sym e ∙ get)) m
 
       next_same :
           (y : Packet) (l : ℕ)
-          → IsAt p pk ((u ++ z ∷ target ∷ []) ++ y ∷ []) l ↔ StateRecords p tags (suc t2) target y l
+          → IsAt p pk (((front ++ z ∷ []) ++ x ∷ []) ++ y ∷ []) l ↔ StateRecords p tags (suc t2) x y l
       next_same y l = (
         λ a.
-            let a' = subst (λ v. IsAt p pk (v ++ y ∷ []) l) two a in
-            let b = (at_next p g.distinct pk (u ++ z ∷ []) target y l).0 a' in
-            let c = (at_next p g.distinct pk u z target b.0).0 b.1 in
-            let m = (exact.1 c.0).1 ((r.same z c.0).0 c.1) in
-            let e = only_next c.0 m target b.0 c.2 in
-            (after p (c.0 + 1), (N, c.0, get, m, refl), subst (λ j. RecordsAt (after p j) target [] y l) e b.2),
+            let b = (at_next p g.distinct pk (front ++ z ∷ []) x y l).0 a in
+            let c = (at_next p g.distinct pk front z x b.0).0 b.1 in
+            let m = (set.1.1 c.0).1 c.1 in
+            let e = only_next c.0 m x b.0 c.2 in
+            (after p (c.0 + 1), (N, c.0, get, m, refl), subst (λ j. RecordsAt (after p j) x [] y l) e b.2),
         λ q.
             let m = is_member q.1.0 q.1.2 q.1.1 q.1.3 in
-            let c = subst (λ s. RecordsAt s target [] y l) q.1.4 q.2 in
-            subst (λ v. IsAt p pk (v ++ y ∷ []) l) (sym two) ((at_next p g.distinct pk (u ++ z ∷ []) target y l).1 (q.1.1 + 1, at_target q.1.1 m, c)),
+            let c = subst (λ s. RecordsAt s x [] y l) q.1.4 q.2 in
+            (at_next p g.distinct pk (front ++ z ∷ []) x y l).1 (q.1.1 + 1, at_target q.1.1 m, c),
       )
 
       next_ends :
-          (s : Policy) (y : Packet) → IsOfTag p tags (suc t2) s → Gives s target [] y
-          → Gives p pk (u ++ z ∷ target ∷ []) y
+          (s : Policy) (y : Packet) → IsOfTag p tags (suc t2) s → Gives s x [] y
+          → Gives p pk ((front ++ z ∷ []) ++ x ∷ []) y
       next_ends s y q gv =
           let m = is_member q.0 q.2 q.1 q.3 in
-          let c = subst (λ s. Gives s target [] y) q.4 gv in
-          subst (λ v. Gives p pk v y) (sym two) ((gives_at p g.distinct pk (u ++ z ∷ []) target y).1 (q.1 + 1, at_target q.1 m, c))
+          let c = subst (λ s. Gives s x [] y) q.4 gv in
+          (gives_at p g.distinct pk (front ++ z ∷ []) x y).1 (q.1 + 1, at_target q.1 m, c)
 
       next_rests : (s : Policy) → IsOfTag p tags (suc t2) s → IsRest t p tag s
       next_rests s q =
           let i = literal q.1 (is_member q.0 q.2 q.1 q.3) in
           subst (λ s. IsRest t p tag s) (sym q.4) (subst (λ j. IsRest t p tag (after p (j + 1))) i.2 (later_rest i.0 i.1))
 
-      source_ok : IsPacket t.fields z × IsZeroAt tag z × (slice_index z 0 ≡ slice_index x 0)
-      source_ok = result_ok tg x r.at z (suc t2) (N, get, any, exact)
-
-      target_switch : slice_index target 0 ≡ to.0
+      target_switch : slice_index x 0 ≡ first.0.to_switch
       target_switch =
           let ne : ◌≢◌ {A = ℕ} 0 1 = λ e. omega (arith, e) in
-          let long : 0 < length z = omega (arith, source_ok.0.places) in
-          get_or-set_other (slice_set z 0 to.0) 1 0 to.1 0 ne ∙ get_or-set_same z 0 to.0 0 long
+          let at_z = recorded front z by.0 ((set.1.1 by.0).0 by.1) in
+          let long : 0 < length z = omega (arith, at_z.0.places) in
+          ap (λ q. slice_index q 0) first.1
+          ∙ get_or-set_other (slice_set z 0 first.0.to_switch) 1 0 first.0.to_port 0 ne
+          ∙ get_or-set_same z 0 first.0.to_switch 0 long
 
-      -- one crossing on
-      pub reached_next : Reached t p tag tags pk (suc k) (u ++ z ∷ target ∷ []) (suc t2) target
-      reached_next =
-          let m = some_member N any in
+      -- a crossing's end is reached under the tag
+      pub reached_behind : Reached t p tag tags pk (suc n) ((front ++ z ∷ []) ++ x ∷ []) (suc t2) x
+      reached_behind =
+          let m = some_member N set.0 in
           let i = literal m.0 m.1 in
-          let c = crossed m.0 m.1 in
+          let here = recorded (front ++ z ∷ []) x l0 at in
           record {
-            size = omega (arith, r.size, length-append u (z ∷ target ∷ []));
+            size = omega (arith, odd, length-append (front ++ z ∷ []) (x ∷ []));
             at = record {
-              packet = records_keep t.fields (after p m.0) (after_in_range t.fields p m.0 g.in_range) z [] target (m.0 + 1) c source_ok.0;
-              zero_tag = Kept.records_keep (IsOther tag) (IsZeroAt tag) (others_keep tag) (after p m.0) (Kept.after_assigns (IsOther tag) (IsZeroAt tag) (others_keep tag) p m.0 (assigns_others tag past p no_tag)) z [] target (m.0 + 1) c source_ok.1;
+              packet = here.0;
+              zero_tag = here.1;
               here =
                   subst
                   (λ w. In (map (λ (s : SwitchPorts). s.switch) t.topo.switches) w)
@@ -289,3 +320,40 @@ module _ (t : Tables) (p : Policy) (tag : ℕ) (tags : List (List ℕ)) (g : Set
             same = next_same;
             ends = next_ends;
           }
+
+-- ---- under a tag
+
+-- a packet is met under the tag: it starts, under tag 0, or it stands behind records with the tag's set
+abbrev pub Under : Tables → Policy → List (List ℕ) → ℕ → Packet → Type 0
+Under t p tags zero x = IsStart t.fields t.topo x
+Under t p tags (suc i) x = (labels : List ℕ) × (slice_get tags i ≡ Some labels) × IsMetUnder p (IsStart t.fields t.topo) labels x
+
+-- so from some start a run has come there
+pub record Come (t : Tables) (p : Policy) (tag : ℕ) (tags : List (List ℕ)) (tg : ℕ) (x : Packet) : Type 0 where
+  pub from : Packet
+  pub start : IsStart t.fields t.topo from
+  pub crossings : ℕ
+  pub records : List Packet
+  pub reached : Reached t p tag tags from crossings records tg x
+
+pub come : (t : Tables) (p : Policy) (tag : ℕ) (tags : List (List ℕ)) → Setting t p tag tags → (tg : ℕ) (x : Packet) → Under t p tags tg x → Come t p tag tags tg x
+come t p tag tags g zero x h = record {
+  from = x;
+  start = h;
+  crossings = 0;
+  records = [];
+  reached = reached_first t p tag tags g x h;
+}
+come t p tag tags g (suc i) x h = behind h.2.1 h.2.4 h.2.5 h.2.7
+  where
+    behind : (u : List Packet) → length u ≡ 2 * h.2.2 + 1 → IsLabelSet p h.2.0 u h.0 → IsAt p h.2.0 (u ++ x ∷ []) h.2.6 → Come t p tag tags (suc i) x
+    behind [] odd set at = absurd (omega (arith, odd))
+    behind (y ∷ u) odd set at =
+        let c = last_of_list y u in
+        record {
+          from = h.2.0;
+          start = h.2.3;
+          crossings = suc h.2.2;
+          records = (c.0 ++ c.1 ∷ []) ++ x ∷ [];
+          reached = reached_behind t p tag tags g h.2.0 h.2.3 h.2.2 c.0 c.1 (sym (ap length c.2) ∙ odd) i h.0 h.1 (subst (λ v. IsLabelSet p h.2.0 v h.0) c.2 set) x h.2.6 (subst (λ v. IsAt p h.2.0 (v ++ x ∷ []) h.2.6) c.2 at);
+        }

@@ -6,6 +6,7 @@ pub mod DeclaredLinks
 pub mod Headline
 pub mod Levelled
 pub mod MadePair
+pub mod MergedTable
 pub mod NumberedBehind
 pub mod OffEdge
 pub mod PairAnswers

@@ -7,3 +7,5 @@ pub mod Tagging
 pub mod Stating
 pub mod Trees
 pub mod Finishing
+pub mod Fronting
+pub mod ClassTables

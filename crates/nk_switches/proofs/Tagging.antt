@@ -1,5 +1,5 @@
 -- The tags of targets: one tag more in the table, and where a state sends by the table.
-use Rattle.std.proofs.Common.{◌≡◌, ℕ, zero, suc, ◌+◌, ◌<◌, ◌≤◌, ◌⊎◌, ⊎_elim, Option, Some, None, List, [], length, sym, ap, subst, ◌∙◌, arith, get_or}
+use Rattle.std.proofs.Common.{◌≡◌, ℕ, zero, suc, ◌+◌, ◌<◌, ◌≤◌, ⊎_elim, Option, Some, None, List, [], length, sym, ap, subst, ◌∙◌, arith, get_or}
 use Rattle.std.specs.Prelude.{slice_index, Contains, All}
 use Rattle.nk_store.specs.Held.{Held, IsPacket}
 use Rattle.nk_determ.specs.Exact.{Sends}

@@ -2,3 +2,4 @@ pub mod Matched
 pub mod States
 pub mod Tagged
 pub mod Made
+pub mod Classed

@@ -1,12 +1,16 @@
 //! The tables of switches, made of an automaton's states: at each switch the rows of tag 0 and of each tag that comes there.
 #![tactic(auto)]
 
+mod acting;
 mod at_switch;
+mod classes;
 mod members;
 mod stop;
 mod switches;
 mod tables;
 mod tag_states;
+mod targets;
 
-pub use stop::Stop;
+pub use classes::class_tables;
+pub use stop::{ActingTag, ClassHere, ClassStop, Stop};
 pub use switches::switch_tables;

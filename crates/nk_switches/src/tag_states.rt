@@ -17,7 +17,7 @@ use nk_store::{Id, Store};
 use std::alloc::AllocError;
 
 /// The diagram of one tag's states at a switch.
-fn tag_state(
+pub fn tag_state(
     st: &mut Store,
     ss: &mut Sets,
     states: &[Id],

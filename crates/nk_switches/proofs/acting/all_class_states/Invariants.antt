@@ -1,0 +1,14 @@
+use Rattle.std.proofs.Common.{take}
+use Rattle.nk_store.specs.Held.{Grows}
+use Rattle.nk_determ.specs.Sets.{SetsGrow}
+use Rattle.nk_switches.specs.Matched.{Matched}
+use Rattle.nk_switches.specs.Classed.{AreClassStates}
+use Rattle.nk_switches.proofs.acting.all_class_states.Given as goal
+
+-- the switches so far have their diagrams
+abbrev pub invariant-loop-stop : goal.invariant-loop-stop
+invariant-loop-stop l = record {
+  grows : Grows l.fn.st l.st;
+  sets : SetsGrow l.fn.ss l.ss;
+  made : Matched (AreClassStates l.st l.ss l.states l.tags l.tag) (take l.stop-index l.stops) l.all;
+}

@@ -1,0 +1,51 @@
+//! The tables of all switches, where tags share the numbers of their classes.
+ghost use Rattle.std.specs.Prelude.{◌≡◌, ℕ, ◌<◌, Some, All, IfOk, length};
+ghost use Rattle.nk_algebra.specs.Unions.{AreIds};
+ghost use Rattle.nk_extract.specs.RowsOf.{IsFrame};
+ghost use Rattle.nk_switches.specs.Matched.{Matched};
+ghost use Rattle.nk_switches.specs.Tagged.{AreOnce};
+ghost use Rattle.nk_switches.specs.Classed.{IsClassStop, IsClassTableAt};
+
+use crate::acting::all_class_states;
+use crate::members::tag_table;
+use crate::stop::ClassStop;
+use crate::tables::all_tables;
+use crate::targets::class_targets;
+use nk_determ::{SetId, Sets};
+use nk_field::List;
+use nk_store::{Id, Store};
+use nk_table::Table;
+use std::alloc::AllocError;
+
+/// The table of each switch, where tags share the numbers of their classes. The rows of a class do at each packet what the states
+/// of the tag do together that acts for it there. A copy at which they end leaves with tag 0; one that they record next leaves
+/// with the number of the class of the tag whose set is that of all labels that record it, and is left out where that set has no
+/// tag. Equal bucket lists of a switch are one group.
+///
+/// `states` are the diagrams of an automaton, `tags` the numbers of the tags' sets of labels in order, and `classes` the numbers of
+/// their classes. The only error is that memory ran out.
+pub fn class_tables(
+    st: &mut Store,
+    ss: &mut Sets,
+    states: &[Id],
+    tags: &[SetId],
+    classes: &[u64],
+    stops: &[ClassStop],
+) -> Result<List<Table>, AllocError>
+    requires frame { (tag : ℕ) × (st.old.tag ≡ Some tag) × IsFrame st.old st.old.width tag }
+    requires states { AreIds st.old states.now }
+    requires known { All (λ s. s < length ss.old) tags.now }
+    requires once { AreOnce ss.old tags.now }
+    requires classes { length classes.now ≡ length tags.now }
+    requires stops { (tag : ℕ) → st.old.tag ≡ Some tag → All (IsClassStop st.old ss.old states.now tags.now tag) stops.now }
+    ensures { IfOk result (λ ts. (tag : ℕ) → st.old.tag ≡ Some tag →
+        Matched (IsClassTableAt st.old ss.old states.now tags.now classes.now tag) stops.now ts) }
+{
+    let Some(tag) = st.tag() else { unreachable!() };
+    let class_states = all_class_states(st, ss, states, tags, tag, stops)?;
+    let by_tag = tag_table(st.alloc(), ss, tags)?;
+    let table = class_targets(st.alloc(), by_tag.as_slice(), classes)?;
+    ss.differ();
+    st.laws();
+    all_tables(st, table.as_slice(), class_states.as_slice())
+}
