@@ -1,9 +1,14 @@
 pub mod Acting
+pub mod ActingTags
+pub mod AlikeTags
 pub mod Begun
 pub mod Behind
 pub mod Carried
+pub mod ClassRows
 pub mod ComingEnds
 pub mod ComingSteps
+pub mod CompactAnswers
+pub mod Compacting
 pub mod Declared
 pub mod Emitted
 pub mod EndLemmas
@@ -13,6 +18,8 @@ pub mod Levelled
 pub mod LinkEnds
 pub mod Making
 pub mod Merging
+pub mod MetSets
+pub mod MetUnder
 pub mod Naming
 pub mod Padding
 pub mod PairRows
@@ -35,6 +42,7 @@ pub mod Waits
 pub mod Whole
 pub mod WrongEnding
 pub mod Orders
+pub mod TellingApart
 pub mod TooMany
 pub mod Reasons
 pub mod ReasonByName

@@ -1,7 +1,7 @@
 -- The classes of tag sets number the tags so that the merged table carries the policy: at a packet that is met under a member of a
 -- class the member that acts is met too, and alike members give the same histories.
 use Rattle.std.proofs.Common.{◌≡◌, ℕ, zero, suc, ◌+◌, ◌<◌, ⊎_elim, Some, List, [], ◌∷◌, length, refl, sym, ap, subst, ◌∙◌, arith}
-use Rattle.std.specs.Prelude.{All, Contains, map, slice_get, slice_index}
+use Rattle.std.specs.Prelude.{All, Contains, map, slice_get, slice_index, slice_index_or}
 use Rattle.std.proofs.lemmas.Option.{slice_get_within}
 use Rattle.nk_field.specs.declared.packet.Packet.{Packet}
 use Rattle.nk_field.specs.Packet.{FieldTable, IsFieldTable, erased}
@@ -22,8 +22,9 @@ use Rattle.nk_names.proofs.Named.{let_named}
 use Rattle.nk_store.specs.Diagram.{leaf_at}
 use Rattle.nk_table.specs.declared.Tables.{Tables}
 use Rattle.nk_table.specs.declared.Table.{Table}
+use Rattle.nk_switches.specs.Classed.{class_of}
 use Rattle.nk_compile.specs.Carries.{Carries}
-use Rattle.nk_compile.specs.MergedTable.{GivesBehind, AreClasses, class_of, IsMember, ActsFor, IsClassTree, HasClassRowsAt, IsClassTable, IsMergedTable}
+use Rattle.nk_compile.specs.MergedTable.{GivesBehind, AreSetsAlike, AreTagClasses, IsMember, ActsFor, IsClassTree, HasClassRowsAt, IsClassTable, IsMergedTable}
 use Rattle.nk_compile.specs.WholeTable.{HasRowsAt, TagTree}
 use Rattle.nk_compile.proofs.Acting.{GivesAs, Acts, Numbering}
 use Rattle.nk_compile.proofs.Carried.{Leaving, leaving_by}
@@ -33,16 +34,22 @@ use Rattle.nk_compile.proofs.RowsFor.{table_for, sent_by_leaf}
 use Rattle.nk_compile.proofs.TagPlaces.{tags_stand}
 
 -- what stands at a place is what the list has there
-get_index : (xs : List ℕ) (i : ℕ) → i < length xs → slice_get xs i ≡ Some (slice_index xs i)
+pub get_index : (xs : List ℕ) (i : ℕ) → i < length xs → slice_get xs i ≡ Some (slice_index xs i)
 get_index [] i lt = absurd (omega (arith, lt))
 get_index (x ∷ xs) zero lt = refl
 get_index (x ∷ xs) (suc i) lt = get_index xs i (omega (arith, lt))
 
 -- and the other way
-index_get : (xs : List ℕ) (i c : ℕ) → slice_get xs i ≡ Some c → slice_index xs i ≡ c
+pub index_get : (xs : List ℕ) (i c : ℕ) → slice_get xs i ≡ Some c → slice_index xs i ≡ c
 index_get [] i c e = absurd cc
 index_get (x ∷ xs) zero c e = same_some x c e
 index_get (x ∷ xs) (suc i) c e = index_get xs i c e
+
+-- likewise of sets
+pub set_get : (xs : List (List ℕ)) (i : ℕ) (s : List ℕ) → slice_get xs i ≡ Some s → slice_index_or xs i [] ≡ s
+set_get [] i s e = absurd cc
+set_get (x ∷ xs) zero s e = same_some x s e
+set_get (x ∷ xs) (suc i) s e = set_get xs i s e
 
 -- where a tag of the class has rows, the class has
 class_rows :
@@ -51,7 +58,7 @@ class_rows :
 class_rows p tags classes sw i zero m lt h = absurd (omega (arith, lt))
 class_rows p tags classes sw i (suc c) m lt h = (i, m, h)
 
-module _ (t : Tables) (p : Policy) (tag : ℕ) (tags : List (List ℕ)) (classes : List ℕ) (g : Setting t p tag tags) (are : AreClasses t.fields p tags classes) where
+module _ (t : Tables) (p : Policy) (tag : ℕ) (tags : List (List ℕ)) (classes : List ℕ) (g : Setting t p tag tags) (are : AreTagClasses t.fields p tags classes) where
   -- shorter names
   abbrev Start : Packet → Type 0
   Start = IsStart t.fields t.topo
@@ -62,9 +69,9 @@ module _ (t : Tables) (p : Policy) (tag : ℕ) (tags : List (List ℕ)) (classes
       → IsMember classes (slice_index classes i) i × (0 < slice_index classes i)
   place_class i labels get =
       let within = slice_get_within tags i labels get in
-      let many = are.count in
+      let many = are.one_each in
       let lt : i < length classes = omega (arith, within, many) in
-      (get_index classes i lt, are.above_zero i lt)
+      (get_index classes i lt, let one = are.from_one i within in omega (arith, one))
 
   -- no tag but 0 has the class 0
   never_zero : (tg : ℕ) (x : Packet) → Under t p tags (suc tg) x → class_of classes (suc tg) ≡ 0 → ⊥
@@ -100,7 +107,9 @@ module _ (t : Tables) (p : Policy) (tag : ℕ) (tags : List (List ℕ)) (classes
       let of = h.1 in
       let member : Contains under.0 of.1 = subst (λ ls. Contains ls of.1) (same_some of.0 under.0 (sym of.2 ∙ under.1)) of.3 in
       let behind : GivesBehind p under.0 x w last = (of.1, member, subst (λ s. Gives s x w last) of.4 h.2) in
-      let other = ((are.alike i j under.0 under'.0 under.1 under'.1).0 e x w last packet).0 behind in
+      let same = (are.same i j (slice_get_within tags i under.0 under.1) (slice_get_within tags j under'.0 under'.1)).0 e in
+      let alike : AreSetsAlike t.fields p under.0 under'.0 = subst (λ s. AreSetsAlike t.fields p under.0 s) (set_get tags j under'.0 under'.1) (subst (λ s. AreSetsAlike t.fields p s (slice_index_or tags j [])) (set_get tags i under.0 under.1) same) in
+      let other = (alike x w last packet).0 behind in
       (after p (other.0 + 1), (under'.0, other.0, under'.1, other.1, refl), other.2)
 
   module _ (switches : map (λ (s : Table). s.switch) t.tables ≡ map (λ (s : SwitchPorts). s.switch) t.topo.switches) (each : All (IsClassTable t.fields tag Start p tags classes) t.tables) where
@@ -141,20 +150,20 @@ module _ (t : Tables) (p : Policy) (tag : ℕ) (tags : List (List ℕ)) (classes
     class_numbering = record { zero_is = refl; acts = acts; alike = alike_tags }
 
 -- what is asked of fields, topology, policy and tables
-abbrev Asked : Policy → Tables → FieldTable → Topology → Type 0
-Asked p t fields topo =
+abbrev Asked : Policy → List (List ℕ) → List ℕ → Tables → FieldTable → Topology → Type 0
+Asked p tags classes t fields topo =
     IsFieldTable fields
     × AreLinks topo
     × HasDistinct p
     × IsInRange p fields
     × IsCompilable fields topo p
-    × IsMergedTable fields topo (IsStart fields topo) p t
+    × IsMergedTable fields topo (IsStart fields topo) p tags classes t
 
 -- over the tables' own fields and topology
-leave_here : (p : Policy) (t : Tables) → Asked p t t.fields t.topo → Leaving p t t.fields t.topo
-leave_here p t a =
-    let table : IsMergedTable t.fields t.topo (IsStart t.fields t.topo) p t = a.5 in
-    let g : Setting t p table.tag table.tags =
+leave_here : (p : Policy) (tags : List (List ℕ)) (classes : List ℕ) (t : Tables) → Asked p tags classes t t.fields t.topo → Leaving p t t.fields t.topo
+leave_here p tags classes t a =
+    let table : IsMergedTable t.fields t.topo (IsStart t.fields t.topo) p tags classes t = a.5 in
+    let g : Setting t p table.tag tags =
     record {
       fields_ok = a.0;
       links_ok = a.1;
@@ -162,27 +171,27 @@ leave_here p t a =
       in_range = a.3;
       compilable = a.4;
       tag_is = table.tag_declared;
-      stand = tags_stand p (IsStart t.fields t.topo) table.tags table.in_order;
+      stand = tags_stand p (IsStart t.fields t.topo) tags table.in_order;
     } in
-    leaving_by t p table.tag table.tags g (class_of table.classes) (class_numbering t p table.tag table.tags table.classes g table.are_classes table.switches table.each)
+    leaving_by t p table.tag tags g (class_of classes) (class_numbering t p table.tag tags classes g table.are_classes table.switches table.each)
 
 -- over equal ones
 leave_over :
-    (p : Policy) (t : Tables) (fields : FieldTable) (topo : Topology) → t.fields ≡ fields → t.topo ≡ topo
-    → Asked p t fields topo → Leaving p t fields topo
-leave_over p t fields topo e f =
+    (p : Policy) (tags : List (List ℕ)) (classes : List ℕ) (t : Tables) (fields : FieldTable) (topo : Topology) → t.fields ≡ fields → t.topo ≡ topo
+    → Asked p tags classes t fields topo → Leaving p t fields topo
+leave_over p tags classes t fields topo e f =
     subst
-    (λ i. Asked p t i topo → Leaving p t i topo)
+    (λ i. Asked p tags classes t i topo → Leaving p t i topo)
     e
-    (subst (λ o. Asked p t t.fields o → Leaving p t t.fields o) f (leave_here p t))
+    (subst (λ o. Asked p tags classes t t.fields o → Leaving p t t.fields o) f (leave_here p tags classes t))
 
 -- the merged table of a compilable policy carries it
 pub merged_carries :
-    (program : Program) (p : Policy) (t : Tables) → IsFieldTable program.fields → AreLinks program.topo
+    (program : Program) (p : Policy) (tags : List (List ℕ)) (classes : List ℕ) (t : Tables) → IsFieldTable program.fields → AreLinks program.topo
     → HasDistinct p → IsInRange p program.fields → IsCompilable program.fields program.topo p
-    → IsMergedTable program.fields program.topo (IsStart program.fields program.topo) p t → Carries program p t
-merged_carries program p t fields_ok links_ok distinct in_range compilable table =
-    let h = leave_over p t program.fields program.topo table.same_fields table.same_topology (fields_ok, links_ok, distinct, in_range, compilable, table) in
+    → IsMergedTable program.fields program.topo (IsStart program.fields program.topo) p tags classes t → Carries program p t
+merged_carries program p tags classes t fields_ok links_ok distinct in_range compilable table =
+    let h = leave_over p tags classes t program.fields program.topo table.same_fields table.same_topology (fields_ok, links_ok, distinct, in_range, compilable, table) in
     record {
       same_fields = table.same_fields;
       same_topology = table.same_topology;
@@ -193,10 +202,10 @@ merged_carries program p t fields_ok links_ok distinct in_range compilable table
 
 -- so does that of a program's policy
 pub named_merged_carries :
-    (program : Program) (name : List ℕ) (p : Policy) (t : Tables)
+    (program : Program) (name : List ℕ) (p : Policy) (tags : List (List ℕ)) (classes : List ℕ) (t : Tables)
     → IsProgram program.fields program.topo program.lets → policy_named program name ≡ Some p
     → IsCompilable program.fields program.topo p
-    → IsMergedTable program.fields program.topo (IsStart program.fields program.topo) p t → Carries program p t
-named_merged_carries program name p t ok named compilable table =
+    → IsMergedTable program.fields program.topo (IsStart program.fields program.topo) p tags classes t → Carries program p t
+named_merged_carries program name p tags classes t ok named compilable table =
     let is : IsLet program.fields p = let_named program name p ok named in
-    merged_carries program p t ok.table ok.topology.links (numbered_distinct p 1 is.numbered) is.in_range compilable table
+    merged_carries program p tags classes t ok.table ok.topology.links (numbered_distinct p 1 is.numbered) is.in_range compilable table

@@ -175,7 +175,7 @@ module _ (first : ℕ) (fields : FieldTable) (topo : Topology) (tag : ℕ) (p : 
         below l one = omega (arith, one)
 
   -- the store's largest values of declared fields are theirs
-  declared_are : take st.width st.maxes ≡ fields.maxima
+  pub declared_are : take st.width st.maxes ≡ fields.maxima
   declared_are = ap (λ n. take n st.maxes) ready.over.width ∙ (set_up fields st tag clear.table ready.over clear.tag_is).front
 
   -- the tree of a tag is that of its states

@@ -57,7 +57,7 @@ module _ (first : ℕ) (fields : FieldTable) (topo : Topology) (tag : ℕ) (p : 
       (ready.in_order.exactly s).0 (contains_from_in ready.sets s (behind_in first ready.sets s some among))
 
   -- so it has first dups of literals
-  tagged : (i : ℕ) → i < length tags → IsTagged p ss tags i
+  pub tagged : (i : ℕ) → i < length tags → IsTagged p ss tags i
   tagged i lt = record {
     literal = λ l c. literal_of topo clear.topology.links p distinct clear.dups_in_links clear.links_declared (IsStart fields topo) (set_of ss tags i) (tag_set i lt (some_labels (set_of ss tags i) l c)) l c;
   }
@@ -80,7 +80,7 @@ module _ (first : ℕ) (fields : FieldTable) (topo : Topology) (tag : ℕ) (p : 
         each l (dup_place first fields topo tag p st ss states tags clear ready tagged l (subst (λ n. has_dup p n ≡ true) k.2 (holds_first p k.0 k.1))).1
 
     -- a tag comes to a switch exactly where it has rows there
-    comes_rows : (sw t : ℕ) → ComesTo ends ss tags (length tags) sw t ↔ HasRowsAt p (sets_of ss tags) sw t
+    pub comes_rows : (sw t : ℕ) → ComesTo ends ss tags (length tags) sw t ↔ HasRowsAt p (sets_of ss tags) sw t
     comes_rows sw zero = (λ u. tt, λ u. tt)
     comes_rows sw (suc i) = (
       λ h.

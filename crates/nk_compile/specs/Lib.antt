@@ -1,12 +1,16 @@
 pub mod Answers
 pub mod Carries
+pub mod ClassStops
 pub mod Comings
+pub mod Compacted
 pub mod Counted
 pub mod DeclaredLinks
 pub mod Headline
 pub mod Levelled
 pub mod MadePair
+pub mod Mergeable
 pub mod MergedTable
+pub mod MetPackets
 pub mod NumberedBehind
 pub mod OffEdge
 pub mod PairAnswers
@@ -16,5 +20,6 @@ pub mod Ready
 pub mod Refusals
 pub mod Smallest
 pub mod Sought
+pub mod Told
 pub mod WholeTable
 pub mod WrongEnds

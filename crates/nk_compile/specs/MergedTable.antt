@@ -1,6 +1,6 @@
 -- The printed tables of a policy where tag sets whose states give the same histories share one tag, the number of their class.
 -- At each packet the first member of a class under which the packet is met acts for the class.
-use Rattle.std.specs.Prelude.{◌≡◌, ℕ, zero, suc, ◌+◌, ◌*◌, ◌<◌, ◌⊎◌, ◌↔◌, Some, List, [], ◌∷◌, ◌++◌, length, map, slice_get, slice_index, Contains, All, AllPairs}
+use Rattle.std.specs.Prelude.{◌≡◌, ℕ, zero, suc, ◌+◌, ◌*◌, ◌<◌, ◌⊎◌, ◌↔◌, Some, List, [], ◌∷◌, ◌++◌, length, map, slice_get, slice_index, slice_index_or, Contains, All, AllPairs}
 use Rattle.std.specs.List.Sorted.{IsStrictlyIncreasing}
 use Rattle.nk_field.specs.declared.packet.Packet.{Packet}
 use Rattle.nk_field.specs.Packet.{FieldTable, IsPacket, erased}
@@ -16,6 +16,8 @@ use Rattle.nk_table.specs.declared.Table.{Table}
 use Rattle.nk_table.specs.declared.Tables.{Tables}
 use Rattle.nk_extract.specs.Buckets.{bucket_of, IsBucketBefore}
 use Rattle.nk_group.specs.Groups.{groups_of, rows_after}
+use Rattle.nk_switches.specs.Classed.{class_of}
+use Rattle.nk_merge.specs.Classes.{AreClasses}
 use Rattle.nk_compile.specs.PrintedTable.{IsResult}
 use Rattle.nk_compile.specs.WholeTable.{TagTree, rows_of_trees, HasRowsAt}
 
@@ -26,22 +28,18 @@ abbrev pub GivesBehind : Policy → List ℕ → Packet → List Packet → Pack
 GivesBehind p labels x w last = (l : ℕ) × Contains labels l × Gives (after p (l + 1)) x w last
 
 -- the states of two tag sets give the same histories from every packet in range
-abbrev pub AreAlike : FieldTable → Policy → List ℕ → List ℕ → Type 0
-AreAlike fields p a b =
+abbrev pub AreSetsAlike : FieldTable → Policy → List ℕ → List ℕ → Type 0
+AreSetsAlike fields p a b =
     (x : Packet) (w : List Packet) (last : Packet) → IsPacket fields x → GivesBehind p a x w last ↔ GivesBehind p b x w last
+
+-- so it is with the tag sets at two places
+abbrev pub ArePlacesAlike : FieldTable → Policy → List (List ℕ) → ℕ → ℕ → Type 0
+ArePlacesAlike fields p tags i j = AreSetsAlike fields p (slice_index_or tags i []) (slice_index_or tags j [])
 
 -- the classes of the tag sets, in the order of these: two have one class exactly where they are alike, and classes are
 -- numbered from 1 by their first tag sets
-pub record AreClasses (fields : FieldTable) (p : Policy) (tags : List (List ℕ)) (classes : List ℕ) : Type 0 where
-  pub count : length classes ≡ length tags
-  pub alike : (i j : ℕ) (a b : List ℕ) → slice_get tags i ≡ Some a → slice_get tags j ≡ Some b → (slice_index classes i ≡ slice_index classes j) ↔ AreAlike fields p a b
-  pub above_zero : (i : ℕ) → i < length classes → 0 < slice_index classes i
-  pub by_first : (i c : ℕ) → i < length classes → 0 < c → c < slice_index classes i → (j : ℕ) × (j < i) × (slice_index classes j ≡ c)
-
--- the number of a tag's class: 0 for tag 0
-abbrev pub class_of : List ℕ → ℕ → ℕ
-class_of classes zero = 0
-class_of classes (suc t) = slice_index classes t
+abbrev pub AreTagClasses : FieldTable → Policy → List (List ℕ) → List ℕ → Type 0
+AreTagClasses fields p tags classes = AreClasses (ArePlacesAlike fields p tags) (length tags) classes
 
 -- ---- which member acts for a class
 
@@ -103,14 +101,12 @@ pub record IsClassTable (fields : FieldTable) (tag : ℕ) (Start : Packet → Ty
   pub groups : table.groups ≡ groups_of (rows_of_trees fields.maxima tag trees)
   pub rows : table.rows ≡ rows_after [] (rows_of_trees fields.maxima tag trees)
 
--- the tables of a policy whose packets start where Start holds, by the classes of its tag sets
-pub record IsMergedTable (fields : FieldTable) (topo : Topology) (Start : Packet → Type 0) (p : Policy) (t : Tables) : Type 0 where
+-- the tables of a policy whose packets start where Start holds, by its tag sets in order and their classes
+pub record IsMergedTable (fields : FieldTable) (topo : Topology) (Start : Packet → Type 0) (p : Policy) (tags : List (List ℕ)) (classes : List ℕ) (t : Tables) : Type 0 where
   pub tag : ℕ
-  pub tags : List (List ℕ)
-  pub classes : List ℕ
   pub tag_declared : fields.tag ≡ Some tag
   pub in_order : AreTags p Start tags
-  pub are_classes : AreClasses fields p tags classes
+  pub are_classes : AreTagClasses fields p tags classes
   pub same_fields : t.fields ≡ fields
   pub same_topology : t.topo ≡ topo
   pub switches : map (λ s. s.switch) t.tables ≡ map (λ s. s.switch) topo.switches

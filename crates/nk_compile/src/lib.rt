@@ -1,10 +1,15 @@
 //! Compilation: the tables of a named policy of a program, and of two of them for an update.
 #![tactic(auto)]
 
+mod aparts;
+mod class_stops;
+mod compact;
 mod compilation;
 mod counted;
 mod ends;
 pub mod laws;
+mod merged;
+mod met;
 mod pair;
 mod prepared;
 mod refusal;
@@ -14,6 +19,7 @@ mod tables;
 mod tagging;
 mod wrong_ends;
 
+pub use compact::{Apart, Compact, compile_compact};
 pub use compilation::{compile, compile_counted, tag_count};
 pub use counted::Counted;
 pub use pair::{TablePair, compile_pair};

@@ -29,7 +29,7 @@ use nk_places::{off_edges, starts};
 use nk_policy::Pol;
 use nk_reach::{Found, Levels, least_history, levels};
 use nk_store::{Id, Store};
-use nk_tag::{NumberError, number_from};
+use nk_tag::{NumberError, number, number_from};
 use nk_topo::Topo;
 use std::alloc::{AllocError, Global};
 
@@ -96,6 +96,19 @@ pub fn numbers(b: &Prepared, first: u64, max: u64) -> Result<List<SetId>, Compil
     match number_from(&b.sets, &b.levels, first, max) {
         Ok(tags) => Ok(tags.sets),
         Err(e) => Err(fault(e)),
+    }
+}
+
+/// The numbers of all of a prepared policy's sets at odd levels in order, as many as there are.
+pub fn all_numbers(b: &Prepared) -> Result<List<SetId>, AllocError>
+    requires prepared { (fields : FieldTable) × (topo : Topology) × (tag : ℕ) × (p : Policy) × IsPrepared fields topo tag p b.now }
+    ensures ok { IfOk result (λ r. AreNumbers b.now.sets b.now.levels.levels r) }
+{
+    match number(&b.sets, &b.levels, u64::MAX - 1) {
+        Ok(all) => Ok(all.sets),
+        // so many sets are more than memory holds
+        Err(NumberError::TooManyTags { found: _ }) => Err(AllocError),
+        Err(NumberError::NoMemory) => Err(AllocError),
     }
 }
 
