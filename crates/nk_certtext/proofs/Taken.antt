@@ -3,19 +3,18 @@ use Rattle.std.proofs.Common.{◌≡◌, ◌⊎◌, ℕ, Option, Some, None, Ok,
 use Rattle.std.specs.declared.result.Result.{Result}
 use Rattle.std.specs.Prelude.{IfErr, IfOk, IsOk, OnOk}
 use Rattle.std.proofs.lemmas.List.{append-nil}
-use Rattle.std.proofs.lemmas.List.Sums.{fold-append}
 use Rattle.nk_lex.specs.declared.token.Token.{Token}
 use Rattle.nk_grammar.specs.declared.decl.Completed.{Completed}
 use Rattle.nk_grammar.specs.declared.decl.Completed.TheVariants as completed
 use Rattle.nk_grammar.specs.declared.decl.GrammarError.{GrammarError}
 use Rattle.nk_grammar.specs.declared.decl.GrammarError.TheVariants as grammar
 use Rattle.nk_grammar.specs.Tree.{Tree}
-use Rattle.nk_grammar.specs.File.{Declaration, declaration_of}
+use Rattle.nk_grammar.specs.File.{declaration_of}
 use Rattle.nk_grammar.specs.declared.decl.CertRow.{CertRow}
 use Rattle.nk_grammar.specs.FileMachine.{Fails, Returns}
 use Rattle.nk_grammar.specs.Certified.{Certified, certified, Row, row, row_value}
 use Rattle.nk_grammar.specs.CertifiedMachine.{certified_of}
-use Rattle.nk_grammar.specs.CertifiedProgress.{CertifiedProgress, Going, Stopped, IsRead, IsStopped, so_far, so_far_after, nothing_so_far, declarations_by, rows_by}
+use Rattle.nk_grammar.specs.CertifiedProgress.{IsRead, declarations_by, rows_by}
 use Rattle.nk_names.specs.declared.fault.NamesError.{NamesError}
 use Rattle.nk_names.specs.Declaring.{said_on}
 use Rattle.nk_names.specs.declared.Program.{Program}
@@ -103,20 +102,6 @@ pub taken_on : {X E : Type 0} (ts : List Token) (old new : CertProgress) (t : To
     → OnOk r (IsTakenOn ts h.declarations h.rows old t new) → OnOk r (IsTaken (ts ++ t ∷ []) new)
 taken_on ts old new t (Ok x) h k = taken_more ts old new t h (k h.read)
 taken_on ts old new t (Err e) h k = tt
-
--- where the grammar has a fault, a token completes nothing
-pub stopped_steps : (ts : List Token) (t : Token) (ds : List Declaration) (rs : List Row) (p : CertProgress) → IsStopped p.grammar
-    → IsRead ts ds rs p.grammar → IsStepped ts ds rs p t p
-stopped_steps ts t ds rs p stopped h = record {
-  part = None;
-  read = fold-append so_far_after nothing_so_far ts (t ∷ []) ∙ ap (λ s. so_far_after s t) h ∙ stays p.grammar stopped
-      ∙ ap (λ l. so_far p.grammar l rs) (sym (append-nil ds)) ∙ ap (so_far p.grammar (ds ++ [])) (sym (append-nil rs));
-  parts = refl;
-}
-  where
-    stays : (q : CertifiedProgress) → IsStopped q → so_far_after (so_far q ds rs) t ≡ so_far q ds rs
-    stays (Going phase line) s = absurd cc
-    stays (Stopped e) s = refl
 
 -- ---- at the end
 

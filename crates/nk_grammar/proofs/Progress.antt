@@ -18,8 +18,13 @@ use Rattle.nk_grammar.specs.File.{Declaration}
 use Rattle.nk_grammar.specs.FileMachine.{Phase, Reading, Returns, next_reading, text_ended}
 use Rattle.nk_grammar.specs.Certified.{Row, row, row_value, Certified, certified}
 use Rattle.nk_grammar.specs.CertifiedMachine.{CertifiedPhase, declaring, row_wanted, start_wanted, start_read, number_wanted, numbers_read, in_row, Certifying, certifying, is_certificate, is_start_word, row_in, in_line, certificate_begins, still_declaring, row_on, certify_one, first_certifying, certificate_ends, open_certified, judged_certified, certified_end_at, rest_of_certified, certified_of}
-use Rattle.nk_grammar.specs.CertifiedReader.{certified_phase_of}
-use Rattle.nk_grammar.specs.CertifiedProgress.{CertifiedProgress, Going, Stopped, bare, with_done, done_declarations, SoFar, so_far, nothing_so_far, so_far_at, so_far_judged, so_far_after, IsRead, certified_so_far, ReadsCertifiedAsWhole}
+use Rattle.nk_grammar.specs.FileReader.{phase_in}
+use Rattle.nk_grammar.specs.Reader.{reader_state}
+use Rattle.nk_grammar.specs.CertifiedReader.{certified_phase_of, progress_of, Takes}
+use Rattle.nk_grammar.specs.declared.decl.Completed.{Completed}
+use Rattle.nk_grammar.specs.declared.certified_reader.Known.{Known}
+use Rattle.nk_grammar.specs.declared.certified_reader.Known.TheVariants as known
+use Rattle.nk_grammar.specs.CertifiedProgress.{CertifiedProgress, Going, Stopped, bare, with_done, done_declarations, SoFar, so_far, nothing_so_far, so_far_at, so_far_judged, so_far_after, IsRead, certified_so_far, declarations_by, rows_by, IsStopped, ReadsCertifiedAsWhole}
 use Rattle.nk_grammar.proofs.Behind.{behind, certify_behind}
 
 -- what the machine's state says that is put together
@@ -32,6 +37,57 @@ at_done (stage.StartRead l) p s ds rs line = refl
 at_done (stage.NumberWanted l) p s ds rs line = refl
 at_done (stage.NumbersRead l ns) p s ds rs line = refl
 at_done (stage.InRow l ns) p s ds rs line = refl
+
+-- ---- what a reader takes
+
+-- a token is taken
+pub takes_on : (k j : Known) (t : Token) (o : Option Completed) (line : ℕ) → Takes k j t (Ok o)
+    → so_far_after (so_far (progress_of k line) [] []) t ≡ so_far (progress_of j t.line) (declarations_by o) (rows_by o)
+takes_on (known.Sound r) (known.Sound s) t o line h =
+    ap (λ x. so_far_judged x (so_far (progress_of (known.Sound r) line) [] []) t.line) h.0
+    ∙ at_done s.stage (phase_in s.reader) (reader_state s.policy) (declarations_by o) (rows_by o) t.line
+takes_on (known.Sound r) (known.Stopped e) t o line h = absurd h
+takes_on (known.Stopped e) j t o line h =
+    ap (λ x. so_far (progress_of x t.line) [] []) (sym h.0) ∙ ap (λ x. so_far (progress_of j t.line) (declarations_by x) (rows_by x)) (sym (same o h.1))
+  where
+    same : (o : Option Completed) → ◌≡◌ {A = Result (Option Completed) GrammarError} (Ok o) (Ok None) → o ≡ None
+    same o e = cc
+
+-- a token has a fault
+pub takes_fault : (k j : Known) (t : Token) (e : GrammarError) (line : ℕ) → (e ≡ error.NoMemory → ⊥) → Takes k j t (Err e)
+    → so_far_after (so_far (progress_of k line) [] []) t ≡ so_far (Stopped e) [] []
+takes_fault (known.Sound r) (known.Sound s) t error.NoMemory line n h = absurd (n refl)
+takes_fault (known.Sound r) (known.Sound s) t (error.Unexpected at) line n h =
+    ap (λ x. so_far_judged x (so_far (progress_of (known.Sound r) line) [] []) t.line) h.0
+takes_fault (known.Sound r) (known.Sound s) t (error.TooDeep at) line n h =
+    ap (λ x. so_far_judged x (so_far (progress_of (known.Sound r) line) [] []) t.line) h.0
+takes_fault (known.Sound r) (known.Stopped f) t e line n h = absurd h
+takes_fault (known.Stopped f) j t e line n h = absurd (differ h.1)
+  where
+    differ : ◌≡◌ {A = Result (Option Completed) GrammarError} (Err e) (Ok None) → ⊥
+    differ i = cc
+
+-- behind a fault nothing is taken
+pub takes_nothing : (k j : Known) (t : Token) (r : Result (Option Completed) GrammarError) (line at : ℕ) → IsStopped (progress_of k line)
+    → Takes k j t r → (r ≡ Ok None) × (progress_of j at ≡ progress_of k line)
+takes_nothing (known.Sound r) j t x line at i h = absurd (differ i)
+  where
+    differ : false ≡ true → ⊥
+    differ i = cc
+takes_nothing (known.Stopped e) j t r line at i h = (h.1, ap (λ x. progress_of x at) h.0)
+
+-- and there is no further one
+pub no_fault_behind : (k j : Known) (t : Token) (e : GrammarError) (line : ℕ) → IsStopped (progress_of k line) → Takes k j t (Err e) → ⊥
+no_fault_behind k j t e line i h = differ (takes_nothing k j t (Err e) line line i h).0
+  where
+    differ : ◌≡◌ {A = Result (Option Completed) GrammarError} (Err e) (Ok None) → ⊥
+    differ i = cc
+
+-- without memory nothing changes
+pub takes_no_memory : (k j : Known) (t : Token) (line : ℕ) → Takes k j t (Err error.NoMemory) → progress_of j line ≡ progress_of k line
+takes_no_memory (known.Sound r) (known.Sound s) t line h = ap (λ x. Going x line) h.1
+takes_no_memory (known.Sound r) (known.Stopped e) t line h = absurd h
+takes_no_memory (known.Stopped e) j t line h = ap (λ x. progress_of x line) h.0
 
 -- ---- behind further declarations and rows
 

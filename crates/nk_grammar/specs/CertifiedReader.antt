@@ -1,6 +1,9 @@
 -- What the code's reader of texts with a certificate is to the machine.
-use Rattle.std.specs.Prelude.{ℕ, [], Option}
+use Rattle.std.specs.Prelude.{◌≡◌, ℕ, [], Option, None, Ok}
+use Rattle.std.specs.declared.result.Result.{Result}
+use Rattle.nk_lex.specs.declared.token.Token.{Token}
 use Rattle.nk_grammar.specs.declared.decl.Completed.{Completed}
+use Rattle.nk_grammar.specs.declared.decl.GrammarError.{GrammarError}
 use Rattle.nk_grammar.specs.declared.certified.CertifiedStage.{CertifiedStage}
 use Rattle.nk_grammar.specs.declared.certified.CertifiedStage.TheVariants as stage
 use Rattle.nk_grammar.specs.declared.certified.SoundReader.{SoundReader}
@@ -8,9 +11,10 @@ use Rattle.nk_grammar.specs.declared.certified_reader.Known.{Known}
 use Rattle.nk_grammar.specs.declared.certified_reader.Known.TheVariants as known
 use Rattle.nk_grammar.specs.Machine.{State}
 use Rattle.nk_grammar.specs.Reader.{reader_state}
-use Rattle.nk_grammar.specs.FileMachine.{Phase, reading}
-use Rattle.nk_grammar.specs.FileReader.{phase_in}
-use Rattle.nk_grammar.specs.CertifiedMachine.{CertifiedPhase, declaring, row_wanted, start_wanted, start_read, number_wanted, numbers_read, in_row, Certifying}
+use Rattle.nk_grammar.specs.Terminal.{terminal_of}
+use Rattle.nk_grammar.specs.FileMachine.{Phase, reading, Returns}
+use Rattle.nk_grammar.specs.FileReader.{phase_in, IsKept}
+use Rattle.nk_grammar.specs.CertifiedMachine.{CertifiedPhase, declaring, row_wanted, start_wanted, start_read, number_wanted, numbers_read, in_row, Certifying, certify_one, judged_certified}
 use Rattle.nk_grammar.specs.CertifiedProgress.{CertifiedProgress, Going, Stopped, with_done, declarations_by, rows_by}
 
 -- what stands before the next token
@@ -35,3 +39,12 @@ completing p o = with_done p (declarations_by o) (rows_by o)
 abbrev pub progress_of : Known → ℕ → CertifiedProgress
 progress_of (known.Sound r) line = Going (certified_phase_in r) line
 progress_of (known.Stopped e) line = Stopped e
+
+-- a token is taken as the machine takes it, or nothing changes: where there is a fault, or memory ran out
+abbrev pub Takes : Known → Known → Token → Result (Option Completed) GrammarError → Type 0
+Takes (known.Sound r) (known.Sound s) t result =
+    Returns (completing (certified_phase_in s)) result
+    (judged_certified t.line (certify_one (with_done (certified_phase_in r) [] []) (terminal_of t)))
+    × IsKept result (certified_phase_in r) (certified_phase_in s)
+Takes (known.Sound r) (known.Stopped e) t result = ⊥
+Takes (known.Stopped e) k t result = (k ≡ known.Stopped e) × (result ≡ Ok None)

@@ -17,7 +17,7 @@ ghost use Rattle.nk_grammar.specs.CertifiedProgress.{
   so_far,
   so_far_after,
 };
-ghost use Rattle.nk_grammar.specs.CertifiedReader.{progress_of};
+ghost use Rattle.nk_grammar.specs.CertifiedReader.{Takes, progress_of};
 ghost use Rattle.nk_grammar.specs.File.{Declaration, IsWritten, declaration_of};
 ghost use Rattle.nk_grammar.specs.FileMachine.{Returns};
 
@@ -27,7 +27,6 @@ use nk_field::List;
 use nk_lex::Token;
 use std::alloc::{AllocError, Global};
 use std::marker::Model;
-use std::mem::replace;
 
 /// What is known of the tokens so far.
 #[derive(Drop)]
@@ -60,6 +59,25 @@ impl Model for CertifiedReader {
     ghost view = { λ r. progress_of r.known r.line };
 }
 
+impl Known {
+    /// One more token, and what it completes. Behind a fault nothing is read.
+    fn take(&mut self, alloc: Global, token: &Token) -> Result<Option<Completed>, GrammarError>
+        ensures { Takes self.old self.new token.now result }
+    {
+        match self {
+            Known::Sound(reader) => reader.take(alloc, token),
+            Known::Stopped(_) => Ok(None),
+        }
+    }
+
+    /// A fault takes the place of what was known.
+    fn stop(&mut self, error: GrammarError)
+        ensures { self.new ≡ Known.Stopped error }
+    {
+        *self = Known::Stopped(error);
+    }
+}
+
 impl CertifiedReader {
     /// A reader before the first token. It takes no memory.
     pub fn new(alloc: Global) -> CertifiedReader
@@ -82,40 +100,27 @@ impl CertifiedReader {
     }
 
     /// One more token, and what it completes.
-    #[tactic(auto, using(crate::proofs::Progress::at_done))]
+    #[tactic(auto, using(crate::proofs::Progress::takes_on, crate::proofs::Progress::takes_fault, crate::proofs::Progress::takes_nothing, crate::proofs::Progress::takes_no_memory, crate::proofs::Progress::no_fault_behind))]
     fn put(&mut self, alloc: Global, token: &Token) -> Result<Option<Completed>, AllocError>
         ensures taken { IfOk result (λ o. so_far_after (so_far self.old [] []) token.now
             ≡ so_far self.new (declarations_by o) (rows_by o)) }
         ensures stopped { IsStopped self.old → (result ≡ Ok None) × (self.new ≡ self.old) }
         ensures err { OnErr result (self.new ≡ self.old) }
     {
-        match replace(&mut self.known, Known::Stopped(GrammarError::NoMemory)) {
-            Known::Stopped(error) => {
-                self.known = Known::Stopped(error);
+        match self.known.take(alloc, token) {
+            Ok(done) => {
+                self.line = token.line;
+                Ok(done)
+            }
+            Err(GrammarError::Unexpected { line }) => {
+                self.known.stop(GrammarError::Unexpected { line });
                 Ok(None)
             }
-            Known::Sound(reader) => {
-                let mut reader = reader;
-                match reader.take(alloc, token) {
-                    Ok(done) => {
-                        self.known = Known::Sound(reader);
-                        self.line = token.line;
-                        Ok(done)
-                    }
-                    Err(GrammarError::Unexpected { line }) => {
-                        self.known = Known::Stopped(GrammarError::Unexpected { line });
-                        Ok(None)
-                    }
-                    Err(GrammarError::TooDeep { line }) => {
-                        self.known = Known::Stopped(GrammarError::TooDeep { line });
-                        Ok(None)
-                    }
-                    Err(GrammarError::NoMemory) => {
-                        self.known = Known::Sound(reader);
-                        Err(AllocError)
-                    }
-                }
+            Err(GrammarError::TooDeep { line }) => {
+                self.known.stop(GrammarError::TooDeep { line });
+                Ok(None)
             }
+            Err(GrammarError::NoMemory) => Err(AllocError),
         }
     }
 
