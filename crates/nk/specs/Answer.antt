@@ -66,6 +66,9 @@ reads c = true
 abbrev pub reads_in_pieces : Command → Bool
 reads_in_pieces (Trace hops packet) = true
 reads_in_pieces (Fly seed steps packet) = true
+reads_in_pieces (Check left right) = true
+reads_in_pieces (CheckApart name from target) = true
+reads_in_pieces (CheckWaypoint name from middle target) = true
 reads_in_pieces c = false
 
 -- what a command answers to an input within the limit

@@ -13,9 +13,12 @@ use Rattle.nk_names.specs.ProgramOf.{Said, program_of}
 use Rattle.nk_cert.specs.Certificates.{CertificateValue}
 use Rattle.nk_certtext.specs.declared.error.CertError.{CertError}
 use Rattle.nk_certtext.specs.declared.error.CertError.TheVariants as rows
+use Rattle.nk_certtext.specs.declared.error.TextError.{TextError}
+use Rattle.nk_certtext.specs.declared.error.TextError.TheVariants as whole
 use Rattle.nk_certtext.specs.Rows.{certificate_of}
 use Rattle.nk_names.specs.Words.{fault_words}
 use Rattle.nk.specs.Messages.{fault_line}
+use Rattle.nk.specs.Outcome.{Outcome, text_refused}
 use Rattle.nk.specs.ProgramText.{TellsGrammar, TellsLexical, TellsNames}
 
 -- the bytes are a text that declares this, with rows that make this certificate
@@ -60,3 +63,39 @@ IsFaultOfCertifiedBytes (Err e) text = TellsLexical e text
 -- the bytes are no text of a program with a certificate, and the line tells the first fault
 abbrev pub HasCertifiedFault : List ℕ → List ℕ → Type 0
 HasCertifiedFault bytes text = IsFaultOfCertifiedBytes (tokens_of bytes) text
+
+-- ---- what is answered
+
+-- what is told of a program and a certificate
+abbrev pub TellingCertified : Type 1
+TellingCertified = Said → CertificateValue → Outcome → Type 0
+
+-- this is told, and no fault of a text
+abbrev pub IsTold : (Outcome → Type 0) → Outcome → Type 0
+IsTold T (text_refused text) = ⊥
+IsTold T outcome = T outcome
+
+-- what is answered to the bytes of a text with a certificate: its first fault, or what is told of its program and certificate
+abbrev pub ToCertified : TellingCertified → List ℕ → Outcome → Type 0
+ToCertified tells bytes (text_refused text) = HasCertifiedFault bytes text
+ToCertified tells bytes outcome = (said : Said) × (c : CertificateValue) × HoldsCertificate bytes said c × tells said c outcome
+
+-- the tokens are those of a text that declares this, with rows that make this certificate
+pub record HoldTokens (tokens : List Token) (said : Said) (c : CertificateValue) : Type 0 where
+  pub written : Certified
+  pub read : certified_of tokens ≡ Ok written
+  pub means : program_of written.declarations ≡ Ok said
+  pub makes : certificate_of said.fields written.rows ≡ Ok c
+
+-- the same of tokens
+abbrev pub ToCertifiedTokens : TellingCertified → List Token → Outcome → Type 0
+ToCertifiedTokens tells tokens (text_refused text) = IsFaultOfCertifiedTokens (certified_of tokens) text
+ToCertifiedTokens tells tokens outcome = (said : Said) × (c : CertificateValue) × HoldTokens tokens said c × tells said c outcome
+
+-- the text's first fault is told
+abbrev pub TellsText : TextError → Outcome → Type 0
+TellsText (whole.Unexpected line) outcome = outcome ≡ text_refused (fault_line line (codes "unexpected"))
+TellsText (whole.TooDeep line) outcome = outcome ≡ text_refused (fault_line line (codes "too deep"))
+TellsText (whole.Fault kind line) outcome = outcome ≡ text_refused (fault_line line (fault_words kind))
+TellsText (whole.CertFault line) outcome = outcome ≡ text_refused (fault_line line (codes "certificate fault"))
+TellsText whole.NoMemory outcome = ⊥

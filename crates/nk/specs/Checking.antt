@@ -7,7 +7,7 @@ use Rattle.nk_names.specs.ProgramOf.{Said, said_by}
 use Rattle.nk_cert.specs.Equality.{AreSame}
 use Rattle.nk_cert.specs.Certificates.{CertificateValue}
 use Rattle.nk_cert.specs.Verdicts.{RowPart, position_part, start_part, finals_part, hop_part, Finding, valid, invalid, IsFinding}
-use Rattle.nk.specs.CertifiedText.{HasCertifiedFault, HoldsCertificate}
+use Rattle.nk.specs.CertifiedText.{ToCertified}
 use Rattle.nk.specs.Comparing.{AreNamed, LacksPolicy}
 use Rattle.nk.specs.Outcome.{Outcome, done, differs, text_refused, policy_refused}
 
@@ -53,6 +53,4 @@ ToChecked said left right c outcome = ⊥
 
 -- the answer of checking a certificate for the policies of these names, over the bytes of a text
 abbrev pub IsCheckAnswer : List ℕ → List ℕ → List ℕ → Outcome → Type 0
-IsCheckAnswer left right bytes (text_refused text) = HasCertifiedFault bytes text
-IsCheckAnswer left right bytes outcome =
-    (said : Said) × (c : CertificateValue) × HoldsCertificate bytes said c × ToChecked said left right c outcome
+IsCheckAnswer left right bytes outcome = ToCertified (λ said c o. ToChecked said left right c o) bytes outcome

@@ -10,7 +10,7 @@ use Rattle.nk_cert.specs.Verdicts.{RowPart, Finding, valid, invalid, IsFinding}
 use Rattle.nk_query.specs.Asked.{Asked, Question, NoneBreaks}
 use Rattle.nk_query.specs.Answers.{IsNamedQuestion, asked_policy}
 use Rattle.nk.specs.Asking.{LacksQuestion}
-use Rattle.nk.specs.CertifiedText.{HasCertifiedFault, HoldsCertificate}
+use Rattle.nk.specs.CertifiedText.{ToCertified}
 use Rattle.nk.specs.Checking.{invalid_line}
 use Rattle.nk.specs.Outcome.{Outcome, done, differs, text_refused, policy_refused}
 
@@ -44,6 +44,4 @@ ToJudged said asked c outcome = ⊥
 
 -- the answer of checking a certificate for the query of these names, over the bytes of a text
 abbrev pub IsJudgeAnswer : Asked → List ℕ → Outcome → Type 0
-IsJudgeAnswer asked bytes (text_refused text) = HasCertifiedFault bytes text
-IsJudgeAnswer asked bytes outcome =
-    (said : Said) × (c : CertificateValue) × HoldsCertificate bytes said c × ToJudged said asked c outcome
+IsJudgeAnswer asked bytes outcome = ToCertified (λ said c o. ToJudged said asked c o) bytes outcome

@@ -15,7 +15,6 @@ pub mod Messages
 pub mod Outcome
 pub mod Pieces
 pub mod ProgramText
-pub mod ReadCertified
 pub mod ReadText
 pub mod Reply
 pub mod Status

@@ -1,91 +1,124 @@
-//! The program and the certificate of a text, or the text's first fault.
-ghost use Rattle.std.specs.Prelude.{◌≡◌, ◌≤◌, All, IfOk, Ok, map};
-ghost use Rattle.nk_lex.specs.Lex.{largest};
-ghost use Rattle.nk_grammar.specs.Certified.{certified, row_value};
-ghost use Rattle.nk_grammar.specs.File.{declaration_of, IsWritten};
-ghost use Rattle.nk_names.specs.ProgramOf.{program_of, said_by};
-ghost use Rattle.nk_certtext.specs.Rows.{HasStartRow};
-ghost use Rattle.nk.specs.ReadCertified.{IsFaultLine, IsReadOf, IsReadOfCertified, IsReadOfTokens};
+//! Answers to a text with a certificate.
+ghost use Rattle.std.specs.Prelude.{◌≡◌, ◌≤◌, ℕ, All, IfOk, List, Some, true};
+ghost use Rattle.nk_lex.specs.declared.token.Token.{Token};
+ghost use Rattle.nk_lex.specs.Lex.{largest, tokens_of};
+ghost use Rattle.nk_certtext.specs.Progress.{IsTaken};
+ghost use Rattle.nk_words.specs.declared.words.Command.{Command};
+ghost use Rattle.nk.specs.Answer.{IsOutcome, reads};
+ghost use Rattle.nk.specs.CertifiedText.{IsTold, TellsText, ToCertified, ToCertifiedTokens};
+ghost use Rattle.nk.specs.Ends.{IsMeantTo};
+ghost use Rattle.nk.specs.Outcome.{Outcome};
+ghost use Rattle.nk.specs.Pieces.{IsLexedAs};
+ghost use Rattle.nk.specs.Reply.{answer_in, said, IsReplyTo};
+ghost use Rattle.nk.specs.Use.{use_of};
 
-use crate::messages::fault_message;
+use crate::messages::text_fault;
+use crate::pieces::{Lexed, read_pieces};
+use crate::{Reply, Said};
 use nk_cert::Certificate;
-use nk_certtext::laws::certified_texts_have_a_start_row;
-use nk_certtext::{CertError, read_cert};
-use nk_grammar::{File, GrammarError, file_with_certificate};
-use nk_lex::{LexError, Token, tokens};
-use nk_names::reading::program;
-use nk_names::{NamesError, Program};
+use nk_certtext::{CertReader, TextError};
+use nk_io::Source;
+use nk_lex::values_are_small;
+use nk_names::Program;
 use std::alloc::{AllocError, Global};
 
-/// What is read of a text with a certificate.
-#[derive(Drop)]
-pub enum ReadCertified {
-    /// The program that the text declares, and the certificate that its rows make.
-    Certified(Program, Certificate),
-    /// The line that tells the text's first fault.
-    Fault(Vec<u8>),
+/// What is told of a program and a certificate.
+pub(crate) trait Judge {
+    ghost use Rattle.nk_names.specs.ProgramOf.{said_by};
+    ghost use Rattle.nk_names.specs.ProgramOf as program;
+    ghost use Rattle.nk_names.specs.ProgramValue.{IsProgram};
+    ghost use Rattle.nk_cert.specs.Certificates.{CertificateValue};
+    ghost use Rattle.nk_cert.specs.Values.{certificate_value};
+    ghost use Rattle.nk_cert.specs.Verdicts.{HasPredicates};
+    ghost use Rattle.nk.specs.Outcome.{Outcome};
+
+    ghost tells: { Self → program.Said → CertificateValue → Outcome → Type 0 };
+
+    fn judge(
+        &self,
+        alloc: Global,
+        program: &Program,
+        certificate: &Certificate,
+    ) -> Result<Said, AllocError>
+        requires is { IsProgram program.now.fields program.now.topo program.now.lets }
+        requires predicates { HasPredicates (certificate_value certificate.now) }
+        ensures { IfOk result (λ s. IsTold (tells self.now (said_by program.now) (certificate_value certificate.now)) (said s)) };
 }
 
-/// The program and the certificate of a text, or the line that tells the text's first fault. The only error is that memory ran
-/// out.
-pub(crate) fn read_certified(alloc: Global, bytes: &[u8]) -> Result<ReadCertified, AllocError>
-    ensures { IfOk result (λ r. IsReadOf bytes.now r) }
+/// What judging a certificate means to say, over a source that gives a text with one, whose tokens are taken as they come.
+pub(crate) fn judge_text<S: Source, J: Judge>(alloc: Global, how: &J, source: &mut S) -> Reply
+    ensures { (c : Command) → reads c ≡ true
+        → ((bytes : List ℕ) (o : Outcome) → ToCertified (J.tells how.now) bytes o → IsOutcome c bytes o)
+        → IsMeantTo (Some c) (use_of S.left S.faults source.old source.new) (answer_in result) }
 {
-    match tokens(alloc, bytes) {
-        Ok(tokens) => read_tokens(alloc, &tokens),
-        Err(LexError::BadByte { line }) => fault(alloc, line, "bad byte"),
-        Err(LexError::NumberTooLarge { line }) => fault(alloc, line, "number too large"),
-        Err(LexError::NoMemory) => Err(AllocError),
+    let mut reader = match CertReader::new(alloc) {
+        Ok(reader) => reader,
+        Err(_) => return Reply::NoMemory,
+    };
+    match read_pieces(alloc, source, &mut reader) {
+        Ok(lexed) => reply_to_text(alloc, how, lexed, reader),
+        Err(error) => Reply::unread(error),
     }
 }
 
-/// The same of the tokens of a text.
-fn read_tokens(alloc: Global, tokens: &[Token]) -> Result<ReadCertified, AllocError>
-    requires small { All (λ t. t.value ≤ largest) tokens.now }
-    ensures { IfOk result (λ r. IsReadOfTokens tokens.now r) }
+/// The same over a text that has a lexical fault, or all of whose tokens the reader has taken.
+fn reply_to_text<J: Judge>(alloc: Global, how: &J, lexed: Lexed, reader: CertReader) -> Reply
+    requires cut { (bytes : List ℕ) × IsLexedAs (λ tokens. IsTaken tokens reader) lexed (tokens_of bytes) }
+    ensures { (c : Command) (bytes : List ℕ) → IsLexedAs (λ tokens. IsTaken tokens reader) lexed (tokens_of bytes)
+        → ((o : Outcome) → ToCertified (J.tells how.now) bytes o → IsOutcome c bytes o)
+        → IsReplyTo c bytes result }
 {
-    // This is a law: the rows of each text with a certificate begin with a start row.
-    certified_texts_have_a_start_row();
-    match file_with_certificate(alloc, tokens) {
-        Ok(file) => read_file(alloc, &file),
-        Err(GrammarError::Unexpected { line }) => fault(alloc, line, "unexpected"),
-        Err(GrammarError::TooDeep { line }) => fault(alloc, line, "too deep"),
-        Err(GrammarError::NoMemory) => Err(AllocError),
+    match answer_to_text(alloc, how, lexed, reader) {
+        Ok(said) => Reply::Said(said),
+        Err(_) => Reply::NoMemory,
     }
 }
 
-/// The same of the declarations and rows of a text.
-fn read_file(alloc: Global, file: &File) -> Result<ReadCertified, AllocError>
-    requires written { All IsWritten (map declaration_of file.now.decls) }
-    requires start { HasStartRow (map row_value file.now.rows) }
-    ensures { IfOk result (λ r. IsReadOfCertified
-        (certified (map declaration_of file.now.decls) (map row_value file.now.rows)) r) }
+/// The answer to it, where memory doesn't run out.
+fn answer_to_text<J: Judge>(
+    alloc: Global,
+    how: &J,
+    lexed: Lexed,
+    reader: CertReader,
+) -> Result<Said, AllocError>
+    requires cut { (bytes : List ℕ) × IsLexedAs (λ tokens. IsTaken tokens reader) lexed (tokens_of bytes) }
+    ensures { (bytes : List ℕ) → IsLexedAs (λ tokens. IsTaken tokens reader) lexed (tokens_of bytes)
+        → IfOk result (λ s. ToCertified (J.tells how.now) bytes (said s)) }
 {
-    match program(alloc, file) {
-        Ok(program) => read_rows(alloc, program, file),
-        Err(NamesError::Fault { kind, line }) => fault(alloc, line, kind.words()),
-        Err(NamesError::NoMemory) => Err(AllocError),
+    // This is a law: the numbers of a text are small.
+    values_are_small();
+    match lexed {
+        Lexed::BadByte { line } => text_fault(alloc, line, "bad byte"),
+        Lexed::NumberTooLarge { line } => text_fault(alloc, line, "number too large"),
+        Lexed::Whole => answer_to_tokens(alloc, how, reader),
     }
 }
 
-/// The same of the rows of a text, whose declarations say this program.
-fn read_rows(alloc: Global, program: Program, file: &File) -> Result<ReadCertified, AllocError>
-    requires start { HasStartRow (map row_value file.now.rows) }
-    requires means { program_of (map declaration_of file.now.decls) ≡ Ok (said_by program) }
-    ensures { IfOk result (λ r. IsReadOfCertified
-        (certified (map declaration_of file.now.decls) (map row_value file.now.rows)) r) }
+/// The same where all tokens were taken.
+fn answer_to_tokens<J: Judge>(
+    alloc: Global,
+    how: &J,
+    reader: CertReader,
+) -> Result<Said, AllocError>
+    requires small { (tokens : List Token) × IsTaken tokens reader × All (λ t. t.value ≤ largest) tokens }
+    ensures { (tokens : List Token) → IsTaken tokens reader
+        → IfOk result (λ s. ToCertifiedTokens (J.tells how.now) tokens (said s)) }
 {
-    match read_cert(alloc, &program, file) {
-        Ok(certificate) => Ok(ReadCertified::Certified(program, certificate)),
-        Err(CertError::CertFault { line }) => fault(alloc, line, "certificate fault"),
-        Err(CertError::Fault { kind, line }) => fault(alloc, line, kind.words()),
-        Err(CertError::NoMemory) => Err(AllocError),
+    match reader.end(alloc) {
+        Ok((program, certificate)) => how.judge(alloc, &program, &certificate),
+        Err(error) => answer_to_fault(alloc, error),
     }
 }
 
-/// The line of a text's fault.
-fn fault(alloc: Global, line: u64, words: &str) -> Result<ReadCertified, AllocError>
-    ensures { IfOk result (λ r. IsFaultLine line words.now r) }
+/// The line of the text's first fault.
+fn answer_to_fault(alloc: Global, error: TextError) -> Result<Said, AllocError>
+    ensures { IfOk result (λ s. TellsText error (said s)) }
 {
-    Ok(ReadCertified::Fault(fault_message(alloc, line, words)?))
+    match error {
+        TextError::Unexpected { line } => text_fault(alloc, line, "unexpected"),
+        TextError::TooDeep { line } => text_fault(alloc, line, "too deep"),
+        TextError::Fault { kind, line } => text_fault(alloc, line, kind.words()),
+        TextError::CertFault { line } => text_fault(alloc, line, "certificate fault"),
+        TextError::NoMemory => Err(AllocError),
+    }
 }

@@ -1,38 +1,62 @@
 //! The answer of `check LEFT RIGHT`.
-ghost use Rattle.std.specs.Prelude.{IfOk};
+ghost use Rattle.std.specs.Prelude.{IfOk, Some};
 ghost use Rattle.nk_names.specs.ProgramOf.{said_by};
 ghost use Rattle.nk_names.specs.ProgramValue.{IsProgram};
 ghost use Rattle.nk_cert.specs.Values.{certificate_value};
 ghost use Rattle.nk_cert.specs.Verdicts.{HasPredicates};
-ghost use Rattle.nk.specs.Checking.{IsCheckAnswer, ToChecked};
-ghost use Rattle.nk.specs.Reply.{said};
+ghost use Rattle.nk_words.specs.declared.words.Command.TheVariants as command;
+ghost use Rattle.nk.specs.CertifiedText.{IsTold};
+ghost use Rattle.nk.specs.Checking.{ToChecked};
+ghost use Rattle.nk.specs.Ends.{IsMeantTo};
+ghost use Rattle.nk.specs.Reply.{answer_in, said};
+ghost use Rattle.nk.specs.Use.{use_of};
 
-use crate::Said;
-use crate::certified_text::{ReadCertified, read_certified};
+use crate::certified_text::{Judge, judge_text};
 use crate::messages::{invalid_message, no_policy_message};
+use crate::{Reply, Said};
 use nk_cert::laws::a_certificate_shows_equality;
 use nk_cert::{Certificate, CheckError, Verdict, check};
+use nk_io::Source;
 use nk_names::Program;
 use std::alloc::{AllocError, Global};
 
-/// What is found of the certificate of a text, for the policies of these names.
-pub(crate) fn check_answer(
-    alloc: Global,
-    left: &str,
-    right: &str,
-    bytes: &[u8],
-) -> Result<Said, AllocError>
-    ensures { IfOk result (λ s. IsCheckAnswer left.now right.now bytes.now (said s)) }
-{
-    match read_certified(alloc, bytes)? {
-        ReadCertified::Certified(program, certificate) => {
-            answer_to_certificate(alloc, left, right, &program, &certificate)
-        }
-        ReadCertified::Fault(line) => Ok(Said::Text(line)),
+/// The names of two policies that a certificate is to be one for.
+#[derive(Drop)]
+struct NamedPair<'a> {
+    left: &'a str,
+    right: &'a str,
+}
+
+impl<'a> Judge for NamedPair<'a> {
+    ghost use Rattle.nk.specs.Checking.{ToChecked};
+
+    ghost tells = { λ names said c o. ToChecked said names.left.now names.right.now c o };
+
+    fn judge(
+        &self,
+        alloc: Global,
+        program: &Program,
+        certificate: &Certificate,
+    ) -> Result<Said, AllocError> {
+        answer_to_certificate(alloc, self.left, self.right, program, certificate)
     }
 }
 
-/// The same over a program and a certificate.
+/// What checking a certificate means to say, over a source that gives a text with one: what is found of it, for the policies of these
+/// names.
+pub(crate) fn check_reply<S: Source>(
+    alloc: Global,
+    left: &str,
+    right: &str,
+    source: &mut S,
+) -> Reply
+    ensures { IsMeantTo (Some (command.Check left.now right.now))
+        (use_of S.left S.faults source.old source.new) (answer_in result) }
+{
+    judge_text(alloc, &NamedPair { left, right }, source)
+}
+
+/// What is found of a certificate over a program.
 fn answer_to_certificate(
     alloc: Global,
     left: &str,
@@ -42,7 +66,7 @@ fn answer_to_certificate(
 ) -> Result<Said, AllocError>
     requires is { IsProgram program.now.fields program.now.topo program.now.lets }
     requires predicates { HasPredicates (certificate_value certificate.now) }
-    ensures { IfOk result (λ s. ToChecked (said_by program.now) left.now right.now (certificate_value certificate.now) (said s)) }
+    ensures { IfOk result (λ s. IsTold (λ o. ToChecked (said_by program.now) left.now right.now (certificate_value certificate.now) o) (said s)) }
 {
     // This is a law: policies with a certificate give the same histories.
     a_certificate_shows_equality();

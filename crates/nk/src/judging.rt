@@ -1,34 +1,74 @@
 //! The answer of `check_apart NAME A B` and of `check_waypoint NAME A W B`.
-ghost use Rattle.std.specs.Prelude.{◌≡◌, IfOk};
+ghost use Rattle.std.specs.Prelude.{◌≡◌, IfOk, Some};
 ghost use Rattle.nk_names.specs.ProgramOf.{said_by};
 ghost use Rattle.nk_names.specs.ProgramValue.{IsProgram};
 ghost use Rattle.nk_cert.specs.Values.{certificate_value};
 ghost use Rattle.nk_cert.specs.Verdicts.{HasPredicates};
 ghost use Rattle.nk_query.specs.Answers.{asked_of};
-ghost use Rattle.nk.specs.Judging.{IsJudgeAnswer, ToJudged};
-ghost use Rattle.nk.specs.Reply.{said};
+ghost use Rattle.nk_words.specs.declared.words.Command.TheVariants as command;
+ghost use Rattle.nk.specs.CertifiedText.{IsTold};
+ghost use Rattle.nk.specs.Ends.{IsMeantTo};
+ghost use Rattle.nk.specs.Judging.{ToJudged};
+ghost use Rattle.nk.specs.Reply.{answer_in, said};
+ghost use Rattle.nk.specs.Use.{use_of};
 
-use crate::Said;
-use crate::certified_text::{ReadCertified, read_certified};
+use crate::asking::{apart_query, waypoint_query};
+use crate::certified_text::{Judge, judge_text};
 use crate::messages::{invalid_message, query_message};
+use crate::{Reply, Said};
 use nk_cert::{Certificate, Verdict};
+use nk_io::Source;
 use nk_names::Program;
 use nk_query::{Query, check_query};
+use nk_words::Bytes;
 use std::alloc::{AllocError, Global};
 
-/// What is found of the certificate of a text, for a query.
-pub(crate) fn judge_answer(alloc: Global, query: &Query, bytes: &[u8]) -> Result<Said, AllocError>
-    ensures { IfOk result (λ s. IsJudgeAnswer (asked_of query.now) bytes.now (said s)) }
-{
-    match read_certified(alloc, bytes)? {
-        ReadCertified::Certified(program, certificate) => {
-            answer_to_certificate(alloc, query, &program, &certificate)
-        }
-        ReadCertified::Fault(line) => Ok(Said::Text(line)),
+impl<'a> Judge for Query<'a> {
+    ghost use Rattle.nk_query.specs.Answers.{asked_of};
+    ghost use Rattle.nk.specs.Judging.{ToJudged};
+
+    ghost tells = { λ query said c o. ToJudged said (asked_of query) c o };
+
+    fn judge(
+        &self,
+        alloc: Global,
+        program: &Program,
+        certificate: &Certificate,
+    ) -> Result<Said, AllocError> {
+        answer_to_certificate(alloc, self, program, certificate)
     }
 }
 
-/// The same over a program and a certificate.
+/// What checking a certificate for `apart NAME A B` means to say, over a source that gives a text with one.
+pub(crate) fn check_apart_reply<S: Source>(
+    alloc: Global,
+    name: &Bytes,
+    from: &Bytes,
+    target: &Bytes,
+    source: &mut S,
+) -> Reply
+    ensures { IsMeantTo (Some (command.CheckApart name.now from.now target.now))
+        (use_of S.left S.faults source.old source.new) (answer_in result) }
+{
+    judge_text(alloc, &apart_query(name, from, target), source)
+}
+
+/// What checking a certificate for `waypoint NAME A W B` means to say, over a source that gives a text with one.
+pub(crate) fn check_waypoint_reply<S: Source>(
+    alloc: Global,
+    name: &Bytes,
+    from: &Bytes,
+    middle: &Bytes,
+    target: &Bytes,
+    source: &mut S,
+) -> Reply
+    ensures { IsMeantTo (Some (command.CheckWaypoint name.now from.now middle.now target.now))
+        (use_of S.left S.faults source.old source.new) (answer_in result) }
+{
+    judge_text(alloc, &waypoint_query(name, from, middle, target), source)
+}
+
+/// What is found of a certificate over a program, for a query.
 fn answer_to_certificate(
     alloc: Global,
     query: &Query,
@@ -37,7 +77,7 @@ fn answer_to_certificate(
 ) -> Result<Said, AllocError>
     requires is { IsProgram program.now.fields program.now.topo program.now.lets }
     requires predicates { HasPredicates (certificate_value certificate.now) }
-    ensures { IfOk result (λ s. ToJudged (said_by program.now) (asked_of query.now) (certificate_value certificate.now) (said s)) }
+    ensures { IfOk result (λ s. IsTold (λ o. ToJudged (said_by program.now) (asked_of query.now) (certificate_value certificate.now) o) (said s)) }
 {
     match check_query(alloc, program, query, certificate) {
         Ok(Verdict::Valid) => Ok(Said::Done(Vec::from_slice(alloc, b"valid\n")?)),

@@ -8,6 +8,7 @@ ghost use Rattle.nk_io.specs.Reading.{IsCause};
 ghost use Rattle.nk.specs.Answer.{limit};
 ghost use Rattle.nk.specs.Pieces.{IsLexedAs, IsLexedOf};
 
+use nk_certtext::CertReader;
 use nk_io::{PieceError, ReadError, Source, Taken, next_piece};
 use nk_lex::{Feed, LexError, Token};
 use nk_tabtext::TableReader;
@@ -32,6 +33,16 @@ pub(crate) trait TokenReader {
 
 impl TokenReader for TableReader {
     ghost use Rattle.nk_tabtext.specs.Progress.{IsTaken};
+
+    ghost has_taken = { λ reader tokens. IsTaken tokens reader };
+
+    fn take(&mut self, alloc: Global, token: &Token) -> Result<(), AllocError> {
+        self.take(alloc, token)
+    }
+}
+
+impl TokenReader for CertReader {
+    ghost use Rattle.nk_certtext.specs.Progress.{IsTaken};
 
     ghost has_taken = { λ reader tokens. IsTaken tokens reader };
 

@@ -10,12 +10,12 @@ ghost use Rattle.nk.specs.Succeeding.{Succeeds};
 
 use crate::Status;
 use crate::asking::{apart_query, ask_answer, waypoint_query};
-use crate::checking::check_answer;
+use crate::checking::check_reply;
 use crate::comparing::equal_answer;
 use crate::compiling::compile_answer;
 use crate::flying::fly_reply;
 use crate::generating::{gen_answer, job_answer};
-use crate::judging::judge_answer;
+use crate::judging::{check_apart_reply, check_waypoint_reply};
 use crate::reply::{Reply, Said, deliver};
 use crate::tracing::trace_reply;
 use crate::updating::update_answer;
@@ -97,6 +97,13 @@ fn reply_from<S: Source>(alloc: Global, command: &Command, source: &mut S) -> Re
         Command::Fly(seed, steps, packet) => {
             fly_reply(alloc, *seed, *steps, packet.as_str(), source)
         }
+        Command::Check(left, right) => check_reply(alloc, left.as_str(), right.as_str(), source),
+        Command::CheckApart(name, from, target) => {
+            check_apart_reply(alloc, name, from, target, source)
+        }
+        Command::CheckWaypoint(name, from, middle, target) => {
+            check_waypoint_reply(alloc, name, from, middle, target, source)
+        }
         _ => reply_to_whole(alloc, command, source),
     }
 }
@@ -149,18 +156,11 @@ fn perform(alloc: Global, command: &Command, bytes: &[u8]) -> Result<Said, Alloc
     match command {
         Command::Compile(name) => compile_answer(alloc, name.as_str(), bytes),
         Command::Equal(left, right) => equal_answer(alloc, left.as_str(), right.as_str(), bytes),
-        Command::Check(left, right) => check_answer(alloc, left.as_str(), right.as_str(), bytes),
         Command::Apart(name, from, target) => {
             ask_answer(alloc, &apart_query(name, from, target), bytes)
         }
         Command::Waypoint(name, from, middle, target) => {
             ask_answer(alloc, &waypoint_query(name, from, middle, target), bytes)
-        }
-        Command::CheckApart(name, from, target) => {
-            judge_answer(alloc, &apart_query(name, from, target), bytes)
-        }
-        Command::CheckWaypoint(name, from, middle, target) => {
-            judge_answer(alloc, &waypoint_query(name, from, middle, target), bytes)
         }
         Command::Gen(size, seed) => gen_answer(alloc, *size, *seed),
         Command::Job(size, seed) => job_answer(alloc, *size, *seed),
@@ -173,6 +173,10 @@ fn perform(alloc: Global, command: &Command, bytes: &[u8]) -> Result<Said, Alloc
             packet.as_str(),
             bytes,
         ),
-        Command::Trace(_, _) | Command::Fly(_, _, _) => unreachable!(),
+        Command::Trace(_, _)
+        | Command::Fly(_, _, _)
+        | Command::Check(_, _)
+        | Command::CheckApart(_, _, _)
+        | Command::CheckWaypoint(_, _, _, _) => unreachable!(),
     }
 }

@@ -1,0 +1,17 @@
+use Rattle.std.proofs.Common.{refl}
+use Rattle.nk_lex.specs.declared.token.LexError.TheVariants as lexical
+use Rattle.nk_certtext.specs.Progress.{IsTaken}
+use Rattle.nk.specs.Reply.{said}
+use Rattle.nk.proofs.CertifiedTokens.{cut_bad, cut_large, lexical_told}
+use Rattle.nk.proofs.certified_text.answer_to_text.Goals as goal
+
+pub returns-in-BadByte : goal.returns-in-BadByte
+returns-in-BadByte g c = λ bytes h.
+    let cut = cut_bad (λ ts. IsTaken ts c.args.reader) c.in-BadByte.line bytes (rw c.in-BadByte.is at h) in
+    lexical_told said (g.J.Judge.tells c.args.how.now) bytes (lexical.BadByte c.in-BadByte.line) _ c.text_fault.result cut refl c.text_fault.ensures
+
+pub returns-in-NumberTooLarge : goal.returns-in-NumberTooLarge
+returns-in-NumberTooLarge g c = λ bytes h.
+    let cut = cut_large (λ ts. IsTaken ts c.args.reader) c.in-NumberTooLarge.line bytes (rw c.in-NumberTooLarge.is at h) in
+    lexical_told said (g.J.Judge.tells c.args.how.now) bytes (lexical.NumberTooLarge c.in-NumberTooLarge.line) _
+    c.text_fault-in-NumberTooLarge.result cut refl c.text_fault-in-NumberTooLarge.ensures
