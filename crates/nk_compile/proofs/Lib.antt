@@ -48,3 +48,5 @@ pub mod Reasons
 pub mod ReasonByName
 pub mod PairReasons
 pub mod PairReasonByName
+pub mod OneTagList
+pub mod CompactReasons

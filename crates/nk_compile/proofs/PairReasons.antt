@@ -14,7 +14,7 @@ use Rattle.nk_compile.proofs.Reasons.{none_some, no_reason, one_reason}
 use Rattle.nk_compile.proofs.TooMany.{least_fits_most}
 
 -- too many tags is no early reason
-abbrev IsEarly : Refusal → Type 0
+abbrev pub IsEarly : Refusal → Type 0
 IsEarly r = (found : ℕ) → r ≡ TooManyTags found → ⊥
 
 module _ (fields : FieldTable) (topo : Topology) (p q : Policy) where
@@ -42,7 +42,7 @@ module _ (fields : FieldTable) (topo : Topology) (p q : Policy) where
   pair_kind (TooManyTags found) h = inr (inr (found, refl, h))
 
 -- nothing early stands against a policy that is unopposed
-none_early : (fields : FieldTable) (topo : Topology) (p : Policy) (r : Refusal) → IsUnopposed fields topo p → IsReason fields topo p r → IsEarly r → ⊥
+pub none_early : (fields : FieldTable) (topo : Topology) (p : Policy) (r : Refusal) → IsUnopposed fields topo p → IsReason fields topo p r → IsEarly r → ⊥
 none_early fields topo p NoPolicy clear h e = none_some NoPolicy (sym clear.0 ∙ h)
 none_early fields topo p NoTag clear h e = none_some NoTag (sym clear.0 ∙ h)
 none_early fields topo p TagUsed clear h e = none_some TagUsed (sym clear.0 ∙ h)

@@ -36,7 +36,7 @@ none_of false false false true e f g h = absurd cc
 none_of false false false false e f g h = refl
 
 -- nothing is seen of a compilable policy
-unseen : (fields : FieldTable) (topo : Topology) (p : Policy) → IsCompilable fields topo p → seen fields topo p ≡ None
+pub unseen : (fields : FieldTable) (topo : Topology) (p : Policy) → IsCompilable fields topo p → seen fields topo p ≡ None
 unseen fields topo p c =
     ap (λ o. seen_for o topo p) c.tag_declared
     ∙ none_of (has_leaf (is_on_field c.tag) p) (has_leaf is_dup p) (has_leaf is_switch_assignment p) (has_leaf (is_link_outside topo.links) p) c.tag_free c.dups_in_links c.switch_in_links c.links_declared

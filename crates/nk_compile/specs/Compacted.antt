@@ -96,3 +96,14 @@ abbrev pub IsCompactAnswer : Program → List ℕ → Result Compact CompileErro
 IsCompactAnswer program name (Ok c) = IsCompacted program name c
 IsCompactAnswer program name (Err NoMemory) = ⊤
 IsCompactAnswer program name (Err (Refused r)) = IsCompactRefused program name r
+
+-- the tag sets have no more classes than the tag has values above 0
+abbrev pub HasFewClasses : FieldTable → Topology → Policy → Type 0
+HasFewClasses fields topo p =
+    (tags : List (List ℕ)) × (classes : List ℕ) × AreTags p (IsStart fields topo) tags × AreTagClasses fields p tags classes
+    × ((i : ℕ) → slice_index classes i ≤ most_tags fields fields.tag)
+
+-- the name's policy can be compiled with these tags
+abbrev pub AcceptsCompact : Program → List ℕ → Type 0
+AcceptsCompact program name =
+    (p : Policy) × (policy_named program name ≡ Some p) × IsCompilable program.fields program.topo p × HasFewClasses program.fields program.topo p

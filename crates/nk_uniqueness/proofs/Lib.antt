@@ -1,4 +1,5 @@
 pub mod Trees
+pub mod OneCompact
 pub mod OneTable
 pub mod ByName
 pub mod Answering

@@ -1,25 +1,23 @@
 -- At most one table is printed for a policy.
-use Rattle.std.proofs.Common.{◌≡◌, ℕ, ◌<◌, ◌≤◌, inl, inr, ⊎_elim, Some, List, [], ◌∷◌, length, refl, sym, ap, subst, ◌∙◌, arith}
+use Rattle.std.proofs.Common.{◌≡◌, ℕ, ◌≤◌, inl, inr, Some, List, [], ◌∷◌, length, refl, sym, ap, subst, ◌∙◌}
 use Rattle.std.specs.Prelude.{map, slice_index, All}
 use Rattle.nk_field.specs.Packet.{FieldTable}
 use Rattle.nk_field.proofs.Lists.{In, in_from_contains, contains_from_in, in_mapped, from_mapped}
 use Rattle.nk_field.proofs.Ascending.{members_from_all, rising_from, one_list}
 use Rattle.nk_topo.specs.Topology.{Topology, SwitchPorts}
 use Rattle.nk_policy.specs.Policy.{Policy}
-use Rattle.nk_policy.specs.Tags.{IsShortest, IsTagBefore, AreTags}
 use Rattle.nk_table.specs.declared.Table.{Table}
 use Rattle.nk_table.specs.declared.Tables.{Tables}
 use Rattle.nk_group.specs.Groups.{groups_of, rows_after}
 use Rattle.nk_compile.specs.NumberedBehind.{tags_behind, IsTableBehind}
 use Rattle.nk_compile.specs.PrintedTable.{IsTreeOf}
 use Rattle.nk_compile.specs.WholeTable.{HasRowsAt, TagTree, rows_of_trees, IsSwitchTable, IsTableOf}
-use Rattle.nk_cert.proofs.OneTree.{three}
 use Rattle.nk_uniqueness.specs.Packets.{HavePackets}
 use Rattle.nk_compile.proofs.Behind.{behind_none}
-use Rattle.nk_compile.proofs.Orders.{listed_once, same_sorted}
+use Rattle.nk_compile.proofs.OneTagList.{one_tag_list}
 use Rattle.nk_uniqueness.proofs.Trees.{one_tag_tree}
 
-number_is : (m n : ℕ) → Some m ≡ Some n → m ≡ n
+pub number_is : (m n : ℕ) → Some m ≡ Some n → m ≡ n
 number_is m n e = cc
 
 -- equal lists have equal first elements and rests
@@ -33,7 +31,7 @@ none_first : {X : Type 0} (x : X) (xs : List X) → [] ≡ x ∷ xs → ⊥
 none_first x xs e = cc
 
 -- lists with the same keys, where elements with one key are one
-same_by_key : {X : Type 0} (key : X → ℕ) (xs ys : List X) → map key xs ≡ map key ys
+pub same_by_key : {X : Type 0} (key : X → ℕ) (xs ys : List X) → map key xs ≡ map key ys
     → ((x y : X) → In xs x → In ys y → key x ≡ key y → x ≡ y) → xs ≡ ys
 same_by_key key [] [] e one = refl
 same_by_key key [] (y ∷ ys) e one = absurd (none_first (key y) (map key ys) e)
@@ -42,37 +40,6 @@ same_by_key key (x ∷ xs) (y ∷ ys) e one =
     let head = one x y (inl refl) (inl refl) (first_is (key x) (map key xs) (key y) (map key ys) e) in
     let tail = same_by_key key xs ys (rest_is (key x) (map key xs) (key y) (map key ys) e) (λ a b i j. one a b (inr i) (inr j)) in
     ap (λ w. w ∷ xs) head ∙ ap (λ w. y ∷ w) tail
-
-module _ (p : Policy) (Start : List ℕ → Type 0) where
-  -- the least number of records is one
-  no_less : (s : List ℕ) (m n : ℕ) → IsShortest p Start s m → IsShortest p Start s n → m < n → ⊥
-  no_less s m n a b lt =
-      let w = a.0 in
-      b.1 w.0 w.1 w.2 w.3 w.4 w.5 (subst (λ i. i < n) (sym w.6) lt)
-
-  one_shortest : (s : List ℕ) (m n : ℕ) → IsShortest p Start s m → IsShortest p Start s n → m ≡ n
-  one_shortest s m n h k =
-      ⊎_elim
-      (λ lt. absurd (no_less s m n h k lt))
-      (λ rest. ⊎_elim (λ lt. absurd (no_less s n m k h lt)) (λ e. e) rest)
-      (three m n)
-
-  -- of two tag sets at most one comes before the other
-  tag_once : (s t : List ℕ) → IsTagBefore p Start s t → IsTagBefore p Start t s → ⊥
-  tag_once s t h k =
-      let e = one_shortest s h.0 k.1 h.2 k.3 in
-      let f = one_shortest t h.1 k.0 h.3 k.2 in
-      ⊎_elim
-      (λ lt. ⊎_elim (λ less. omega (arith, e, f, lt, less)) (λ q. omega (arith, e, f, lt, q.0)) k.4)
-      (λ q. ⊎_elim (λ less. omega (arith, e, f, q.0, less)) (λ r. listed_once s t q.1 r.1) k.4)
-      h.4
-
-  -- the list of the tag sets is one
-  pub one_tag_list : (xs ys : List (List ℕ)) → AreTags p Start xs → AreTags p Start ys → xs ≡ ys
-  one_tag_list xs ys h k =
-      same_sorted (IsTagBefore p Start) tag_once xs ys h.in_order k.in_order
-      (λ s i. in_from_contains ys s ((k.exactly s).1 ((h.exactly s).0 (contains_from_in xs s i))))
-      (λ s i. in_from_contains xs s ((h.exactly s).1 ((k.exactly s).0 (contains_from_in ys s i))))
 
 module _ (fields : FieldTable) (few : length fields.maxima ≤ 18) (tag : ℕ) (p : Policy) (tags : List (List ℕ)) where
   -- the trees of a switch are one list

@@ -18,7 +18,8 @@ use Rattle.nk_compile.specs.WholeTable.{IsTableOf}
 use Rattle.nk_compile.proofs.ReasonByName.{alike}
 use Rattle.nk_compile.proofs.PairReasonByName.{fitting_never_refused, one_pair_refusal}
 use Rattle.nk_uniqueness.specs.Packets.{HavePackets}
-use Rattle.nk_uniqueness.proofs.OneTable.{one_tag_list, one_table, one_table_behind}
+use Rattle.nk_compile.proofs.OneTagList.{one_tag_list}
+use Rattle.nk_uniqueness.proofs.OneTable.{one_table, one_table_behind}
 
 abbrev Answer : Type 0
 Answer = Result TablePair CompileError

@@ -14,7 +14,7 @@ use Rattle.nk_cert.proofs.OneTree.{one_tree}
 use Rattle.nk_compile.proofs.Orders.{lex_once, listed_once, same_sorted}
 use Rattle.nk_field.specs.Order.{IsListedBefore}
 
-abbrev Tree : Type 0
+abbrev pub Tree : Type 0
 Tree = Diagram (List Bucket)
 
 -- a choice between what is the same
@@ -48,7 +48,7 @@ over_all maxima (leaf a) r = tt
 over_all maxima (case f bs) r = (omega (arith, r.0), r.1, r.2)
 
 -- of two buckets at most one comes before the other
-bucket_once : (tag : ℕ) (a b : Bucket) → IsBucketBefore tag a b → IsBucketBefore tag b a → ⊥
+pub bucket_once : (tag : ℕ) (a b : Bucket) → IsBucketBefore tag a b → IsBucketBefore tag b a → ⊥
 bucket_once tag a b =
     lex_once IsListedBefore listed_once (bucket_key tag a) (bucket_key tag b) (listed_once (tag_of tag a) (tag_of tag b))
 
@@ -60,12 +60,12 @@ one_bucket_list width tag p tags t pk xs ys h k =
     (λ b i. in_from_contains ys b ((k.exactly b).1 ((h.exactly b).0 (contains_from_in xs b i))))
     (λ b i. in_from_contains xs b ((h.exactly b).1 ((k.exactly b).0 (contains_from_in ys b i))))
 
--- the tree of a tag at a switch is one
-pub one_tag_tree : (fields : FieldTable) (tag : ℕ) (p : Policy) (tags : List (List ℕ)) (t sw : ℕ) (d e : Tree)
-    → length fields.maxima ≤ 18 → sw ≤ slice_index fields.maxima 0
-    → IsTreeOf fields tag p tags t sw d → IsTreeOf fields tag p tags t sw e → d ≡ e
-one_tag_tree fields tag p tags t sw d e few within h k =
-    one_tree fields.maxima few [] d e (over_all fields.maxima d h.reduced) (over_all fields.maxima e k.reduced) alike
+-- two reduced trees over the port and later fields are one where they give the same at the packets of a switch
+pub one_tree_at : (fields : FieldTable) (sw : ℕ) (d e : Tree) → length fields.maxima ≤ 18 → sw ≤ slice_index fields.maxima 0
+    → IsReduced d fields.maxima 1 → IsReduced e fields.maxima 1
+    → ((pk : List ℕ) → IsPacket fields pk → slice_index pk 0 ≡ sw → leaf_at d [] pk ≡ leaf_at e [] pk) → d ≡ e
+one_tree_at fields sw d e few within d_reduced e_reduced there =
+    one_tree fields.maxima few [] d e (over_all fields.maxima d d_reduced) (over_all fields.maxima e e_reduced) alike
   where
     alike : (pk : List ℕ) → InRange fields.maxima pk → leaf_at d [] pk ≡ leaf_at e [] pk
     alike pk ok =
@@ -74,8 +74,14 @@ one_tag_tree fields tag p tags t sw d e few within h k =
         let first : 0 < length pk = omega (arith, ok.0) in
         let at : slice_index (slice_set pk 0 sw) 0 ≡ sw = get_or-set_same pk 0 sw 0 first in
         let low : 0 < 1 = omega arith in
-        sym (free fields.maxima d 1 0 sw pk h.reduced low)
-        ∙ one_bucket_list (length fields.maxima) tag p tags t (slice_set pk 0 sw) (leaf_at d [] (slice_set pk 0 sw)) (leaf_at e [] (slice_set pk 0 sw))
-        (h.leaves (slice_set pk 0 sw) good at)
-        (k.leaves (slice_set pk 0 sw) good at)
-        ∙ free fields.maxima e 1 0 sw pk k.reduced low
+        sym (free fields.maxima d 1 0 sw pk d_reduced low)
+        ∙ there (slice_set pk 0 sw) good at
+        ∙ free fields.maxima e 1 0 sw pk e_reduced low
+
+-- the tree of a tag at a switch is one
+pub one_tag_tree : (fields : FieldTable) (tag : ℕ) (p : Policy) (tags : List (List ℕ)) (t sw : ℕ) (d e : Tree)
+    → length fields.maxima ≤ 18 → sw ≤ slice_index fields.maxima 0
+    → IsTreeOf fields tag p tags t sw d → IsTreeOf fields tag p tags t sw e → d ≡ e
+one_tag_tree fields tag p tags t sw d e few within h k =
+    one_tree_at fields sw d e few within h.reduced k.reduced
+    (λ pk good at. one_bucket_list (length fields.maxima) tag p tags t pk (leaf_at d [] pk) (leaf_at e [] pk) (h.leaves pk good at) (k.leaves pk good at))

@@ -16,7 +16,9 @@ ghost use Rattle.nk_table.specs.declared.Tables.{Tables};
 ghost use Rattle.nk_compile.specs.declared.refusal.Refusal.{Refusal};
 ghost use Rattle.nk_compile.specs.declared.refusal.CompileError.{CompileError};
 ghost use Rattle.nk_compile.specs.declared.refusal.CompileError.TheVariants.{NoMemory, Refused};
+ghost use Rattle.nk_compile.specs.declared.compact.Compact.{Compact};
 ghost use Rattle.nk_compile.specs.Answers.{IsAnswer};
+ghost use Rattle.nk_compile.specs.Compacted.{AcceptsCompact, IsCompacted, IsCompactRefused};
 ghost use Rattle.nk_compile.specs.Headline.{IsAcceptedByName, IsCompiled};
 ghost use Rattle.nk_compile.specs.NumberedBehind.{IsTableBehind};
 ghost use Rattle.nk_compile.specs.PairAnswers.{FitTogether, IsCompiledPair, IsPairRefused, IsPairAnswer};
@@ -86,6 +88,18 @@ pub fn compiling_has_one_answer()
     ensures one { (program other : Program) (name : List ℕ) (a b : Result Tables CompileError) → said_by program ≡ said_by other
         → HavePackets program.fields program.topo → IsAnswer program name a → IsAnswer other name b
         → (a ≡ Err NoMemory) ⊎ ((b ≡ Err NoMemory) ⊎ (a ≡ b)) }
+{}
+
+/// Compacting a name has one answer, unless memory runs out: where the classes of its policy's tag sets are no more than the tag has
+/// values above 0, the one merged tables with the one list of what tells its tags apart, and else the one reason.
+pub fn compacting_has_one_answer()
+    ensures tables { (program other : Program) (name : List ℕ) (a b : Compact) → said_by program ≡ said_by other
+        → HavePackets program.fields program.topo
+        → IsCompacted program name a → IsCompacted other name b → a ≡ b }
+    ensures accepted { (program other : Program) (name : List ℕ) (r : Refusal) → said_by program ≡ said_by other
+        → AcceptsCompact program name → IsCompactRefused other name r → ⊥ }
+    ensures refused { (program other : Program) (name : List ℕ) (r s : Refusal) → said_by program ≡ said_by other
+        → IsCompactRefused program name r → IsCompactRefused other name s → r ≡ s }
 {}
 
 /// Compiling two names for an update has one answer, unless memory runs out: where both are accepted and their tags fit
