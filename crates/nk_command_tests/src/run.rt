@@ -1,4 +1,5 @@
 //! Runs in memory.
+mod classes;
 mod drawn;
 mod predicates;
 mod random;

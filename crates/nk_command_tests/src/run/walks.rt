@@ -156,33 +156,48 @@ fn do_as_named(alloc: Global, program: &Program, tables: &Tables) -> Result<bool
     }
 }
 
-/// The printed tables of `p`, where there are any.
-fn printed_tables(alloc: Global, text: &[u8]) -> Result<Option<Tables>, Fail> {
-    match done(alloc, &["compile", "p"], text)? {
+/// The tables that a command prints of `p`, where there are any.
+fn printed_tables(alloc: Global, command: &str, text: &[u8]) -> Result<Option<Tables>, Fail> {
+    match done(alloc, &[command, "p"], text)? {
         (Status::Done, out) => Ok(read_tables(alloc, out.taken()).ok()),
         _ => Ok(None),
     }
 }
 
-/// Whether the printed tables of `p` do what `q` does.
-fn is_carried(alloc: Global, text: &[u8]) -> Result<bool, Fail> {
+/// Whether the tables that a command prints of `p` do what `q` does.
+fn is_carried(alloc: Global, command: &str, text: &[u8]) -> Result<bool, Fail> {
     let program = declared(alloc, text)?;
-    match printed_tables(alloc, text)? {
+    match printed_tables(alloc, command, text)? {
         Some(tables) => Ok(do_as_named(alloc, &program, &tables)?),
         None => Ok(false),
     }
 }
 
 /// Whether that holds of the random program of a seed.
-fn is_seed_carried(alloc: Global, seed: u64) -> Result<bool, Fail> {
+fn is_seed_carried(alloc: Global, command: &str, seed: u64) -> Result<bool, Fail> {
     let text = program_text(alloc, &mut Draws::new(seed))?;
-    is_carried(alloc, &text)
+    is_carried(alloc, command, &text)
 }
 
 #[test]
 fn histories_of_random_policies(rt: HostRuntime) -> Result<(), Fail> {
     for seed in 1..=40 {
-        assert!(rt; is_seed_carried(rt.alloc(), seed)?, "seed {seed}");
+        assert!(rt;
+            is_seed_carried(rt.alloc(), "compile", seed)?,
+            "seed {seed}"
+        );
+    }
+    Ok(())
+}
+
+/// The comment lines behind the tables are read with them, and say nothing.
+#[test]
+fn histories_by_merged_tables(rt: HostRuntime) -> Result<(), Fail> {
+    for seed in 1..=40 {
+        assert!(rt;
+            is_seed_carried(rt.alloc(), "compact", seed)?,
+            "seed {seed}"
+        );
     }
     Ok(())
 }

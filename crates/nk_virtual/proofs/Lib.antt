@@ -1,0 +1,16 @@
+pub mod Askable
+pub mod Asking
+pub mod Assigned
+pub mod Carrying
+pub mod Endings
+pub mod Entries
+pub mod Literals
+pub mod OneCarriage
+pub mod Only
+pub mod Over
+pub mod Parts
+pub mod Sight
+pub mod Staying
+pub mod Telling
+pub mod Untagged
+pub mod Worked
