@@ -14,7 +14,7 @@ use Rattle.nk_certtext.specs.Text.{cert_bytes}
 use Rattle.nk_bisim.specs.Answers.{IsRelated}
 use Rattle.nk_compile.specs.Counted.{HasTagCount}
 use Rattle.nk_compile.specs.Headline.{IsCompiled}
-use Rattle.nk_readback.specs.TextTables.{CompilesPrintable}
+use Rattle.nk.specs.TextTables.{CompilesPrintable}
 use Rattle.nk.specs.Comparing.{AreNamed, IsEqualAnswer, ToCompared}
 use Rattle.nk.specs.Compiling.{IsCompileAnswer, ToProgram}
 use Rattle.nk.specs.Declarable.{IsDeclared}

@@ -12,7 +12,7 @@ use Rattle.nk_tabtext.specs.ReadBack.{ReadsPrinted}
 use Rattle.nk_tabtext.specs.Text.{table_bytes}
 use Rattle.nk_tabtext.specs.Values.{tables_of}
 use Rattle.nk_compile.specs.Headline.{IsCompiled}
-use Rattle.nk_readback.specs.TextTables.{CompilesPrintable}
+use Rattle.nk.specs.TextTables.{CompilesPrintable}
 use Rattle.nk.specs.Compiling.{IsPrinted}
 use Rattle.nk.specs.Declarable.{IsDeclared, TokensSayDeclared}
 

@@ -6,11 +6,12 @@ use Rattle.nk.specs.declared.status.Status.TheVariants.{Done, Differs, Usage, Te
 use Rattle.nk.specs.declared.status.Status.TheVariants.{ReadFault, NoMemory, TooLong}
 use Rattle.nk_words.specs.declared.words.Command.{Command}
 use Rattle.nk_words.specs.declared.words.Command.TheVariants.{Compile, Trace, Equal, Check, Fly}
-use Rattle.nk_words.specs.declared.words.Command.TheVariants.{Apart, Waypoint, CheckApart, CheckWaypoint, Gen, Job, Update}
+use Rattle.nk_words.specs.declared.words.Command.TheVariants.{Apart, Waypoint, CheckApart, CheckWaypoint, Gen, Job, Update, Compact}
 use Rattle.nk_query.specs.Asked.{apart, waypoint}
 use Rattle.nk.specs.Outcome.{Outcome, done, differs, text_refused, policy_refused}
 use Rattle.nk.specs.Asking.{IsAskAnswer}
 use Rattle.nk.specs.Checking.{IsCheckAnswer}
+use Rattle.nk.specs.Compacting.{IsCompactAnswer}
 use Rattle.nk.specs.Compiling.{IsCompileAnswer}
 use Rattle.nk.specs.Comparing.{IsEqualAnswer}
 use Rattle.nk.specs.Flying.{IsFlyAnswer}
@@ -85,6 +86,7 @@ IsOutcome (CheckWaypoint name from middle target) bytes outcome = IsJudgeAnswer 
 IsOutcome (Gen size seed) bytes outcome = IsGenAnswer size seed outcome
 IsOutcome (Job size seed) bytes outcome = IsJobAnswer size seed outcome
 IsOutcome (Update old new seed steps packet) bytes outcome = IsUpdateAnswer old new seed steps packet bytes outcome
+IsOutcome (Compact name) bytes outcome = IsCompactAnswer name bytes outcome
 
 -- the answer is one that the command has to the input
 abbrev pub IsOutcomeOf : Command → List ℕ → Answer → Type 0

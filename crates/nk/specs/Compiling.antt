@@ -9,7 +9,7 @@ use Rattle.nk_tabtext.specs.Values.{tables_of}
 use Rattle.nk_compile.specs.declared.refusal.Refusal.{Refusal}
 use Rattle.nk_compile.specs.Headline.{IsCompiled}
 use Rattle.nk_compile.specs.Refusals.{IsRefused}
-use Rattle.nk_readback.specs.TextTables.{HasFewGroups}
+use Rattle.nk.specs.TextTables.{HasFewGroups}
 use Rattle.nk.specs.Messages.{refusal_line}
 use Rattle.nk.specs.Outcome.{Outcome, done, text_refused, policy_refused}
 use Rattle.nk.specs.ProgramText.{Declares, HasFault}

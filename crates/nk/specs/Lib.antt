@@ -1,7 +1,9 @@
 pub mod Answer
 pub mod Asking
 pub mod CertifiedText
+pub mod CommentLines
 pub mod Checking
+pub mod Compacting
 pub mod Comparing
 pub mod Compiling
 pub mod Declarable
@@ -19,6 +21,7 @@ pub mod ReadText
 pub mod Reply
 pub mod Status
 pub mod Succeeding
+pub mod TextTables
 pub mod Tracing
 pub mod Updating
 pub mod Use

@@ -11,6 +11,7 @@ use Rattle.nk_names.specs.Accepted.{IsAccepted}
 use Rattle.nk_gen.specs.Text.{generated}
 use Rattle.nk_table.specs.declared.Tables.{Tables}
 use Rattle.nk_tabtext.specs.Values.{tables_of}
+use Rattle.nk_compile.specs.Compacted.{AcceptsCompact}
 use Rattle.nk_compile.specs.Headline.{IsAcceptedByName}
 use Rattle.nk_compile.specs.PairAnswers.{FitTogether}
 use Rattle.nk_cert.specs.Certificates.{CertificateValue, IsCertificate}
@@ -20,7 +21,7 @@ use Rattle.nk_query.specs.Answers.{IsNamedQuestion, asked_policy}
 use Rattle.nk_words.specs.Words.{command_of}
 use Rattle.nk_words.specs.declared.words.Command.{Command}
 use Rattle.nk_words.specs.declared.words.Command.TheVariants.{Compile, Trace, Equal, Check, Fly}
-use Rattle.nk_words.specs.declared.words.Command.TheVariants.{Apart, Waypoint, CheckApart, CheckWaypoint, Gen, Job, Update}
+use Rattle.nk_words.specs.declared.words.Command.TheVariants.{Apart, Waypoint, CheckApart, CheckWaypoint, Gen, Job, Update, Compact}
 use Rattle.nk.specs.declared.status.Status.{Status}
 use Rattle.nk.specs.declared.status.Status.TheVariants.{Done, Differs, NoMemory}
 use Rattle.nk.specs.Answer.{limit, reads}
@@ -34,6 +35,12 @@ pub record AcceptsNamed (name bytes : List ℕ) : Type 0 where
   pub program : Program
   pub declared : Declares bytes (said_by program)
   pub accepted : IsAcceptedByName program name
+
+-- the same, where tag sets whose states give the same histories share a tag
+pub record AcceptsMerged (name bytes : List ℕ) : Type 0 where
+  pub program : Program
+  pub declared : Declares bytes (said_by program)
+  pub accepted : AcceptsCompact program name
 
 -- The bytes are a program's text, the program accepts both of its policies of these names, the tags of both together are no
 -- more than the tag has values above 0, and the word gives a packet at one of the program's ports.
@@ -130,6 +137,7 @@ IsDone (CheckWaypoint name from middle target) bytes = HasCertifiedQuestion (way
 IsDone (Gen size seed) bytes = ⊤
 IsDone (Job size seed) bytes = HasJob (generated size seed) GiveSame
 IsDone (Update old new seed steps packet) bytes = AcceptsUpdate old new packet bytes
+IsDone (Compact name) bytes = AcceptsMerged name bytes
 
 -- the command differs over these bytes: the policies don't give the same histories, some history breaks the query, or what the
 -- text holds is no certificate
@@ -149,6 +157,7 @@ IsOtherwise (CheckWaypoint name from middle target) bytes =
 IsOtherwise (Gen size seed) bytes = ⊥
 IsOtherwise (Job size seed) bytes = HasJob (generated size seed) (λ program p q. ¬ GiveSame program p q)
 IsOtherwise (Update old new seed steps packet) bytes = ⊥
+IsOtherwise (Compact name) bytes = ⊥
 
 -- the status is `Done` exactly where the command is done over these bytes, and `Differs` exactly where it differs, but for want of
 -- memory

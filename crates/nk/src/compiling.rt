@@ -7,11 +7,11 @@ ghost use Rattle.nk.specs.Declarable.{IsDeclared};
 ghost use Rattle.nk.specs.Reply.{said};
 
 use crate::Said;
+use crate::laws::{compiled_tables_are_in_order, compiled_tables_are_printable};
 use crate::messages::refusal_message;
 use crate::program_text::{ReadText, read_program};
 use nk_compile::{CompileError, compile};
 use nk_names::Program;
-use nk_readback::laws::{compiled_tables_are_in_order, compiled_tables_are_printable};
 use nk_tabtext::{printed_tables_are_read, table_text};
 use std::alloc::{AllocError, Global};
 

@@ -12,6 +12,7 @@ ghost use Rattle.nk.specs.ProgramText.{Declares};
 ghost use Rattle.nk.specs.Reply.{said};
 
 use crate::Said;
+use crate::laws::compiled_tables_are_printable;
 use crate::messages::{difference_message, no_policy_message, refusal_message};
 use crate::program_text::{ReadText, read_program};
 use itoa::Buffer;
@@ -20,7 +21,6 @@ use nk_certtext::laws::certificates_of_policies_are_read;
 use nk_compile::{CompileError, Counted, compile_counted};
 use nk_gen::generate;
 use nk_names::Program;
-use nk_readback::laws::compiled_tables_are_printable;
 use nk_table::Table;
 use nk_tabtext::printed_tables_are_read;
 use std::alloc::{AllocError, Global};

@@ -4,12 +4,14 @@
 mod asking;
 mod certified_text;
 mod checking;
+mod compacting;
 mod comparing;
 mod compiling;
 mod flying;
 mod following;
 mod generating;
 mod judging;
+pub mod laws;
 mod messages;
 mod pieces;
 mod program_text;

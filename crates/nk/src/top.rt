@@ -11,6 +11,7 @@ ghost use Rattle.nk.specs.Succeeding.{Succeeds};
 use crate::Status;
 use crate::asking::{apart_query, ask_answer, waypoint_query};
 use crate::checking::check_reply;
+use crate::compacting::compact_answer;
 use crate::comparing::equal_answer;
 use crate::compiling::compile_answer;
 use crate::flying::fly_reply;
@@ -173,6 +174,7 @@ fn perform(alloc: Global, command: &Command, bytes: &[u8]) -> Result<Said, Alloc
             packet.as_str(),
             bytes,
         ),
+        Command::Compact(name) => compact_answer(alloc, name.as_str(), bytes),
         Command::Trace(_, _)
         | Command::Fly(_, _, _)
         | Command::Check(_, _)

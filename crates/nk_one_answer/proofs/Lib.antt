@@ -3,4 +3,5 @@ pub mod Following
 pub mod Named
 pub mod OneJob
 pub mod Answers
+pub mod Compacting
 pub mod Updating

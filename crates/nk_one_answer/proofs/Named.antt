@@ -36,7 +36,7 @@ use Rattle.nk.proofs.OneText.{declares_once, holds_once, certificate_once, no_fa
 use Rattle.nk_one_answer.proofs.Outcomes.{AreApart, IsKind, one_kind}
 
 -- a text declares this, of which that is so
-abbrev Declared : List ℕ → (Said → List ℕ → Type 0) → List ℕ → Type 0
+abbrev pub Declared : List ℕ → (Said → List ℕ → Type 0) → List ℕ → Type 0
 Declared bytes P text = (said : Said) × Declares bytes said × P said text
 
 -- a text with a certificate declares this, and of both that is so
@@ -44,7 +44,7 @@ abbrev Certified : List ℕ → (Said → CertificateValue → List ℕ → Type
 Certified bytes P text = (said : Said) × (c : CertificateValue) × HoldsCertificate bytes said c × P said c text
 
 -- programs that say what the text declares say the same
-alike : (bytes : List ℕ) (s t : Said) → Declares bytes s → Declares bytes t → (program other : Program)
+pub alike : (bytes : List ℕ) (s t : Said) → Declares bytes s → Declares bytes t → (program other : Program)
     → said_by program ≡ s → said_by other ≡ t → said_by program ≡ said_by other
 alike bytes s t d k program other h e = h ∙ declares_once bytes s t d k ∙ sym e
 

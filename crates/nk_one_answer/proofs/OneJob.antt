@@ -14,7 +14,7 @@ use Rattle.nk_uniqueness.specs.Told.{Told, certified, alone}
 use Rattle.nk_names.proofs.Alike.{fields_alike, topo_alike, one_policy}
 use Rattle.nk_uniqueness.proofs.ByName.{one_compiled}
 use Rattle.nk_uniqueness.proofs.Comparing.{OnePrinted, one_told_for}
-use Rattle.nk_uniqueness.proofs.OneTable.{one_tag_list}
+use Rattle.nk_compile.proofs.OneTagList.{one_tag_list}
 use Rattle.nk.specs.Comparing.{IsEqualAnswer}
 use Rattle.nk.specs.Compiling.{IsCompileAnswer}
 use Rattle.nk.specs.Generating.{CountsTables, CountsRows, IsCounted, IsJobOver, IsNotDone, OrThen, tables_line, rows_line}

@@ -56,7 +56,7 @@ use crate::trial::tried;
 use std::{fs, io};
 
 /// The files, in the order in which they are told. One that isn't named here isn't run.
-const FILES: [&str; 20] = [
+const FILES: [&str; 21] = [
     "words.rows",
     "texts.rows",
     "refused.rows",
@@ -68,6 +68,7 @@ const FILES: [&str; 20] = [
     "traced.rows",
     "flown.rows",
     "updated.rows",
+    "compact.rows",
     "pieces.rows",
     "generated.rows",
     "equal.rows",

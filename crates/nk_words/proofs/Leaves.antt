@@ -22,8 +22,3 @@ pub four_more : (s t u v : Shape) (o a b c d e : App) → a ≡ o → b ≡ with
     → d ≡ with_subcommand c u → e ≡ with_subcommand d v
     → e ≡ with_subcommand (with_subcommand (with_subcommand (with_subcommand o s) t) u) v
 four_more s t u v o a b c d e same second third fourth fifth = rw (fifth, fourth, third, second, same) refl
-
--- so it is with three more
-pub three_more : (s t u : Shape) (o a b c d : App) → a ≡ o → b ≡ with_subcommand a s → c ≡ with_subcommand b t
-    → d ≡ with_subcommand c u → d ≡ with_subcommand (with_subcommand (with_subcommand o s) t) u
-three_more s t u o a b c d same second third fourth = rw (fourth, third, second, same) refl

@@ -9,7 +9,7 @@ use Rattle.clap.specs.Simple.{subcommand_of}
 use Rattle.clap.specs.Faults.{fault_of}
 use Rattle.nk_words.specs.declared.words.Command.{Command}
 use Rattle.nk_words.specs.declared.words.Command.TheVariants.{Compile, Trace, Equal, Check, Fly}
-use Rattle.nk_words.specs.declared.words.Command.TheVariants.{Apart, Waypoint, CheckApart, CheckWaypoint, Gen, Job, Update}
+use Rattle.nk_words.specs.declared.words.Command.TheVariants.{Apart, Waypoint, CheckApart, CheckWaypoint, Gen, Job, Update, Compact}
 use Rattle.nk_words.specs.declared.words.WordsError.{WordsError}
 use Rattle.nk_words.specs.declared.words.WordsError.TheVariants.{NoMemory, Usage}
 use Rattle.nk_words.specs.App.{nk_app}
@@ -93,6 +93,10 @@ update_of rows =
     (argument_number (codes "STEPS") 0 1000000 rows)) (argument_number (codes "SEED") 1 2147483646 rows))
     (first_of (codes "NEW") rows)) (first_of (codes "OLD") rows)
 
+-- the command `compact NAME`, from what was found of its argument
+abbrev pub compact_of : List Row → Option Command
+compact_of rows = option_map (λ name. Compact name) (first_of (codes "NAME") rows)
+
 -- the command of this name, from what was found of its arguments
 abbrev pub command_with : Text → List Row → Option Command
 command_with name rows = if bytes_eq name (codes "compile") then compile_of rows
@@ -106,7 +110,8 @@ command_with name rows = if bytes_eq name (codes "compile") then compile_of rows
     else if bytes_eq name (codes "check_waypoint") then check_waypoint_of rows
     else if bytes_eq name (codes "gen") then gen_of rows
     else if bytes_eq name (codes "job") then job_of rows
-    else if bytes_eq name (codes "update") then update_of rows else None
+    else if bytes_eq name (codes "update") then update_of rows
+    else if bytes_eq name (codes "compact") then compact_of rows else None
 
 -- the command of the subcommand that was found
 abbrev pub command_found : Option (Text × List Row) → Option Command

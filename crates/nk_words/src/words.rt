@@ -5,7 +5,7 @@ ghost use Rattle.clap.specs.Matches.{found_of};
 ghost use Rattle.clap.specs.Simple.{app_of, subcommand_rows_of, with_rule, with_subcommand};
 ghost use Rattle.clap.specs.Walk.{first_of, rows_of};
 ghost use Rattle.nk_words.specs.App.{leaf_app, leaf_shape, nk_app, nk_top, nk_without_generation, nk_without_queries, wanted};
-ghost use Rattle.nk_words.specs.Words.{IsWithinLimits, Reads, command_found, command_of, command_with, compile_of};
+ghost use Rattle.nk_words.specs.Words.{IsWithinLimits, Reads, command_found, command_of, command_with, compact_of, compile_of};
 ghost use Rattle.nk_words.specs.Words.{apart_of, check_apart_of, check_of, check_waypoint_of, equal_of, fly_of};
 ghost use Rattle.nk_words.specs.Words.{gen_of, job_of, network_numbers};
 ghost use Rattle.nk_words.specs.Words.{four_texts, argument_number, texts, three_texts, trace_of, update_of, waypoint_of};
@@ -51,6 +51,8 @@ pub enum Command {
     /// new policy take the place of the old one's; what happens in each is drawn from the seed, 1 to 2147483646. The
     /// packet is a text such as `sw=1,pt=2,dst=3`.
     Update(Bytes, Bytes, u64, u64, Bytes),
+    /// `compact NAME`: the table of every switch for the policy of this name, with as few tags as its histories need.
+    Compact(Bytes),
 }
 
 /// Why the words give no command.
@@ -152,12 +154,13 @@ fn application<'a>(alloc: Global) -> Result<clap::Command<'a>, AllocError>
     let app = without_generation(alloc)?;
     let app = with_leaf(alloc, app, "gen", &["SIZE", "SEED"])?;
     let app = with_leaf(alloc, app, "job", &["SIZE", "SEED"])?;
-    with_leaf(
+    let app = with_leaf(
         alloc,
         app,
         "update",
         &["OLD", "NEW", "SEED", "STEPS", "PACKET"],
-    )
+    )?;
+    with_leaf(alloc, app, "compact", &["NAME"])
 }
 
 /// The command that the words give. `Usage` comes exactly where they give none.
@@ -213,6 +216,8 @@ fn command_named(alloc: Global, name: &str, found: &ArgMatches) -> Result<Comman
         job(found)
     } else if name == "update" {
         update(alloc, found)
+    } else if name == "compact" {
+        compact(alloc, found)
     } else {
         Err(WordsError::Usage)
     }
@@ -321,6 +326,14 @@ fn update(alloc: Global, found: &ArgMatches) -> Result<Command, WordsError>
     let steps = number_at(found, "STEPS", 0, 1000000)?;
     let packet = text(alloc, found, "PACKET")?;
     Ok(Command::Update(old, new, seed, steps, packet))
+}
+
+/// `compact NAME`.
+fn compact(alloc: Global, found: &ArgMatches) -> Result<Command, WordsError>
+    ensures { Reads (compact_of (rows_of (found_of found.now))) result }
+{
+    let name = text(alloc, found, "NAME")?;
+    Ok(Command::Compact(name))
 }
 
 /// The numbers of the arguments `SIZE SEED`.

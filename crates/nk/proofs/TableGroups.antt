@@ -16,7 +16,7 @@ use Rattle.nk_table.specs.Rules.{buckets_in, buckets_for}
 use Rattle.nk_tabtext.specs.ReadBack.{IsBucketOf, IsGroupOf, IsTargetOf, IsRowOf}
 use Rattle.nk_group.specs.Groups.{taken, target_among, rows_after, lists_after, numbered, groups_of, AreKept}
 use Rattle.nk_group.proofs.Kept.{groups_keep_buckets}
-use Rattle.nk_readback.proofs.SoundRows.{IsSoundRow}
+use Rattle.nk.proofs.SoundRows.{IsSoundRow}
 
 -- ---- the lists of the groups
 

@@ -18,7 +18,7 @@ use Rattle.nk_tabtext.specs.ReadBack.{IsExit, IsBucketOf}
 use Rattle.nk_extract.specs.RuleTree.{put}
 use Rattle.nk_extract.specs.Buckets.{changes, bucket_of}
 use Rattle.nk_compile.specs.PrintedTable.{IsOfTag, IsResult, IsBucketList}
-use Rattle.nk_readback.proofs.Climbs.{Climbs, climbs_within, put_ascends, in_put, differs, changes_climb}
+use Rattle.nk.proofs.Climbs.{Climbs, climbs_within, put_ascends, in_put, differs, changes_climb}
 use Rattle.nk_compile.proofs.Fitting.{fronts}
 
 -- a list that isn't empty has a member
@@ -84,6 +84,18 @@ bucket_ok fields tag table is pk x t' ok le =
       exit = exit_ok (slice_index pk 1 == slice_index x 1) (slice_index x 1) (subst (λ n. slice_index x 1 ≤ n) most port);
     }
 
+-- each bucket of results whose tags have these numbers
+pub numbered_ok :
+    (number : ℕ → ℕ) (fields : FieldTable) (tag : ℕ) (p : Policy) (tags : List (List ℕ)) (t : ℕ) (pk : List ℕ) (b : Bucket)
+    → IsFieldTable fields → fields.tag ≡ Some tag → IsInRange p fields
+    → ((t' : ℕ) → t' ≤ length tags → number t' ≤ slice_index fields.maxima tag)
+    → IsPacket fields pk → (x : List ℕ) (t' : ℕ) → IsResult p tags t pk x t'
+    → b ≡ bucket_of (length fields.maxima) tag pk x (number t') → IsBucketOf fields b
+numbered_ok number fields tag p tags t pk b table is range many ok x t' result e =
+    subst (IsBucketOf fields) (sym e)
+    (bucket_ok fields tag table is pk x (number t') (result_in_range fields p tags t pk x t' range ok result)
+    (many t' (result_tag p tags t pk x t' result)))
+
 -- each bucket of a packet's bucket list
 pub buckets_ok :
     (fields : FieldTable) (tag : ℕ) (p : Policy) (tags : List (List ℕ)) (t : ℕ) (pk : List ℕ) (buckets : List Bucket)
@@ -92,6 +104,4 @@ pub buckets_ok :
     → (b : Bucket) → In buckets b → IsBucketOf fields b
 buckets_ok fields tag p tags t pk buckets table is range many ok list b i =
     let r = (list.exactly b).0 (contains_from_in buckets b i) in
-    let low = result_tag p tags t pk r.0 r.1 r.2 in
-    subst (IsBucketOf fields) (sym r.3)
-    (bucket_ok fields tag table is pk r.0 r.1 (result_in_range fields p tags t pk r.0 r.1 range ok r.2) (omega (arith, low, many)))
+    numbered_ok (λ n. n) fields tag p tags t pk b table is range (λ t' low. omega (arith, low, many)) ok r.0 r.1 r.2 r.3

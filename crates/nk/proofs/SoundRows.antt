@@ -6,9 +6,7 @@ use Rattle.std.proofs.lemmas.List.{get_or-replicate, get_or_past}
 use Rattle.nk_field.specs.Packet.{FieldTable, IsFieldTable, IsPacket}
 use Rattle.nk_field.proofs.Lists.{In, in_right, in_either, contains_from_in, from_mapped}
 use Rattle.nk_field.proofs.Ascending.{all_from_members}
-use Rattle.nk_policy.specs.Policy.{Policy}
-use Rattle.nk_policy.specs.Ranges.{IsInRange}
-use Rattle.nk_store.specs.Diagram.{leaf_at}
+use Rattle.nk_store.specs.Diagram.{IsReduced, IsFreeOf, leaf_at}
 use Rattle.nk_store.specs.Nodes.{InRange}
 use Rattle.nk_store.proofs.Same.{set_in_range}
 use Rattle.nk_table.specs.declared.Bucket.{Bucket}
@@ -23,9 +21,7 @@ use Rattle.nk_extract.proofs.Lists.{every_in, in_filter}
 use Rattle.nk_extract.proofs.Trees.{Tree, tests_only}
 use Rattle.nk_extract.proofs.Highest.{light}
 use Rattle.nk_extract.proofs.PlainRows.{rows_give_leaves, rows_are_chosen}
-use Rattle.nk_compile.specs.PrintedTable.{IsTreeOf, IsBucketList}
-use Rattle.nk_readback.proofs.Matched.{MatchesClimb, climb, climb_matches, put_climbs, in_put_match, exact_match}
-use Rattle.nk_readback.proofs.ResultBuckets.{buckets_ok}
+use Rattle.nk.proofs.Matched.{MatchesClimb, climb, climb_matches, put_climbs, in_put_match, exact_match}
 
 -- a row with its whole bucket list that a text can write
 pub record IsSoundRow (fields : FieldTable) (r : Plain) : Type 0 where
@@ -97,7 +93,14 @@ at_switch maxima sw tag t past few sw_in t_in =
 
 -- ---- the rows of a tree
 
-module _ (fields : FieldTable) (tag : ℕ) (p : Policy) (tags : List (List ℕ)) (table : IsFieldTable fields) (is : fields.tag ≡ Some tag) (range : IsInRange p fields) (many : length tags ≤ slice_index fields.maxima tag) (t sw : ℕ) (d : Tree) (tree : IsTreeOf fields tag p tags t sw d) (low : t ≤ length tags) (switch : sw ≤ slice_index fields.maxima 0) where
+-- A reduced tree over the port and the declared fields but the tag, each of whose buckets at the packets of a switch a text can
+-- write.
+pub record IsSoundTree (fields : FieldTable) (tag sw : ℕ) (d : Tree) : Type 0 where
+  pub reduced : IsReduced d fields.maxima 1
+  pub tag_free : IsFreeOf tag d
+  pub leaves : (pk : List ℕ) → IsPacket fields pk → slice_index pk 0 ≡ sw → (b : Bucket) → In (leaf_at d [] pk) b → IsBucketOf fields b
+
+module _ (fields : FieldTable) (tag : ℕ) (table : IsFieldTable fields) (is : fields.tag ≡ Some tag) (t sw : ℕ) (d : Tree) (tree : IsSoundTree fields tag sw d) (low : t ≤ slice_index fields.maxima tag) (switch : sw ≤ slice_index fields.maxima 0) where
   abbrev width : ℕ
   width = length fields.maxima
 
@@ -127,17 +130,12 @@ module _ (fields : FieldTable) (tag : ℕ) (p : Policy) (tags : List (List ℕ))
         climbs = every_in (λ (w : Path). MatchesClimb fields tag 1 w.matches) (paths_of fields.maxima d) q.0 (climb fields tag d 1 tree.reduced tests) j;
       }
 
-  -- a packet in range at the switch that the row matches, and its bucket list
-  record IsMet (r : Plain) : Type 0 where
-    packet : List ℕ
-    ok : IsPacket fields packet
-    list : IsBucketList width tag p tags t packet r.buckets
-
-  met : (r : Plain) → In (rows_for fields.maxima tag t d) r → IsMet r
-  met r i =
+  -- each bucket, which is one at some packet in range at the switch that the row matches
+  bucketed : (r : Plain) → In (rows_for fields.maxima tag t d) r → (b : Bucket) → In r.buckets b → IsBucketOf fields b
+  bucketed r i b j =
       let few = table.few in
       let tag_in = place.1 in
-      let base = at_switch fields.maxima sw tag t place.0 (omega (arith, tag_in, few)) switch (omega (arith, low, many)) in
+      let base = at_switch fields.maxima sw tag t place.0 (omega (arith, tag_in, few)) switch low in
       let c = rows_are_chosen fields.maxima tag t d row_tree few (packet_at sw tag t) base.range base.tagged r (contains_from_in (rows_for fields.maxima tag t d) r i) in
       let rows = matching fields.maxima (rows_for fields.maxima tag t d) c.0 in
       let here : In rows r = in_top rank rows r c.4 in
@@ -146,24 +144,19 @@ module _ (fields : FieldTable) (tag : ℕ) (p : Policy) (tags : List (List ℕ))
       (λ q. subst (λ (z : Plain). z.buckets ≡ leaf_at d [] c.0) (one_top rank rows q.0 r q.1 c.4) q.2)
       (λ n. absurd (subst (λ l. In l r) n.0 here))
       (rows_give_leaves fields.maxima tag t d row_tree c.0 record { within = λ f ne. c.1.1 f; tagged = c.3 }) in
-      record {
-        packet = c.0;
-        ok = ok;
-        list = subst (IsBucketList width tag p tags t c.0) (sym same) (tree.leaves c.0 ok (c.2 ∙ base.switch));
-      }
+      tree.leaves c.0 ok (c.2 ∙ base.switch) b (subst (λ l. In l b) same j)
 
   -- each match is one that a text can write
   matched : (r : Plain) → IsOfWay r → (m : ℕ × ℕ × ℕ) → In r.matches m → IsMatchOf fields m
   matched r w m i =
       ⊎_elim
-      (λ e. subst (IsMatchOf fields) (sym e) (exact_match fields tag t place.1 (omega (arith, low, many))))
+      (λ e. subst (IsMatchOf fields) (sym e) (exact_match fields tag t place.1 low))
       (λ j. climb_matches fields tag 1 w.way.matches m w.climbs j)
       (in_put_match (exactly fields.maxima tag t) w.way.matches m (subst (λ (z : Plain). In z.matches m) w.same i))
 
   pub sound_row : (r : Plain) → In (rows_for fields.maxima tag t d) r → IsSoundRow fields r
   sound_row r i =
       let w = of_way r i in
-      let k = met r i in
       let fits = bits_fit width tag place.0 place.1 table.few in
       let less = w.small in
       let one : 1 ≤ tag = let past = place.0 in omega (arith, past) in
@@ -171,5 +164,5 @@ module _ (fields : FieldTable) (tag : ℕ) (p : Policy) (tags : List (List ℕ))
         priority = subst (λ (z : Plain). z.priority ≤ 65535) (sym w.same) (omega (arith, less, fits));
         ascend = subst (λ (z : Plain). MatchesAscend 1 z.matches) (sym w.same) (put_climbs fields tag t (digits_of (slice_index fields.maxima tag)) 1 w.way.matches one w.climbs);
         matches = all_from_members (IsMatchOf fields) r.matches (λ m j. matched r w m j);
-        buckets = buckets_ok fields tag p tags t k.packet r.buckets table is range many k.ok k.list;
+        buckets = bucketed r i;
       }

@@ -8,6 +8,8 @@ use Rattle.nk_names.specs.Topologies.{IsDeclarable}
 use Rattle.nk_table.specs.declared.Tables.{Tables}
 use Rattle.nk_tabtext.specs.InOrder.{AreInOrder}
 use Rattle.nk_tabtext.specs.ReadBack.{IsPrintable}
+use Rattle.nk_compile.specs.declared.compact.Compact.{Compact}
+use Rattle.nk_compile.specs.Compacted.{IsCompacted}
 use Rattle.nk_compile.specs.Headline.{IsCompiled}
 
 -- no switch has more groups than a text has numbers
@@ -26,3 +28,14 @@ abbrev pub CompilesInOrder : Type 0
 CompilesInOrder = (program : Program) (name : List ℕ) (t : Tables)
     → IsProgram program.fields program.topo program.lets → IsWritable program.fields → IsDeclarable program.topo
     → IsCompiled program name t → AreInOrder t
+
+-- So it is with the merged tables that compacting a name gives.
+abbrev pub CompactsPrintable : Type 0
+CompactsPrintable = (program : Program) (name : List ℕ) (c : Compact)
+    → IsProgram program.fields program.topo program.lets → IsWritable program.fields → IsDeclarable program.topo
+    → IsCompacted program name c → HasFewGroups c.tables → IsPrintable c.tables
+
+abbrev pub CompactsInOrder : Type 0
+CompactsInOrder = (program : Program) (name : List ℕ) (c : Compact)
+    → IsProgram program.fields program.topo program.lets → IsWritable program.fields → IsDeclarable program.topo
+    → IsCompacted program name c → AreInOrder c.tables

@@ -1,6 +1,0 @@
-pub mod Climbs
-pub mod Matched
-pub mod Readable
-pub mod ResultBuckets
-pub mod SoundRows
-pub mod TableGroups
