@@ -7,7 +7,7 @@ use Rattle.nk_names.specs.declared.Program.{Program}
 use Rattle.nk_names.specs.Named.{policy_named}
 use Rattle.nk_names.specs.ProgramOf.{said_by}
 use Rattle.nk_query.specs.Asked.{Asked, Question}
-use Rattle.nk_query.specs.Answers.{IsNamedQuestion, IsCause}
+use Rattle.nk_query.specs.Answers.{IsNamedQuestion, IsHindranceByName}
 use Rattle.nk_query.specs.declared.error.QueryError.{QueryError}
 use Rattle.nk_query.specs.declared.error.QueryError.TheVariants as query
 use Rattle.nk_names.proofs.Alike.{fields_alike, named_alike, one_policy}
@@ -48,5 +48,5 @@ module _ (program other : Program) (same : said_by program ≡ said_by other) wh
   told_cause cause text e t = subst (λ c. TellsQuery c text) e t
 
   pub never_caused : (asked : Asked) (x : Question) (cause : QueryError) (text : List ℕ)
-      → IsNamedQuestion program asked x → IsCause other asked cause → TellsQuery cause text → ⊥
+      → IsNamedQuestion program asked x → IsHindranceByName other asked cause → TellsQuery cause text → ⊥
   never_caused asked x cause text h c t = told_cause cause text (no_cause program other same asked x cause h c) t

@@ -29,7 +29,7 @@ use Rattle.nk.specs.CertifiedText.{HoldsCertificate}
 use Rattle.nk.specs.Checking.{IsCheckAnswer}
 use Rattle.nk.specs.Comparing.{IsEqualAnswer}
 use Rattle.nk.specs.Compiling.{IsCompileAnswer}
-use Rattle.nk.specs.Following.{Telling, ToPacket, ToTables}
+use Rattle.nk.specs.Following.{TableOutcome, ToPacket, ToTables}
 use Rattle.nk.specs.Judging.{IsJudgeAnswer}
 use Rattle.nk.specs.Outcome.{Outcome, done, differs, text_refused, policy_refused}
 use Rattle.nk.specs.ProgramText.{Declares}
@@ -299,11 +299,11 @@ policy_is : (o : Outcome) (y : List ℕ) → IsTelling o → o ≡ policy_refuse
 policy_is o y h e = subst IsTelling e h
 
 -- a packet at a port
-record IsLocated (tells : Telling) (word bytes : List ℕ) (o : Outcome) : Type 0 where
+record IsLocated (tells : TableOutcome) (word bytes : List ℕ) (o : Outcome) : Type 0 where
   located : HasLocated word bytes
   told : tells located.tables located.packet o
 
-module _ (tells : Telling) (word bytes : List ℕ) where
+module _ (tells : TableOutcome) (word bytes : List ℕ) where
   by_port : (t : Tables) (pk : Packet) (o : Outcome) (b : Bool) → is_port t.topo (slice_index pk 0) (slice_index pk 1) ≡ b
       → tables_of bytes ≡ Ok t → packet_of t.fields word ≡ Ok pk → IsTelling o → (y : List ℕ)
       → MatchBool b (tells t pk o) (o ≡ policy_refused y) → IsLocated tells word bytes o

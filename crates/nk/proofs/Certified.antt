@@ -24,7 +24,7 @@ use Rattle.nk_certtext.specs.Text.{cert_bytes}
 use Rattle.nk_bisim.specs.Answers.{IsRelated}
 use Rattle.nk_query.specs.Asked.{Asked, Question, NoneBreaks, question_policy}
 use Rattle.nk_query.specs.Answers.{IsNamedQuestion, asked_policy}
-use Rattle.nk.specs.Asking.{IsHeld}
+use Rattle.nk.specs.Asking.{IsHeldQuery}
 use Rattle.nk.specs.CertifiedText.{HoldsCertificate}
 use Rattle.nk.specs.Checking.{IsValid}
 use Rattle.nk.specs.Comparing.{AreNamed, IsSame, TellsRelated}
@@ -67,7 +67,7 @@ tells_related reads program p q once few c text related told = record {
 -- no history breaks a query, and what is printed says so
 pub is_held : ReadsPrintedFor → (program : Program) (asked : Asked) (x : Question) (c : CertificateValue) (text : List ℕ)
     → IsNamedQuestion program asked x → NoneBreaks program.fields x → IsRelated program.fields (asked_policy x) drop_policy c
-    → text ≡ cert_bytes program.fields c → IsHeld (said_by program) asked text
+    → text ≡ cert_bytes program.fields c → IsHeldQuery (said_by program) asked text
 is_held reads program asked x c text named none related told = record {
   program = program;
   says = refl;

@@ -20,8 +20,8 @@ use Rattle.nk_certtext.specs.declared.error.CertError.TheVariants as rows
 use Rattle.nk_certtext.specs.declared.error.TextError.{TextError}
 use Rattle.nk_certtext.specs.declared.error.TextError.TheVariants as whole
 use Rattle.nk_certtext.specs.Rows.{certificate_of}
-use Rattle.nk_certtext.specs.Whole.{IsTextFault, grammar_fault, names_fault, rows_fault, text_of, text_of_said, text_of_written, with_certificate}
-use Rattle.nk.specs.CertifiedText.{HoldTokens, IsFaultOfCertifiedBytes, IsFaultOfCertifiedTokens, IsFaultOfRows, IsFaultOfSaid, IsTold, TellingCertified, TellsText, ToCertified, ToCertifiedTokens}
+use Rattle.nk_certtext.specs.Whole.{IsTextFault, grammar_fault, names_fault, rows_fault, text_of_tokens, text_of_said, text_of_written, with_certificate}
+use Rattle.nk.specs.CertifiedText.{HoldTokens, IsFaultOfCertifiedBytes, IsFaultOfCertifiedTokens, IsFaultOfRows, IsFaultOfSaid, TellsNoFault, TellingCertified, TellsText, ToCertified, ToCertifiedTokens}
 use Rattle.nk.specs.Messages.{fault_line}
 use Rattle.nk.specs.ProgramText.{TellsLexical}
 use Rattle.nk.specs.Pieces.{IsLexedAs}
@@ -70,7 +70,7 @@ by_written (Ok w) e h = by_said (program_of w.declarations) w.rows e h
 by_written (Err g) e h = subst (OfLine (λ t. IsFaultOfCertifiedTokens (Err g) t)) (fault_is (grammar_fault g) e h) (grammar_told g)
 
 -- so the first fault of the tokens is answered
-fault_told : (tells : TellingCertified) (tokens : List Token) (e : TextError) (o : Outcome) → IsTextFault e (text_of tokens) → TellsText e o
+fault_told : (tells : TellingCertified) (tokens : List Token) (e : TextError) (o : Outcome) → IsTextFault e (text_of_tokens tokens) → TellsText e o
     → ToCertifiedTokens tells tokens o
 fault_told tells tokens whole.NoMemory o h told = absurd told
 fault_told tells tokens (whole.Unexpected line) o h told =
@@ -84,7 +84,7 @@ fault_told tells tokens (whole.CertFault line) o h told =
 
 -- the same of what a call answers
 pub all_fault_told : {S E : Type 0} (outcome : S → Outcome) (tells : TellingCertified) (tokens : List Token) (e : TextError) (r : Result S E)
-    → IsTextFault e (text_of tokens) → IfOk r (λ s. TellsText e (outcome s)) → IfOk r (λ s. ToCertifiedTokens tells tokens (outcome s))
+    → IsTextFault e (text_of_tokens tokens) → IfOk r (λ s. TellsText e (outcome s)) → IfOk r (λ s. ToCertifiedTokens tells tokens (outcome s))
 all_fault_told outcome tells tokens e (Ok s) h told = fault_told tells tokens e (outcome s) h told
 all_fault_told outcome tells tokens e (Err f) h told = tt
 
@@ -121,18 +121,18 @@ module _ (tokens : List Token) (said : Said) (c : CertificateValue) where
   with_written (Err g) read h = absurd (not_refused (grammar_fault g) h)
 
   -- the tokens hold what was read
-  held : text_of tokens ≡ Ok (said, c) → HoldTokens tokens said c
+  held : text_of_tokens tokens ≡ Ok (said, c) → HoldTokens tokens said c
   held h = with_written (certified_of tokens) refl h
 
   -- so what is told of it is answered
-  told_of : (tells : TellingCertified) (o : Outcome) → HoldTokens tokens said c → IsTold (tells said c) o → ToCertifiedTokens tells tokens o
+  told_of : (tells : TellingCertified) (o : Outcome) → HoldTokens tokens said c → TellsNoFault (tells said c) o → ToCertifiedTokens tells tokens o
   told_of tells (done text) h told = (said, c, h, told)
   told_of tells (differs text) h told = (said, c, h, told)
   told_of tells (policy_refused text) h told = (said, c, h, told)
   told_of tells (text_refused text) h told = absurd told
 
-  pub all_told : {S E : Type 0} (outcome : S → Outcome) (tells : TellingCertified) (r : Result S E) → text_of tokens ≡ Ok (said, c)
-      → IfOk r (λ s. IsTold (tells said c) (outcome s)) → IfOk r (λ s. ToCertifiedTokens tells tokens (outcome s))
+  pub all_told : {S E : Type 0} (outcome : S → Outcome) (tells : TellingCertified) (r : Result S E) → text_of_tokens tokens ≡ Ok (said, c)
+      → IfOk r (λ s. TellsNoFault (tells said c) (outcome s)) → IfOk r (λ s. ToCertifiedTokens tells tokens (outcome s))
   all_told outcome tells (Ok s) h told = told_of tells (outcome s) (held h) told
   all_told outcome tells (Err e) h told = tt
 

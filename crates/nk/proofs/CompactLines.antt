@@ -21,7 +21,7 @@ use Rattle.nk_names.specs.ProgramOf.{said_by}
 use Rattle.nk_names.specs.ProgramValue.{IsProgram}
 use Rattle.nk_names.specs.ReadBack.{IsWritable}
 use Rattle.nk_names.proofs.Named.{let_named}
-use Rattle.nk_tabtext.specs.ReadBack.{ReadsPrinted}
+use Rattle.nk_tabtext.specs.ReadBack.{ReadsPrintedTables}
 use Rattle.nk_tabtext.specs.Values.{tables_of}
 use Rattle.nk_compile.specs.declared.compact.Apart.{Apart}
 use Rattle.nk_compile.specs.declared.compact.Compact.{Compact}
@@ -29,7 +29,7 @@ use Rattle.nk_compile.specs.Compacted.{IsFirstSet, IsApartIn, IsCompacted}
 use Rattle.nk_compile.proofs.Merging.{index_get}
 use Rattle.nk.specs.CommentLines.{IsCommentLine}
 use Rattle.nk.specs.Compacting.{apart_words, apart_line, compact_bytes, IsCompactPrinted}
-use Rattle.nk.specs.Declarable.{IsDeclared}
+use Rattle.nk.specs.Declarable.{CanBeDeclared}
 use Rattle.nk.specs.TextTables.{CompactsPrintable}
 use Rattle.nk.proofs.Comments.{comments_change_nothing}
 use Rattle.nk.proofs.PlainLines.{IsPlain, most, plain_behind, plain_number, packet_plain, history_plain}
@@ -97,8 +97,8 @@ most_small fields writable tag = let le = most fields.maxima tag writable.maxima
 
 -- what is printed for a program whose fields a text can declare is read back
 pub is_compact_printed :
-    CompactsPrintable → ReadsPrinted → (program : Program) (name text : List ℕ) (c : Compact)
-    → IsProgram program.fields program.topo program.lets → IsDeclared (said_by program)
+    CompactsPrintable → ReadsPrintedTables → (program : Program) (name text : List ℕ) (c : Compact)
+    → IsProgram program.fields program.topo program.lets → CanBeDeclared (said_by program)
     → IsCompacted program name c → text ≡ compact_bytes program.fields c → IsCompactPrinted (said_by program) name text
 is_compact_printed printable reads program name text c ok declared made printed =
     let fields = program.fields in

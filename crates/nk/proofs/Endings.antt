@@ -10,12 +10,12 @@ use Rattle.nk.specs.declared.status.Status.TheVariants.{ReadFault, Usage, WriteF
 use Rattle.nk.specs.Outcome.{Outcome, done, differs, text_refused, policy_refused}
 use Rattle.nk.specs.Answer.{Answer, IsOutcome, IsOutcomeOf, answer_of, limit, reads, too_long}
 use Rattle.nk.specs.Use.{FailedAt, HadLeft, HasRisen, IsQuiet, IsUntouched, Use}
-use Rattle.nk.specs.Ends.{Ends, IsCauseTo, IsCaused, IsComplete, IsFixedBy, IsInput, IsReadWhere, IsSent, IsUsage}
+use Rattle.nk.specs.Ends.{Ends, IsCauseTo, IsCaused, IsComplete, IsFixedBy, IsInput, IsReadWhere, IsSentWhole, IsUsage}
 
 -- the outcome of a command, once it was sent, is the cause of its status
 outcome_caused : (words : List (List ℕ)) (source out err : Use) (c : Command) (bytes : List ℕ) (outcome : Outcome)
     → command_of words ≡ Some c → IsInput (reads c) source bytes → IsQuiet source → IsOutcome c bytes outcome
-    → IsSent (answer_of outcome) out err → IsCaused words source out err (answer_of outcome).status
+    → IsSentWhole (answer_of outcome) out err → IsCaused words source out err (answer_of outcome).status
 outcome_caused words source out err c bytes (done text) e input quiet o sent = record {
   command = c;
   bytes = bytes;
@@ -68,7 +68,7 @@ read_to_end source (policy_refused text) h = h
 command_caused : (words : List (List ℕ)) (source out err : Use) (c : Command) (a : Answer) (bytes : List ℕ)
     (input long : Bool) → command_of words ≡ Some c → reads c ≡ input → HadLeft source bytes → IsQuiet source
     → IsReadWhere input source a.status → nat_lt limit (length bytes) ≡ long
-    → MatchBool input (MatchBool long (a ≡ too_long) (IsOutcomeOf c bytes a)) (IsOutcomeOf c [] a) → IsSent a out err
+    → MatchBool input (MatchBool long (a ≡ too_long) (IsOutcomeOf c bytes a)) (IsOutcomeOf c [] a) → IsSentWhole a out err
     → IsCaused words source out err a.status
 command_caused words source out err c a bytes true true e is left quiet read long t sent =
     let given : IsReadWhere true source too_long.status
@@ -80,7 +80,7 @@ command_caused words source out err c a bytes true true e is left quiet read lon
       longer = grind (arith, nat_tests);
       given = given;
       quiet = quiet;
-      sent = subst (λ (x : Answer). IsSent x out err) t sent;
+      sent = subst (λ (x : Answer). IsSentWhole x out err) t sent;
     })
 command_caused words source out err c a bytes true false e is left quiet read long (outcome, o, t) sent =
     let fits : length bytes ≤ limit = grind (arith, nat_tests) in
@@ -88,35 +88,35 @@ command_caused words source out err c a bytes true false e is left quiet read lo
     = read_to_end source outcome (subst (λ (x : Answer). IsReadWhere true source x.status) t read) in
     let input : IsInput (reads c) source bytes = rw is (record { left = left; fits = fits; end = end }) in
     rw t (outcome_caused words source out err c bytes outcome e input quiet o
-    (subst (λ (x : Answer). IsSent x out err) t sent))
+    (subst (λ (x : Answer). IsSentWhole x out err) t sent))
 command_caused words source out err c a bytes false long e is left quiet read h (outcome, o, t) sent =
     let input : IsInput (reads c) source [] = rw is (record { none = refl; unread = read }) in
     rw t (outcome_caused words source out err c [] outcome e input quiet o
-    (subst (λ (x : Answer). IsSent x out err) t sent))
+    (subst (λ (x : Answer). IsSentWhole x out err) t sent))
 
 -- the answer that words and input fix, once it was sent, is the cause of its status
 fixed_caused : (words : List (List ℕ)) (source out err : Use) (a : Answer) (c : Option Command)
-    → command_of words ≡ c → IsFixedBy c source a → IsSent a out err
+    → command_of words ≡ c → IsFixedBy c source a → IsSentWhole a out err
     → IsCaused words source out err a.status
 fixed_caused words source out err a None e h sent = rw h.answer (record {
   none = e;
   unread = record { same = h.read; quiet = h.quiet };
-  sent = subst (λ (x : Answer). IsSent x out err) h.answer sent;
+  sent = subst (λ (x : Answer). IsSentWhole x out err) h.answer sent;
 })
 fixed_caused words source out err a (Some c) e h sent =
     command_caused words source out err c a h.bytes _ _ e refl h.left h.quiet h.read refl h.answer sent
 
 -- what was sent has its cause
 sent_caused : (words : List (List ℕ)) (source out err : Use) (a : Answer) (s : Status)
-    → a.status ≡ s → IsCauseTo s (command_of words) source a → IsSent a out err
+    → a.status ≡ s → IsCauseTo s (command_of words) source a → IsSentWhole a out err
     → IsCaused words source out err s
 sent_caused words source out err a ReadFault e m sent = (
   record { answer = refl; rose = m.rose; asks = m.asks; given = m.given },
-  subst (λ (x : Answer). IsSent x out err) m.answer sent,
+  subst (λ (x : Answer). IsSentWhole x out err) m.answer sent,
 )
 sent_caused words source out err a NoMemory e m sent = (
   record { answer = refl; quiet = m.quiet; given = m.given },
-  subst (λ (x : Answer). IsSent x out err) m.answer sent,
+  subst (λ (x : Answer). IsSentWhole x out err) m.answer sent,
 )
 sent_caused words source out err a WriteFault e m sent = absurd m
 sent_caused words source out err a s e m sent =

@@ -6,7 +6,7 @@ use Rattle.nk_names.specs.declared.Program.{Program}
 use Rattle.nk_names.specs.ProgramOf.{said_by}
 use Rattle.nk_names.specs.ProgramValue.{IsProgram}
 use Rattle.nk_table.specs.declared.Tables.{Tables}
-use Rattle.nk_tabtext.specs.ReadBack.{ReadsPrinted}
+use Rattle.nk_tabtext.specs.ReadBack.{ReadsPrintedTables}
 use Rattle.nk_tabtext.specs.Text.{table_bytes}
 use Rattle.nk_cert.specs.Certificates.{CertificateValue}
 use Rattle.nk_certtext.specs.Printed.{ReadsPrintedFor}
@@ -17,7 +17,7 @@ use Rattle.nk_compile.specs.Headline.{IsCompiled}
 use Rattle.nk.specs.TextTables.{CompilesPrintable}
 use Rattle.nk.specs.Comparing.{AreNamed, IsEqualAnswer, ToCompared}
 use Rattle.nk.specs.Compiling.{IsCompileAnswer, ToProgram}
-use Rattle.nk.specs.Declarable.{IsDeclared}
+use Rattle.nk.specs.Declarable.{CanBeDeclared}
 use Rattle.nk.specs.Generating.{CountsRows, CountsTables, IsJobOver, IsNotDone, rows_line, tables_line}
 use Rattle.nk.specs.Outcome.{Outcome, done, differs, text_refused, policy_refused}
 use Rattle.nk.specs.ProgramText.{Declares}
@@ -30,8 +30,8 @@ Step First Counts line = (text : List ℕ) × First (done text) × Counts text l
 
 -- tables are counted
 pub tables_counted :
-    CompilesPrintable → ReadsPrinted → (program : Program) (name line : List ℕ) (t : Tables) (tags : ℕ)
-    → IsProgram program.fields program.topo program.lets → IsDeclared (said_by program)
+    CompilesPrintable → ReadsPrintedTables → (program : Program) (name line : List ℕ) (t : Tables) (tags : ℕ)
+    → IsProgram program.fields program.topo program.lets → CanBeDeclared (said_by program)
     → IsCompiled program name t → HasTagCount program name tags → line ≡ tables_line name tags t.tables
     → Step (ToProgram (said_by program) name) (CountsTables program name) line
 tables_counted printable reads program name line t tags ok declared compiled counted told = (

@@ -13,7 +13,7 @@ use Rattle.nk_store.specs.Intervals.{same_tree}
 use Rattle.nk_table.specs.declared.Bucket.{Bucket}
 use Rattle.nk_table.specs.Buckets.{same_buckets}
 use Rattle.nk_tabtext.specs.InOrder.{MatchesAscend}
-use Rattle.nk_tabtext.specs.ReadBack.{IsMatchOf}
+use Rattle.nk_tabtext.specs.ReadBack.{IsPrintableMatch}
 use Rattle.nk_extract.specs.RuleTree.{Path, PathInterval, is_drop_leaf, with_match, block_paths, paths_of, path_intervals, put_match, exactly}
 use Rattle.nk_extract.proofs.Lists.{every_weaker, every_append, every_map, every_flat_map}
 use Rattle.nk_extract.proofs.Trees.{Tree, Rising, rising_all, rising_end, TestsOnly, TestOnly, IsMatchable, with_most_has}
@@ -63,7 +63,7 @@ parts_are maxima max (branch end d (branch next e bs)) two r =
 block_match :
     (fields : FieldTable) (f : ℕ) (i : PathInterval) (b : ℕ × ℕ) → f < length fields.maxima
     → IsPart (slice_index fields.maxima f) i → In (blocks_of i.first i.last (slice_index fields.maxima f)) b
-    → IsMatchOf fields (f, b.0, b.1)
+    → IsPrintableMatch fields (f, b.0, b.1)
 block_match fields f i b declared part there =
     let max = slice_index fields.maxima f in
     let k = blocks_are i.first i.last max b part.0 (contains_from_in (blocks_of i.first i.last max) b there) in
@@ -77,7 +77,7 @@ block_match fields f i b declared part there =
 -- an exact value
 pub exact_match :
     (fields : FieldTable) (f v : ℕ) → f < length fields.maxima → v ≤ slice_index fields.maxima f
-    → IsMatchOf fields (exactly fields.maxima f v)
+    → IsPrintableMatch fields (exactly fields.maxima f v)
 exact_match fields f v declared le =
     let digits = digits_of (slice_index fields.maxima f) in
     let none : digits - digits ≡ 0 = omega arith in
@@ -92,7 +92,7 @@ exact_match fields f v declared le =
 abbrev pub MatchesClimb : (fields : FieldTable) (tag low : ℕ) → List (ℕ × ℕ × ℕ) → Type 0
 MatchesClimb fields tag low [] = Unit {0}
 MatchesClimb fields tag low (m ∷ ms) =
-    (low ≤ m.0) × (m.0 ≢ tag) × IsMatchOf fields m × MatchesClimb fields tag (m.0 + 1) ms
+    (low ≤ m.0) × (m.0 ≢ tag) × IsPrintableMatch fields m × MatchesClimb fields tag (m.0 + 1) ms
 
 module _ (fields : FieldTable) (tag : ℕ) where
   -- from a later field on is from an earlier one on
@@ -105,10 +105,10 @@ module _ (fields : FieldTable) (tag : ℕ) where
   -- each is such a match
   pub climb_matches :
       (low : ℕ) (ms : List (ℕ × ℕ × ℕ)) (m : ℕ × ℕ × ℕ) → MatchesClimb fields tag low ms → In ms m
-      → IsMatchOf fields m
+      → IsPrintableMatch fields m
   climb_matches low [] m c i = absurd i
   climb_matches low (n ∷ ns) m c i =
-      ⊎_elim (λ e. subst (IsMatchOf fields) (sym e) c.2) (λ r. climb_matches (n.0 + 1) ns m c.3 r) i
+      ⊎_elim (λ e. subst (IsPrintableMatch fields) (sym e) c.2) (λ r. climb_matches (n.0 + 1) ns m c.3 r) i
 
   climb_ascends :
       (low : ℕ) (ms : List (ℕ × ℕ × ℕ)) → MatchesClimb fields tag low ms → MatchesAscend low ms
@@ -153,12 +153,12 @@ module _ (fields : FieldTable) (tag : ℕ) where
       let all = path_intervals maxima (branch end d bs) 0 in
       let Later : Path → Type 0 = λ p. MatchesClimb fields tag (g + 1) p.matches in
       let Here : Path → Type 0 = λ p. MatchesClimb fields tag low p.matches in
-      let raise : (b : ℕ × ℕ) (ps : List Path) → IsMatchOf fields (g, b.0, b.1) → AllByRecursion Later ps → AllByRecursion Here (map (with_match g (is_drop_leaf other.child) b) ps) =
+      let raise : (b : ℕ × ℕ) (ps : List Path) → IsPrintableMatch fields (g, b.0, b.1) → AllByRecursion Later ps → AllByRecursion Here (map (with_match g (is_drop_leaf other.child) b) ps) =
       λ b ps k later. every_map Here (with_match g (is_drop_leaf other.child) b) ps (every_weaker Later (λ p. Here (with_match g (is_drop_leaf other.child) b p)) ps (λ p c. (le, m.1, k, c)) later) in
       let by : (i : PathInterval) (t : Bool) → AllByRecursion Later i.made → IsPart max i → AllByRecursion Here (cond t [] (flat_map (λ b. map (with_match g (is_drop_leaf other.child) b) i.made) (blocks_of i.first i.last max))) =
       λ i t later part. elim t as (λ z. AllByRecursion Here (cond z [] (flat_map (λ b. map (with_match g (is_drop_leaf other.child) b) i.made) (blocks_of i.first i.last max)))) [
         | true ↦ tt
-        | false ↦ every_flat_map (λ b. IsMatchOf fields (g, b.0, b.1)) Here (λ b. map (with_match g (is_drop_leaf other.child) b) i.made) (blocks_of i.first i.last max) (λ b k. raise b i.made k later) (every_from (λ b. IsMatchOf fields (g, b.0, b.1)) (blocks_of i.first i.last max) (λ b there. block_match fields g i b m.0 part there))
+        | false ↦ every_flat_map (λ b. IsPrintableMatch fields (g, b.0, b.1)) Here (λ b. map (with_match g (is_drop_leaf other.child) b) i.made) (blocks_of i.first i.last max) (λ b k. raise b i.made k later) (every_from (λ b. IsPrintableMatch fields (g, b.0, b.1)) (blocks_of i.first i.last max) (λ b there. block_match fields g i b m.0 part there))
       ] in
       every_append Here (flat_map (block_paths max g other) all) other.made
       (every_flat_map (λ i. AllByRecursion Later i.made × IsPart max i) Here (block_paths max g other) all (λ i k. by i (same_tree other.child same_buckets i.child) k.0 k.1)

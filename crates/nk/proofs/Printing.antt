@@ -8,13 +8,13 @@ use Rattle.nk_names.specs.ProgramValue.{IsProgram}
 use Rattle.nk_names.specs.ReadBack.{DeclaresWritable}
 use Rattle.nk_names.specs.Topologies.{DeclaresDeclarable}
 use Rattle.nk_table.specs.declared.Tables.{Tables}
-use Rattle.nk_tabtext.specs.ReadBack.{ReadsPrinted}
+use Rattle.nk_tabtext.specs.ReadBack.{ReadsPrintedTables}
 use Rattle.nk_tabtext.specs.Text.{table_bytes}
 use Rattle.nk_tabtext.specs.Values.{tables_of}
 use Rattle.nk_compile.specs.Headline.{IsCompiled}
 use Rattle.nk.specs.TextTables.{CompilesPrintable}
-use Rattle.nk.specs.Compiling.{IsPrinted}
-use Rattle.nk.specs.Declarable.{IsDeclared, TokensSayDeclared}
+use Rattle.nk.specs.Compiling.{IsCompiledText}
+use Rattle.nk.specs.Declarable.{CanBeDeclared, TokensSayDeclared}
 
 -- the tokens of a text declare fields and a topology that a text can declare
 pub tokens_declare :
@@ -28,9 +28,9 @@ tokens_declare writable declarable text ts us cut same =
 
 -- what is printed for a program with such fields and topology is read back
 pub is_printed :
-    CompilesPrintable → ReadsPrinted → (program : Program) (name text : List ℕ) (t : Tables)
-    → IsProgram program.fields program.topo program.lets → IsDeclared (said_by program)
-    → IsCompiled program name t → text ≡ table_bytes t → IsPrinted (said_by program) name text
+    CompilesPrintable → ReadsPrintedTables → (program : Program) (name text : List ℕ) (t : Tables)
+    → IsProgram program.fields program.topo program.lets → CanBeDeclared (said_by program)
+    → IsCompiled program name t → text ≡ table_bytes t → IsCompiledText (said_by program) name text
 is_printed printable reads program name text t ok declared compiled printed = record {
   program = program;
   says = refl;

@@ -12,7 +12,7 @@ use Rattle.nk_topo.specs.Topology.{Topology, SwitchPorts, IsTopology, numbers_of
 use Rattle.nk_policy.specs.Policy.{Policy}
 use Rattle.nk_policy.specs.Ranges.{IsInRange}
 use Rattle.nk_names.specs.declared.Program.{Program}
-use Rattle.nk_names.specs.Accepted.{IsStart, IsAccepted, most_tags}
+use Rattle.nk_names.specs.Accepted.{IsStartPacket, IsAccepted, most_tags}
 use Rattle.nk_names.specs.Named.{policy_named}
 use Rattle.nk_names.specs.ProgramValue.{IsProgram}
 use Rattle.nk_names.specs.ReadBack.{IsWritable}
@@ -25,10 +25,10 @@ use Rattle.nk_table.specs.declared.Row.{Row}
 use Rattle.nk_table.specs.declared.Table.{Table}
 use Rattle.nk_table.specs.declared.Tables.{Tables}
 use Rattle.nk_tabtext.specs.InOrder.{MatchesAscend, IsTargetInOrder, IsTableInOrder, AreInOrder}
-use Rattle.nk_tabtext.specs.ReadBack.{IsGroupOf, IsRowOf, IsPrintable, IsTableOf as IsTextTable}
+use Rattle.nk_tabtext.specs.ReadBack.{IsPrintableGroup, IsPrintableRow, ArePrintableTables, IsPrintableTable as IsTextTable}
 use Rattle.nk_extract.specs.RuleTree.{rows_for}
 use Rattle.nk_group.specs.Groups.{rows_after, groups_of}
-use Rattle.nk_compile.specs.PrintedTable.{IsTreeOf}
+use Rattle.nk_compile.specs.PrintedTable.{IsTreeOfTag}
 use Rattle.nk_compile.specs.WholeTable.{HasRowsAt, TagTree, rows_of_trees, IsSwitchTable, IsTableOf}
 use Rattle.nk.specs.TextTables.{HasFewGroups, CompilesInOrder, CompilesPrintable}
 use Rattle.nk_compile.proofs.FewTags.{tags_fit}
@@ -72,18 +72,18 @@ module _ (fields : FieldTable) (tag : ℕ) (table : IsFieldTable fields) (is : f
   pub table_ok : length u.groups ≤ largest → IsTextTable fields u
   table_ok few =
       record {
-        groups = subst (λ gs. All (IsGroupOf fields) gs) (sym st.groups)
-            (all_from_members (IsGroupOf fields) (groups_of ps) (groups_ok fields ps rows_sound (subst (λ (gs : List Group). length gs ≤ largest) st.groups few)));
+        groups = subst (λ gs. All (IsPrintableGroup fields) gs) (sym st.groups)
+            (all_from_members (IsPrintableGroup fields) (groups_of ps) (groups_ok fields ps rows_sound (subst (λ (gs : List Group). length gs ≤ largest) st.groups few)));
         ascend = subst (λ gs. AllPairs Below gs) (sym st.groups) (groups_ascend ps);
-        rows = subst (λ gs. All (IsRowOf fields gs) u.rows) (sym st.groups)
-            (subst (λ rs. All (IsRowOf fields (groups_of ps)) rs) (sym st.rows)
-            (all_from_members (IsRowOf fields (groups_of ps)) (rows_after [] ps) (rows_ok fields ps rows_sound)));
+        rows = subst (λ gs. All (IsPrintableRow fields gs) u.rows) (sym st.groups)
+            (subst (λ rs. All (IsPrintableRow fields (groups_of ps)) rs) (sym st.rows)
+            (all_from_members (IsPrintableRow fields (groups_of ps)) (rows_after [] ps) (rows_ok fields ps rows_sound)));
       }
 
   -- it is in order, however many groups it has
   pub table_in_order : IsTableInOrder u
   table_in_order =
-      let rows = all_from_members (IsRowOf fields (groups_of ps)) (rows_after [] ps) (rows_ok fields ps rows_sound) in
+      let rows = all_from_members (IsPrintableRow fields (groups_of ps)) (rows_after [] ps) (rows_ok fields ps rows_sound) in
       record {
         groups = subst (λ gs. AllPairs Below gs) (sym st.groups) (groups_ascend ps);
         buckets = subst (λ gs. All (λ (g : Group). All (λ b. AscendsFrom 2 b.sets) g.buckets) gs) (sym st.groups)
@@ -109,12 +109,12 @@ named_in_range program name p ok named = (let_named program name p ok named).in_
 -- an accepted policy has no more tags than the tag has values
 tags_few :
     (program : Program) (p : Policy) (t : Tables) → IsAccepted program p
-    → (printed : IsTableOf program.fields program.topo (IsStart program.fields program.topo) p t)
+    → (printed : IsTableOf program.fields program.topo (IsStartPacket program.fields program.topo) p t)
     → length printed.tags ≤ slice_index program.fields.maxima printed.tag
 tags_few program p t accepted printed =
     let fields = program.fields in
     let most : most_tags fields fields.tag ≡ slice_index fields.maxima printed.tag = ap (most_tags fields) printed.tag_declared in
-    subst (λ n. length printed.tags ≤ n) most (tags_fit p (IsStart fields program.topo) printed.tags (most_tags fields fields.tag) printed.in_order accepted.1)
+    subst (λ n. length printed.tags ≤ n) most (tags_fit p (IsStartPacket fields program.topo) printed.tags (most_tags fields fields.tag) printed.in_order accepted.1)
 
 -- ---- such tables, over the fields and the topology of a text
 
@@ -131,7 +131,7 @@ module _ (fields : FieldTable) (topo : Topology) (t : Tables) (writable : IsWrit
   low : (u : Table) → In t.tables u → u.switch ≤ 65535
   low = switch_low topo t.tables sound.switches declarable
 
-  pub sound_printable : IsTopology topo → HasFewGroups t → IsPrintable t
+  pub sound_printable : IsTopology topo → HasFewGroups t → ArePrintableTables t
   sound_printable is few =
       let same = sym sound.same_fields in
       let same_topo = sym sound.same_topology in
@@ -158,7 +158,7 @@ module _ (fields : FieldTable) (topo : Topology) (t : Tables) (writable : IsWrit
 -- ---- what compiling gives
 
 module _ (fields : FieldTable) (tag : ℕ) (p : Policy) (tags : List (List ℕ)) (table : IsFieldTable fields) (is : fields.tag ≡ Some tag) (range : IsInRange p fields) (many : length tags ≤ slice_index fields.maxima tag) where
-  tree_sound : (t sw : ℕ) (d : Diagram (List Bucket)) → IsTreeOf fields tag p tags t sw d → IsSoundTree fields tag sw d
+  tree_sound : (t sw : ℕ) (d : Diagram (List Bucket)) → IsTreeOfTag fields tag p tags t sw d → IsSoundTree fields tag sw d
   tree_sound t sw d tree = record {
     reduced = tree.reduced;
     tag_free = tree.tag_free;
@@ -173,7 +173,7 @@ module _ (fields : FieldTable) (tag : ℕ) (p : Policy) (tags : List (List ℕ))
         let few = tag_low p tags u.switch e.tag at in
         record {
           low = omega (arith, few, many);
-          tree = tree_sound e.tag u.switch e.tree (members_from_all (λ (q : TagTree). IsTreeOf fields tag p tags q.tag u.switch q.tree) st.trees st.each e i);
+          tree = tree_sound e.tag u.switch e.tree (members_from_all (λ (q : TagTree). IsTreeOfTag fields tag p tags q.tag u.switch q.tree) st.trees st.each e i);
         };
     groups = st.groups;
     rows = st.rows;
@@ -181,7 +181,7 @@ module _ (fields : FieldTable) (tag : ℕ) (p : Policy) (tags : List (List ℕ))
 
 accepted_sound :
     (program : Program) (p : Policy) (t : Tables) → IsWritable program.fields → IsInRange p program.fields → IsAccepted program p
-    → IsTableOf program.fields program.topo (IsStart program.fields program.topo) p t → AreSoundTables program.fields program.topo t
+    → IsTableOf program.fields program.topo (IsStartPacket program.fields program.topo) p t → AreSoundTables program.fields program.topo t
 accepted_sound program p t writable range accepted printed =
     let fields = program.fields in
     let many = tags_few program p t accepted printed in

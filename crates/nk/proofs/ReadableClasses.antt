@@ -9,7 +9,7 @@ use Rattle.nk_topo.specs.Topology.{Topology}
 use Rattle.nk_policy.specs.Policy.{Policy}
 use Rattle.nk_policy.specs.Ranges.{IsInRange}
 use Rattle.nk_names.specs.declared.Program.{Program}
-use Rattle.nk_names.specs.Accepted.{IsStart, most_tags}
+use Rattle.nk_names.specs.Accepted.{IsStartPacket, most_tags}
 use Rattle.nk_names.specs.ProgramValue.{IsProgram}
 use Rattle.nk_names.specs.ReadBack.{IsWritable}
 use Rattle.nk_store.specs.Diagram.{Diagram, leaf_at}
@@ -84,7 +84,7 @@ compacted_sound program name c ok writable made =
     let fields = program.fields in
     let of = made.2 in
     let most : most_tags fields fields.tag ≡ slice_index fields.maxima of.merged.tag = ap (most_tags fields) of.merged.tag_declared in
-    merged_sound fields program.topo (IsStart fields program.topo) made.0 of.tags of.classes c.tables writable.table (named_in_range program name made.0 ok made.1) of.merged
+    merged_sound fields program.topo (IsStartPacket fields program.topo) made.0 of.tags of.classes c.tables writable.table (named_in_range program name made.0 ok made.1) of.merged
     (λ i. subst (λ n. slice_index of.classes i ≤ n) most (of.few i))
 
 pub compacts_in_order : CompactsInOrder

@@ -14,7 +14,7 @@ use Rattle.nk_policy.proofs.Parity.{no_records}
 use Rattle.nk_store.specs.Intervals.{counted}
 use Rattle.nk_table.specs.declared.Bucket.{Bucket}
 use Rattle.nk_table.specs.declared.Exit.TheVariants.{Back, Port}
-use Rattle.nk_tabtext.specs.ReadBack.{IsExit, IsBucketOf}
+use Rattle.nk_tabtext.specs.ReadBack.{IsExit, IsPrintableBucket}
 use Rattle.nk_extract.specs.RuleTree.{put}
 use Rattle.nk_extract.specs.Buckets.{changes, bucket_of}
 use Rattle.nk_compile.specs.PrintedTable.{IsOfTag, IsResult, IsBucketList}
@@ -64,7 +64,7 @@ exit_ok false n le = le
 bucket_ok :
     (fields : FieldTable) (tag : ℕ) → IsFieldTable fields → fields.tag ≡ Some tag → (pk x : List ℕ) (t' : ℕ)
     → IsPacket fields x → t' ≤ slice_index fields.maxima tag
-    → IsBucketOf fields (bucket_of (length fields.maxima) tag pk x t')
+    → IsPrintableBucket fields (bucket_of (length fields.maxima) tag pk x t')
 bucket_ok fields tag table is pk x t' ok le =
     let width = length fields.maxima in
     let place = table.tag_past_port tag is in
@@ -90,9 +90,9 @@ pub numbered_ok :
     → IsFieldTable fields → fields.tag ≡ Some tag → IsInRange p fields
     → ((t' : ℕ) → t' ≤ length tags → number t' ≤ slice_index fields.maxima tag)
     → IsPacket fields pk → (x : List ℕ) (t' : ℕ) → IsResult p tags t pk x t'
-    → b ≡ bucket_of (length fields.maxima) tag pk x (number t') → IsBucketOf fields b
+    → b ≡ bucket_of (length fields.maxima) tag pk x (number t') → IsPrintableBucket fields b
 numbered_ok number fields tag p tags t pk b table is range many ok x t' result e =
-    subst (IsBucketOf fields) (sym e)
+    subst (IsPrintableBucket fields) (sym e)
     (bucket_ok fields tag table is pk x (number t') (result_in_range fields p tags t pk x t' range ok result)
     (many t' (result_tag p tags t pk x t' result)))
 
@@ -101,7 +101,7 @@ pub buckets_ok :
     (fields : FieldTable) (tag : ℕ) (p : Policy) (tags : List (List ℕ)) (t : ℕ) (pk : List ℕ) (buckets : List Bucket)
     → IsFieldTable fields → fields.tag ≡ Some tag → IsInRange p fields → length tags ≤ slice_index fields.maxima tag
     → IsPacket fields pk → IsBucketList (length fields.maxima) tag p tags t pk buckets
-    → (b : Bucket) → In buckets b → IsBucketOf fields b
+    → (b : Bucket) → In buckets b → IsPrintableBucket fields b
 buckets_ok fields tag p tags t pk buckets table is range many ok list b i =
     let r = (list.exactly b).0 (contains_from_in buckets b i) in
     numbered_ok (λ n. n) fields tag p tags t pk b table is range (λ t' low. omega (arith, low, many)) ok r.0 r.1 r.2 r.3

@@ -13,7 +13,7 @@ use Rattle.nk_table.specs.declared.Bucket.{Bucket}
 use Rattle.nk_table.specs.declared.Plain.{Plain}
 use Rattle.nk_prefix.specs.Prefix.{digits_of}
 use Rattle.nk_tabtext.specs.InOrder.{MatchesAscend}
-use Rattle.nk_tabtext.specs.ReadBack.{IsMatchOf, IsBucketOf}
+use Rattle.nk_tabtext.specs.ReadBack.{IsPrintableMatch, IsPrintableBucket}
 use Rattle.nk_extract.specs.RuleTree.{Path, is_drop_list, paths_of, bit_of, priority_of, exactly, plain_row, rows_for}
 use Rattle.nk_extract.specs.Chosen.{IsTop, rank, matching, IsRowTree}
 use Rattle.nk_extract.proofs.Bits.{bits_fit}
@@ -27,8 +27,8 @@ use Rattle.nk.proofs.Matched.{MatchesClimb, climb, climb_matches, put_climbs, in
 pub record IsSoundRow (fields : FieldTable) (r : Plain) : Type 0 where
   pub priority : r.priority ≤ 65535
   pub ascend : MatchesAscend 1 r.matches
-  pub matches : All (IsMatchOf fields) r.matches
-  pub buckets : (b : Bucket) → In r.buckets b → IsBucketOf fields b
+  pub matches : All (IsPrintableMatch fields) r.matches
+  pub buckets : (b : Bucket) → In r.buckets b → IsPrintableBucket fields b
 
 -- ---- the highest of several
 
@@ -98,7 +98,7 @@ at_switch maxima sw tag t past few sw_in t_in =
 pub record IsSoundTree (fields : FieldTable) (tag sw : ℕ) (d : Tree) : Type 0 where
   pub reduced : IsReduced d fields.maxima 1
   pub tag_free : IsFreeOf tag d
-  pub leaves : (pk : List ℕ) → IsPacket fields pk → slice_index pk 0 ≡ sw → (b : Bucket) → In (leaf_at d [] pk) b → IsBucketOf fields b
+  pub leaves : (pk : List ℕ) → IsPacket fields pk → slice_index pk 0 ≡ sw → (b : Bucket) → In (leaf_at d [] pk) b → IsPrintableBucket fields b
 
 module _ (fields : FieldTable) (tag : ℕ) (table : IsFieldTable fields) (is : fields.tag ≡ Some tag) (t sw : ℕ) (d : Tree) (tree : IsSoundTree fields tag sw d) (low : t ≤ slice_index fields.maxima tag) (switch : sw ≤ slice_index fields.maxima 0) where
   abbrev width : ℕ
@@ -131,7 +131,7 @@ module _ (fields : FieldTable) (tag : ℕ) (table : IsFieldTable fields) (is : f
       }
 
   -- each bucket, which is one at some packet in range at the switch that the row matches
-  bucketed : (r : Plain) → In (rows_for fields.maxima tag t d) r → (b : Bucket) → In r.buckets b → IsBucketOf fields b
+  bucketed : (r : Plain) → In (rows_for fields.maxima tag t d) r → (b : Bucket) → In r.buckets b → IsPrintableBucket fields b
   bucketed r i b j =
       let few = table.few in
       let tag_in = place.1 in
@@ -147,10 +147,10 @@ module _ (fields : FieldTable) (tag : ℕ) (table : IsFieldTable fields) (is : f
       tree.leaves c.0 ok (c.2 ∙ base.switch) b (subst (λ l. In l b) same j)
 
   -- each match is one that a text can write
-  matched : (r : Plain) → IsOfWay r → (m : ℕ × ℕ × ℕ) → In r.matches m → IsMatchOf fields m
+  matched : (r : Plain) → IsOfWay r → (m : ℕ × ℕ × ℕ) → In r.matches m → IsPrintableMatch fields m
   matched r w m i =
       ⊎_elim
-      (λ e. subst (IsMatchOf fields) (sym e) (exact_match fields tag t place.1 low))
+      (λ e. subst (IsPrintableMatch fields) (sym e) (exact_match fields tag t place.1 low))
       (λ j. climb_matches fields tag 1 w.way.matches m w.climbs j)
       (in_put_match (exactly fields.maxima tag t) w.way.matches m (subst (λ (z : Plain). In z.matches m) w.same i))
 
@@ -163,6 +163,6 @@ module _ (fields : FieldTable) (tag : ℕ) (table : IsFieldTable fields) (is : f
       record {
         priority = subst (λ (z : Plain). z.priority ≤ 65535) (sym w.same) (omega (arith, less, fits));
         ascend = subst (λ (z : Plain). MatchesAscend 1 z.matches) (sym w.same) (put_climbs fields tag t (digits_of (slice_index fields.maxima tag)) 1 w.way.matches one w.climbs);
-        matches = all_from_members (IsMatchOf fields) r.matches (λ m j. matched r w m j);
+        matches = all_from_members (IsPrintableMatch fields) r.matches (λ m j. matched r w m j);
         buckets = bucketed r i;
       }

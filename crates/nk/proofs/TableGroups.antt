@@ -13,7 +13,7 @@ use Rattle.nk_table.specs.declared.Plain.{Plain}
 use Rattle.nk_table.specs.declared.Row.{Row}
 use Rattle.nk_table.specs.Buckets.{same_buckets}
 use Rattle.nk_table.specs.Rules.{buckets_in, buckets_for}
-use Rattle.nk_tabtext.specs.ReadBack.{IsBucketOf, IsGroupOf, IsTargetOf, IsRowOf}
+use Rattle.nk_tabtext.specs.ReadBack.{IsPrintableBucket, IsPrintableGroup, IsPrintableTarget, IsPrintableRow}
 use Rattle.nk_group.specs.Groups.{taken, target_among, rows_after, lists_after, numbered, groups_of, AreKept}
 use Rattle.nk_group.proofs.Kept.{groups_keep_buckets}
 use Rattle.nk.proofs.SoundRows.{IsSoundRow}
@@ -22,7 +22,7 @@ use Rattle.nk.proofs.SoundRows.{IsSoundRow}
 
 -- a bucket list with a bucket, each of which a text can write
 abbrev IsList : FieldTable → List Bucket → Type 0
-IsList fields bs = (1 ≤ length bs) × ((b : Bucket) → In bs b → IsBucketOf fields b)
+IsList fields bs = (1 ≤ length bs) × ((b : Bucket) → In bs b → IsPrintableBucket fields b)
 
 abbrev AreLists : FieldTable → List (List Bucket) → Type 0
 AreLists fields ls = (l : List Bucket) → In ls l → IsList fields l
@@ -30,7 +30,7 @@ AreLists fields ls = (l : List Bucket) → In ls l → IsList fields l
 -- after one more row
 taken_ok :
     (fields : FieldTable) (ls : List (List Bucket)) (bs : List Bucket) → AreLists fields ls
-    → ((b : Bucket) → In bs b → IsBucketOf fields b) → AreLists fields (taken ls bs)
+    → ((b : Bucket) → In bs b → IsPrintableBucket fields b) → AreLists fields (taken ls bs)
 taken_ok fields ls [] h q l i = h l i
 taken_ok fields ls (b ∷ []) h q l i = h l i
 taken_ok fields ls (b ∷ c ∷ bs) h q l i = by (list_any (same_buckets (b ∷ c ∷ bs)) ls) i
@@ -98,15 +98,15 @@ at_most a b c lt le = omega (arith, lt, le)
 -- each has such buckets, however many groups there are
 pub group_buckets_ok :
     (fields : FieldTable) (ps : List Plain) → ((r : Plain) → In ps r → IsSoundRow fields r)
-    → (g : Group) → In (groups_of ps) g → All (IsBucketOf fields) g.buckets
+    → (g : Group) → In (groups_of ps) g → All (IsPrintableBucket fields) g.buckets
 group_buckets_ok fields ps q g i =
     let list = numbered_lists fields 1 (lists_after [] ps) (after_ok fields [] ps (λ l j. absurd j) q) g i in
-    all_from_members (IsBucketOf fields) g.buckets list.1
+    all_from_members (IsPrintableBucket fields) g.buckets list.1
 
 -- the groups of rows, of which there are not more than a text has numbers
 pub groups_ok :
     (fields : FieldTable) (ps : List Plain) → ((r : Plain) → In ps r → IsSoundRow fields r)
-    → length (groups_of ps) ≤ largest → (g : Group) → In (groups_of ps) g → IsGroupOf fields g
+    → length (groups_of ps) ≤ largest → (g : Group) → In (groups_of ps) g → IsPrintableGroup fields g
 groups_ok fields ps q few g i =
     let ls = lists_after [] ps in
     let number = numbers_between 1 ls g i in
@@ -139,8 +139,8 @@ has_group (g ∷ gs) n b bs e = by (g.number == n) e (λ f. has_group gs n b bs 
 
 target_ok :
     (fields : FieldTable) (gs : List Group) (ls : List (List Bucket)) (bs : List Bucket)
-    → buckets_for gs (target_among ls bs) ≡ bs → ((b : Bucket) → In bs b → IsBucketOf fields b)
-    → IsTargetOf fields gs (target_among ls bs)
+    → buckets_for gs (target_among ls bs) ≡ bs → ((b : Bucket) → In bs b → IsPrintableBucket fields b)
+    → IsPrintableTarget fields gs (target_among ls bs)
 target_ok fields gs ls [] e q = tt
 target_ok fields gs ls (b ∷ []) e q = q b (inl refl)
 target_ok fields gs ls (b ∷ c ∷ bs) e q = has_group gs (position_or_len (same_buckets (b ∷ c ∷ bs)) ls + 1) b (c ∷ bs) e
@@ -148,13 +148,13 @@ target_ok fields gs ls (b ∷ c ∷ bs) e q = has_group gs (position_or_len (sam
 rows_from :
     (fields : FieldTable) (gs : List Group) (ls : List (List Bucket)) (ps : List Plain)
     → AreKept gs ps (rows_after ls ps) → ((p : Plain) → In ps p → IsSoundRow fields p)
-    → (r : Row) → In (rows_after ls ps) r → IsRowOf fields gs r
+    → (r : Row) → In (rows_after ls ps) r → IsPrintableRow fields gs r
 rows_from fields gs ls [] k h r i = absurd i
 rows_from fields gs ls (p ∷ ps) k h r i =
     ⊎_elim
     (λ e.
     let s = h p (inl refl) in
-    subst (IsRowOf fields gs) (sym e) record {
+    subst (IsPrintableRow fields gs) (sym e) record {
       priority = s.priority;
       ascend = s.ascend;
       matches = s.matches;
@@ -165,5 +165,5 @@ rows_from fields gs ls (p ∷ ps) k h r i =
 
 pub rows_ok :
     (fields : FieldTable) (ps : List Plain) → ((p : Plain) → In ps p → IsSoundRow fields p)
-    → (r : Row) → In (rows_after [] ps) r → IsRowOf fields (groups_of ps) r
+    → (r : Row) → In (rows_after [] ps) r → IsPrintableRow fields (groups_of ps) r
 rows_ok fields ps h = rows_from fields (groups_of ps) [] ps (groups_keep_buckets ps) h

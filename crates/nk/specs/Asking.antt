@@ -9,7 +9,7 @@ use Rattle.nk_names.specs.declared.Program.{Program}
 use Rattle.nk_names.specs.ProgramOf.{Said, said_by}
 use Rattle.nk_query.specs.declared.error.QueryError.{QueryError}
 use Rattle.nk_query.specs.Asked.{Asked, Question, NoneBreaks, IsLeastBreak}
-use Rattle.nk_query.specs.Answers.{IsCause, IsNamedQuestion, asked_policy}
+use Rattle.nk_query.specs.Answers.{IsHindranceByName, IsNamedQuestion, asked_policy}
 use Rattle.nk.specs.Comparing.{TellsRelated}
 use Rattle.nk.specs.Messages.{TellsQuery, found_lines}
 use Rattle.nk.specs.Outcome.{Outcome, done, differs, text_refused, policy_refused}
@@ -21,7 +21,7 @@ broken_lines fields f = codes "broken\n" ++ found_lines fields f
 
 -- No history breaks the query of these names: its question gives the same histories as `drop`, and the text is that of their
 -- printed certificate, which is read back.
-pub record IsHeld (said : Said) (asked : Asked) (text : List ℕ) : Type 0 where
+pub record IsHeldQuery (said : Said) (asked : Asked) (text : List ℕ) : Type 0 where
   pub program : Program
   pub says : said_by program ≡ said
   pub question : Question
@@ -44,12 +44,12 @@ pub record LacksQuestion (said : Said) (asked : Asked) (text : List ℕ) : Type 
   pub program : Program
   pub says : said_by program ≡ said
   pub cause : QueryError
-  pub is : IsCause program asked cause
+  pub is : IsHindranceByName program asked cause
   pub told : TellsQuery cause text
 
 -- what is answered to a program
 abbrev pub ToAsked : Said → Asked → Outcome → Type 0
-ToAsked said asked (done text) = IsHeld said asked text
+ToAsked said asked (done text) = IsHeldQuery said asked text
 ToAsked said asked (differs text) = IsBroken said asked text
 ToAsked said asked (policy_refused text) = LacksQuestion said asked text
 ToAsked said asked outcome = ⊥

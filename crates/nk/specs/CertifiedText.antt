@@ -71,9 +71,9 @@ abbrev pub TellingCertified : Type 1
 TellingCertified = Said → CertificateValue → Outcome → Type 0
 
 -- this is told, and no fault of a text
-abbrev pub IsTold : (Outcome → Type 0) → Outcome → Type 0
-IsTold T (text_refused text) = ⊥
-IsTold T outcome = T outcome
+abbrev pub TellsNoFault : (Outcome → Type 0) → Outcome → Type 0
+TellsNoFault T (text_refused text) = ⊥
+TellsNoFault T outcome = T outcome
 
 -- what is answered to the bytes of a text with a certificate: its first fault, or what is told of its program and certificate
 abbrev pub ToCertified : TellingCertified → List ℕ → Outcome → Type 0

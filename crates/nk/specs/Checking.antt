@@ -9,7 +9,7 @@ use Rattle.nk_cert.specs.Certificates.{CertificateValue}
 use Rattle.nk_cert.specs.Verdicts.{RowPart, position_part, start_part, finals_part, hop_part, Finding, valid, invalid, IsFinding}
 use Rattle.nk.specs.CertifiedText.{ToCertified}
 use Rattle.nk.specs.Comparing.{AreNamed, LacksPolicy}
-use Rattle.nk.specs.Outcome.{Outcome, done, differs, text_refused, policy_refused}
+use Rattle.nk.specs.Outcome.{Outcome, done, differs, policy_refused}
 
 -- the word for a part of a row
 abbrev pub part_word : RowPart → List ℕ

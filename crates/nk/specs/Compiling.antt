@@ -16,7 +16,7 @@ use Rattle.nk.specs.ProgramText.{Declares, HasFault}
 
 -- The text is that of the printed tables of the program's policy of this name, which is accepted, and the tables carry it.
 -- Read again it is these tables, unless a switch has more groups than a text has numbers.
-pub record IsPrinted (said : Said) (name text : List ℕ) : Type 0 where
+pub record IsCompiledText (said : Said) (name text : List ℕ) : Type 0 where
   pub program : Program
   pub says : said_by program ≡ said
   pub tables : Tables
@@ -34,7 +34,7 @@ pub record IsRefusal (said : Said) (name text : List ℕ) : Type 0 where
 
 -- what is answered to a program
 abbrev pub ToProgram : Said → List ℕ → Outcome → Type 0
-ToProgram said name (done text) = IsPrinted said name text
+ToProgram said name (done text) = IsCompiledText said name text
 ToProgram said name (policy_refused text) = IsRefusal said name text
 ToProgram said name outcome = ⊥
 

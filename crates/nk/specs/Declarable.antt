@@ -8,13 +8,13 @@ use Rattle.nk_names.specs.ReadBack.{IsWritable}
 use Rattle.nk_names.specs.Topologies.{IsDeclarable}
 
 -- fields and a topology that a text can declare
-pub record IsDeclared (said : Said) : Type 0 where
+pub record CanBeDeclared (said : Said) : Type 0 where
   pub fields : IsWritable said.fields
   pub topology : IsDeclarable said.topo
 
 -- what the declarations say has such
 abbrev pub SayDeclared : List Declaration → Type 0
-SayDeclared ds = (s : Said) → program_of ds ≡ Ok s → IsDeclared s
+SayDeclared ds = (s : Said) → program_of ds ≡ Ok s → CanBeDeclared s
 
 -- what the tokens say has
 abbrev pub TokensSayDeclared : List Token → Type 0

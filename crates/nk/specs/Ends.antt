@@ -24,15 +24,15 @@ IsReadWhere false source s = Keeps source.old source.new
 IsReadWhere true source TooLong = GaveMore limit source.old source.new
 IsReadWhere true source s = IsAtEnd source.new
 
-abbrev pub IsRead : Option Command → Use → Status → Type 0
-IsRead c source s = IsReadWhere (asks_for_input c) source s
+abbrev pub IsReadFor : Option Command → Use → Status → Type 0
+IsReadFor c source s = IsReadWhere (asks_for_input c) source s
 
 -- the command and the input fix this answer
 pub record IsFixedBy (c : Option Command) (source : Use) (a : Answer) : Type 0 where
   pub bytes : List ℕ
   pub left : HadLeft source bytes
   pub answer : IsAnswerTo c bytes a
-  pub read : IsRead c source a.status
+  pub read : IsReadFor c source a.status
   pub quiet : IsQuiet source
 
 -- a call of the source failed while the input of a command that reads it was read
@@ -65,8 +65,8 @@ abbrev pub IsMeant : List (List ℕ) → Use → Answer → Type 0
 IsMeant words source a = IsMeantTo (command_of words) source a
 
 -- the sink that the answer goes to took the whole of it, and the other was not touched
-abbrev pub IsSent : Answer → Use → Use → Type 0
-IsSent a out err = MatchBool (goes_out a.status)
+abbrev pub IsSentWhole : Answer → Use → Use → Type 0
+IsSentWhole a out err = MatchBool (goes_out a.status)
     (Took out a.text × IsUntouched err) (Took err a.text × IsUntouched out)
 
 -- the sink that the answer goes to failed at it, and the other was not touched
@@ -77,7 +77,7 @@ FailsIn a out err = MatchBool (goes_out a.status)
 -- the answer went out whole, or its sink failed at it
 abbrev pub Delivers : Answer → Use → Use → Status → Type 0
 Delivers a out err s =
-    ((s ≡ a.status) × IsSent a out err) ⊎ ((s ≡ WriteFault) × FailsIn a out err)
+    ((s ≡ a.status) × IsSentWhole a out err) ⊎ ((s ≡ WriteFault) × FailsIn a out err)
 
 -- the run meant an answer for a cause, and then sent it or failed at it
 pub record Ends (words : List (List ℕ)) (source out err : Use) (s : Status) : Type 0 where
@@ -112,13 +112,13 @@ pub record Answers (words : List (List ℕ)) (source out err : Use) (kind : List
   pub input : IsInput (reads command) source bytes
   pub is_outcome : IsOutcome command bytes (kind text)
   pub quiet : IsQuiet source
-  pub sent : IsSent (answer_of (kind text)) out err
+  pub sent : IsSentWhole (answer_of (kind text)) out err
 
 -- the words are no command, nothing was read, and that was said
 pub record IsUsage (words : List (List ℕ)) (source out err : Use) : Type 0 where
   pub none : command_of words ≡ None
   pub unread : IsUntouched source
-  pub sent : IsSent usage out err
+  pub sent : IsSentWhole usage out err
 
 -- the words are a command that reads, more bytes than the limit were left, and that was said
 pub record IsTooLong (words : List (List ℕ)) (source out err : Use) : Type 0 where
@@ -128,7 +128,7 @@ pub record IsTooLong (words : List (List ℕ)) (source out err : Use) : Type 0 w
   pub longer : limit < length bytes
   pub given : GaveMore limit source.old source.new
   pub quiet : IsQuiet source
-  pub sent : IsSent too_long out err
+  pub sent : IsSentWhole too_long out err
 
 -- a sink failed at the answer that was meant
 pub record IsWriteFault (words : List (List ℕ)) (source out err : Use) : Type 0 where
@@ -145,8 +145,8 @@ IsCaused words source out err Refused = Answers words source out err policy_refu
 IsCaused words source out err Usage = IsUsage words source out err
 IsCaused words source out err TooLong = IsTooLong words source out err
 IsCaused words source out err ReadFault =
-    IsReadFault (command_of words) source read_fault × IsSent read_fault out err
-IsCaused words source out err NoMemory = IsNoMemory source no_memory × IsSent no_memory out err
+    IsReadFault (command_of words) source read_fault × IsSentWhole read_fault out err
+IsCaused words source out err NoMemory = IsNoMemory source no_memory × IsSentWhole no_memory out err
 IsCaused words source out err WriteFault = IsWriteFault words source out err
 
 -- the run ended with the answer that the words and the input fix
@@ -154,7 +154,7 @@ pub record EndsFixed (words : List (List ℕ)) (source out err : Use) (s : Statu
   pub answer : Answer
   pub fixed : IsFixedBy (command_of words) source answer
   pub status : s ≡ answer.status
-  pub sent : IsSent answer out err
+  pub sent : IsSentWhole answer out err
 
 -- where no count rose, the run ends with the answer that is fixed, or for want of memory
 abbrev pub IsComplete : List (List ℕ) → Use → Use → Use → Status → Type 0
@@ -165,7 +165,7 @@ IsComplete words source out err s = ¬ HasRisen source → ¬ HasRisen out → �
 pub record TellsFaults (source out err : Use) (s : Status) : Type 0 where
   -- A failed read is never taken for the end of the input: the run says so, or fails at saying so.
   pub read : source.before < source.now
-      → ((s ≡ ReadFault) × IsSent read_fault out err)
+      → ((s ≡ ReadFault) × IsSentWhole read_fault out err)
       ⊎ ((s ≡ WriteFault) × FailsIn read_fault out err)
   pub write : (out.before < out.now) ⊎ (err.before < err.now) → s ≡ WriteFault
 

@@ -27,18 +27,18 @@ abbrev pub item_line : ℕ → List ℕ
 item_line n = codes "refused C9: bad packet, item " ++ decimal n ++ codes "\n"
 
 -- what is told of a packet at a port of tables
-abbrev pub Telling : Type 1
-Telling = Tables → List ℕ → Outcome → Type 0
+abbrev pub TableOutcome : Type 1
+TableOutcome = Tables → List ℕ → Outcome → Type 0
 
 -- what is answered to what the packet's word gives
-abbrev pub ToPacket : Telling → Tables → Result Packet PacketError → Outcome → Type 0
+abbrev pub ToPacket : TableOutcome → Tables → Result Packet PacketError → Outcome → Type 0
 ToPacket tells t (Ok pk) outcome = MatchBool (is_port t.topo (slice_index pk 0) (slice_index pk 1))
     (tells t pk outcome) (outcome ≡ policy_refused (codes "refused C10: off port\n"))
 ToPacket tells t (Err (reading.BadPacket n)) outcome = outcome ≡ policy_refused (item_line n)
 ToPacket tells t (Err reading.NoMemory) outcome = ⊥
 
 -- what is answered to what a table text is
-abbrev pub ToTables : Telling → Result Tables ReadError → List ℕ → Outcome → Type 0
+abbrev pub ToTables : TableOutcome → Result Tables ReadError → List ℕ → Outcome → Type 0
 ToTables tells (Ok t) word outcome = ToPacket tells t (packet_of t.fields word) outcome
 ToTables tells (Err (text.BadByte line)) word outcome = outcome ≡ text_refused (fault_line line (codes "bad byte"))
 ToTables tells (Err (text.NumberTooLarge line)) word outcome =

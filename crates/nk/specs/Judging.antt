@@ -12,7 +12,7 @@ use Rattle.nk_query.specs.Answers.{IsNamedQuestion, asked_policy}
 use Rattle.nk.specs.Asking.{LacksQuestion}
 use Rattle.nk.specs.CertifiedText.{ToCertified}
 use Rattle.nk.specs.Checking.{invalid_line}
-use Rattle.nk.specs.Outcome.{Outcome, done, differs, text_refused, policy_refused}
+use Rattle.nk.specs.Outcome.{Outcome, done, differs, policy_refused}
 
 -- what is found of a certificate for the question of these names and `drop`
 pub record IsFoundForAsked (said : Said) (asked : Asked) (c : CertificateValue) (finding : Finding) : Type 0 where

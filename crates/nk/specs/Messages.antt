@@ -3,15 +3,12 @@ use Rattle.std.specs.Prelude.{◌≡◌, ℕ, List, true, ◌++◌, codes, decim
 use Rattle.nk_field.specs.Packet.{FieldTable}
 use Rattle.nk_field.specs.Order.{Found}
 use Rattle.nk_field.specs.Texts.{history_bytes, packet_bytes}
+pub use Rattle.nk_names.specs.Words.{fault_line}
 use Rattle.nk_compile.specs.declared.refusal.Refusal.{Refusal}
 use Rattle.nk_compile.specs.declared.refusal.Refusal.TheVariants as refusal
 use Rattle.nk_compile.specs.Refusals.{found_from}
 use Rattle.nk_query.specs.declared.error.QueryError.{QueryError}
 use Rattle.nk_query.specs.declared.error.QueryError.TheVariants as query
-
--- the line of a text's fault
-abbrev pub fault_line : ℕ → List ℕ → List ℕ
-fault_line line words = codes "line " ++ decimal line ++ codes ": " ++ words ++ codes "\n"
 
 -- the packet that a history starts at and the history, with every field
 abbrev pub found_lines : FieldTable → Found → List ℕ

@@ -8,13 +8,13 @@ use Rattle.nk_names.specs.declared.Program.{Program}
 use Rattle.nk_names.specs.ProgramOf.{program_of, said_by}
 use Rattle.nk.specs.declared.program_text.ReadText.{ReadText}
 use Rattle.nk.specs.declared.program_text.ReadText.TheVariants as read
-use Rattle.nk.specs.Declarable.{IsDeclared}
+use Rattle.nk.specs.Declarable.{CanBeDeclared}
 use Rattle.nk.specs.Messages.{fault_line}
 use Rattle.nk.specs.ProgramText.{HasFault, IsFaultOfNames, IsFaultOfTokens}
 
 -- the program is what the declarations say, with fields and a topology that a text can declare
 pub record IsOfDeclarations (declarations : List Declaration) (program : Program) : Type 0 where
-  pub declared : IsDeclared (said_by program)
+  pub declared : CanBeDeclared (said_by program)
   pub means : program_of declarations ≡ Ok (said_by program)
 
 -- so it is of tokens

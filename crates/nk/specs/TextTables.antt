@@ -7,7 +7,7 @@ use Rattle.nk_names.specs.ReadBack.{IsWritable}
 use Rattle.nk_names.specs.Topologies.{IsDeclarable}
 use Rattle.nk_table.specs.declared.Tables.{Tables}
 use Rattle.nk_tabtext.specs.InOrder.{AreInOrder}
-use Rattle.nk_tabtext.specs.ReadBack.{IsPrintable}
+use Rattle.nk_tabtext.specs.ReadBack.{ArePrintableTables}
 use Rattle.nk_compile.specs.declared.compact.Compact.{Compact}
 use Rattle.nk_compile.specs.Compacted.{IsCompacted}
 use Rattle.nk_compile.specs.Headline.{IsCompiled}
@@ -21,7 +21,7 @@ HasFewGroups t = All (λ u. length u.groups ≤ largest) t.tables
 abbrev pub CompilesPrintable : Type 0
 CompilesPrintable = (program : Program) (name : List ℕ) (t : Tables)
     → IsProgram program.fields program.topo program.lets → IsWritable program.fields → IsDeclarable program.topo
-    → IsCompiled program name t → HasFewGroups t → IsPrintable t
+    → IsCompiled program name t → HasFewGroups t → ArePrintableTables t
 
 -- The tables that compiling a name gives, of any number of groups, are in order.
 abbrev pub CompilesInOrder : Type 0
@@ -33,7 +33,7 @@ CompilesInOrder = (program : Program) (name : List ℕ) (t : Tables)
 abbrev pub CompactsPrintable : Type 0
 CompactsPrintable = (program : Program) (name : List ℕ) (c : Compact)
     → IsProgram program.fields program.topo program.lets → IsWritable program.fields → IsDeclarable program.topo
-    → IsCompacted program name c → HasFewGroups c.tables → IsPrintable c.tables
+    → IsCompacted program name c → HasFewGroups c.tables → ArePrintableTables c.tables
 
 abbrev pub CompactsInOrder : Type 0
 CompactsInOrder = (program : Program) (name : List ℕ) (c : Compact)

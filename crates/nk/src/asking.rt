@@ -2,7 +2,7 @@
 ghost use Rattle.std.specs.Prelude.{◌≡◌, IfOk};
 ghost use Rattle.nk_names.specs.ProgramOf.{said_by};
 ghost use Rattle.nk_names.specs.ProgramValue.{IsProgram};
-ghost use Rattle.nk_query.specs.Answers.{asked_of};
+ghost use Rattle.nk_query.specs.Answers.{asked_in};
 ghost use Rattle.nk_query.specs.Asked.{apart, waypoint};
 ghost use Rattle.nk.specs.Asking.{IsAskAnswer, ToAsked};
 ghost use Rattle.nk.specs.Reply.{said};
@@ -19,7 +19,7 @@ use std::alloc::{AllocError, Global};
 
 /// The query of `apart NAME A B`.
 pub(crate) fn apart_query<'a>(name: &'a Bytes, from: &'a Bytes, target: &'a Bytes) -> Query<'a>
-    ensures { asked_of result ≡ apart name.entry.now from.entry.now target.entry.now }
+    ensures { asked_in result ≡ apart name.entry.now from.entry.now target.entry.now }
 {
     Query::Apart {
         name: name.as_str(),
@@ -35,7 +35,7 @@ pub(crate) fn waypoint_query<'a>(
     middle: &'a Bytes,
     target: &'a Bytes,
 ) -> Query<'a>
-    ensures { asked_of result ≡ waypoint name.entry.now from.entry.now middle.entry.now target.entry.now }
+    ensures { asked_in result ≡ waypoint name.entry.now from.entry.now middle.entry.now target.entry.now }
 {
     Query::Waypoint {
         name: name.as_str(),
@@ -47,7 +47,7 @@ pub(crate) fn waypoint_query<'a>(
 
 /// What asking a query answers, over the bytes of a text.
 pub(crate) fn ask_answer(alloc: Global, query: &Query, bytes: &[u8]) -> Result<Said, AllocError>
-    ensures { IfOk result (λ s. IsAskAnswer (asked_of query.now) bytes.now (said s)) }
+    ensures { IfOk result (λ s. IsAskAnswer (asked_in query.now) bytes.now (said s)) }
 {
     match read_program(alloc, bytes)? {
         ReadText::Program(program) => answer_to_program(alloc, query, &program),
@@ -58,7 +58,7 @@ pub(crate) fn ask_answer(alloc: Global, query: &Query, bytes: &[u8]) -> Result<S
 /// The same over a program.
 fn answer_to_program(alloc: Global, query: &Query, program: &Program) -> Result<Said, AllocError>
     requires is { IsProgram program.now.fields program.now.topo program.now.lets }
-    ensures { IfOk result (λ s. ToAsked (said_by program.now) (asked_of query.now) (said s)) }
+    ensures { IfOk result (λ s. ToAsked (said_by program.now) (asked_in query.now) (said s)) }
 {
     // This is a law: what is printed for two policies is read back.
     certificates_of_policies_are_read();

@@ -5,7 +5,7 @@ ghost use Rattle.nk_lex.specs.Lex.{largest, tokens_of};
 ghost use Rattle.nk_certtext.specs.Progress.{IsTaken};
 ghost use Rattle.nk_words.specs.declared.words.Command.{Command};
 ghost use Rattle.nk.specs.Answer.{IsOutcome, reads};
-ghost use Rattle.nk.specs.CertifiedText.{IsTold, TellsText, ToCertified, ToCertifiedTokens};
+ghost use Rattle.nk.specs.CertifiedText.{TellsNoFault, TellsText, ToCertified, ToCertifiedTokens};
 ghost use Rattle.nk.specs.Ends.{IsMeantTo};
 ghost use Rattle.nk.specs.Outcome.{Outcome};
 ghost use Rattle.nk.specs.Pieces.{IsLexedAs};
@@ -42,7 +42,7 @@ pub(crate) trait Judge {
     ) -> Result<Said, AllocError>
         requires is { IsProgram program.now.fields program.now.topo program.now.lets }
         requires predicates { HasPredicates (certificate_value certificate.now) }
-        ensures { IfOk result (λ s. IsTold (tells self.now (said_by program.now) (certificate_value certificate.now)) (said s)) };
+        ensures { IfOk result (λ s. TellsNoFault (tells self.now (said_by program.now) (certificate_value certificate.now)) (said s)) };
 }
 
 /// What judging a certificate means to say, over a source that gives a text with one, whose tokens are taken as they come.

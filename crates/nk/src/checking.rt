@@ -5,7 +5,7 @@ ghost use Rattle.nk_names.specs.ProgramValue.{IsProgram};
 ghost use Rattle.nk_cert.specs.Values.{certificate_value};
 ghost use Rattle.nk_cert.specs.Verdicts.{HasPredicates};
 ghost use Rattle.nk_words.specs.declared.words.Command.TheVariants as command;
-ghost use Rattle.nk.specs.CertifiedText.{IsTold};
+ghost use Rattle.nk.specs.CertifiedText.{TellsNoFault};
 ghost use Rattle.nk.specs.Checking.{ToChecked};
 ghost use Rattle.nk.specs.Ends.{IsMeantTo};
 ghost use Rattle.nk.specs.Reply.{answer_in, said};
@@ -66,7 +66,7 @@ fn answer_to_certificate(
 ) -> Result<Said, AllocError>
     requires is { IsProgram program.now.fields program.now.topo program.now.lets }
     requires predicates { HasPredicates (certificate_value certificate.now) }
-    ensures { IfOk result (λ s. IsTold (λ o. ToChecked (said_by program.now) left.now right.now (certificate_value certificate.now) o) (said s)) }
+    ensures { IfOk result (λ s. TellsNoFault (λ o. ToChecked (said_by program.now) left.now right.now (certificate_value certificate.now) o) (said s)) }
 {
     // This is a law: policies with a certificate give the same histories.
     a_certificate_shows_equality();

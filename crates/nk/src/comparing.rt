@@ -1,5 +1,5 @@
 //! The answer of `equal LEFT RIGHT`.
-ghost use Rattle.std.specs.Prelude.{◌≡◌, IfOk};
+ghost use Rattle.std.specs.Prelude.{IfOk};
 ghost use Rattle.nk_names.specs.ProgramOf.{said_by};
 ghost use Rattle.nk_names.specs.ProgramValue.{IsProgram};
 ghost use Rattle.nk.specs.Comparing.{IsEqualAnswer, ToCompared};

@@ -1,9 +1,9 @@
 //! The answer of `compile NAME`.
-ghost use Rattle.std.specs.Prelude.{◌≡◌, IfOk};
+ghost use Rattle.std.specs.Prelude.{IfOk};
 ghost use Rattle.nk_names.specs.ProgramOf.{said_by};
 ghost use Rattle.nk_names.specs.ProgramValue.{IsProgram};
 ghost use Rattle.nk.specs.Compiling.{IsCompileAnswer, ToProgram};
-ghost use Rattle.nk.specs.Declarable.{IsDeclared};
+ghost use Rattle.nk.specs.Declarable.{CanBeDeclared};
 ghost use Rattle.nk.specs.Reply.{said};
 
 use crate::Said;
@@ -28,7 +28,7 @@ pub(crate) fn compile_answer(alloc: Global, name: &str, bytes: &[u8]) -> Result<
 /// The same over a program.
 fn answer_to_program(alloc: Global, name: &str, program: &Program) -> Result<Said, AllocError>
     requires is { IsProgram program.now.fields program.now.topo program.now.lets }
-    requires declared { IsDeclared (said_by program.now) }
+    requires declared { CanBeDeclared (said_by program.now) }
     ensures { IfOk result (λ s. ToProgram (said_by program.now) name.now (said s)) }
 {
     // These are laws: what is compiled is in order, and such as is read back, and that is read back.

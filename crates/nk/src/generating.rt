@@ -1,11 +1,11 @@
 //! The answers of `gen SIZE SEED` and `job SIZE SEED`.
-ghost use Rattle.std.specs.Prelude.{◌≡◌, ◌≤◌, ◌++◌, IfOk, OnOk, List, ℕ, length};
+ghost use Rattle.std.specs.Prelude.{◌≡◌, ◌≤◌, IfOk, List, ℕ, length};
 ghost use Rattle.std.specs.List.{sum_by};
 ghost use Rattle.nk_names.specs.ProgramOf.{said_by};
 ghost use Rattle.nk_names.specs.ProgramValue.{IsProgram};
 ghost use Rattle.nk.specs.Comparing.{ToCompared};
 ghost use Rattle.nk.specs.Compiling.{ToProgram};
-ghost use Rattle.nk.specs.Declarable.{IsDeclared};
+ghost use Rattle.nk.specs.Declarable.{CanBeDeclared};
 ghost use Rattle.nk.specs.Generating.{CountsRows, CountsTables, IsGenAnswer, IsJobAnswer, IsJobOver, rows_line, tables_line};
 ghost use Rattle.nk.specs.JobSteps.{IsJobStep};
 ghost use Rattle.nk.specs.ProgramText.{Declares};
@@ -66,7 +66,7 @@ fn job_over(alloc: Global, bytes: &[u8]) -> Result<Said, AllocError>
 /// The same over a program: the first answer that isn't that its command is done, or else the lines of all three.
 fn job_of_program(alloc: Global, program: &Program) -> Result<Said, AllocError>
     requires is { IsProgram program.now.fields program.now.topo program.now.lets }
-    requires declared { IsDeclared (said_by program.now) }
+    requires declared { CanBeDeclared (said_by program.now) }
     ensures { IfOk result (λ s. (bytes : List ℕ) → Declares bytes (said_by program.now) → IsJobOver bytes (said s)) }
 {
     let mut out = match count_tables(alloc, program, "go")? {
@@ -89,7 +89,7 @@ fn job_of_program(alloc: Global, program: &Program) -> Result<Said, AllocError>
 /// The line of a policy's tables, or the answer of `compile` where it isn't done.
 fn count_tables(alloc: Global, program: &Program, name: &str) -> Result<Step, AllocError>
     requires is { IsProgram program.now.fields program.now.topo program.now.lets }
-    requires declared { IsDeclared (said_by program.now) }
+    requires declared { CanBeDeclared (said_by program.now) }
     ensures { IfOk result (IsJobStep (ToProgram (said_by program.now) name.now) (CountsTables program.now name.now)) }
 {
     // These two are laws: what is compiled is such as is read back, and that is read back.

@@ -1,12 +1,12 @@
 //! The answer of `check_apart NAME A B` and of `check_waypoint NAME A W B`.
-ghost use Rattle.std.specs.Prelude.{◌≡◌, IfOk, Some};
+ghost use Rattle.std.specs.Prelude.{IfOk, Some};
 ghost use Rattle.nk_names.specs.ProgramOf.{said_by};
 ghost use Rattle.nk_names.specs.ProgramValue.{IsProgram};
 ghost use Rattle.nk_cert.specs.Values.{certificate_value};
 ghost use Rattle.nk_cert.specs.Verdicts.{HasPredicates};
-ghost use Rattle.nk_query.specs.Answers.{asked_of};
+ghost use Rattle.nk_query.specs.Answers.{asked_in};
 ghost use Rattle.nk_words.specs.declared.words.Command.TheVariants as command;
-ghost use Rattle.nk.specs.CertifiedText.{IsTold};
+ghost use Rattle.nk.specs.CertifiedText.{TellsNoFault};
 ghost use Rattle.nk.specs.Ends.{IsMeantTo};
 ghost use Rattle.nk.specs.Judging.{ToJudged};
 ghost use Rattle.nk.specs.Reply.{answer_in, said};
@@ -24,10 +24,10 @@ use nk_words::Bytes;
 use std::alloc::{AllocError, Global};
 
 impl<'a> Judge for Query<'a> {
-    ghost use Rattle.nk_query.specs.Answers.{asked_of};
+    ghost use Rattle.nk_query.specs.Answers.{asked_in};
     ghost use Rattle.nk.specs.Judging.{ToJudged};
 
-    ghost tells = { λ query said c o. ToJudged said (asked_of query) c o };
+    ghost tells = { λ query said c o. ToJudged said (asked_in query) c o };
 
     fn judge(
         &self,
@@ -77,7 +77,7 @@ fn answer_to_certificate(
 ) -> Result<Said, AllocError>
     requires is { IsProgram program.now.fields program.now.topo program.now.lets }
     requires predicates { HasPredicates (certificate_value certificate.now) }
-    ensures { IfOk result (λ s. IsTold (λ o. ToJudged (said_by program.now) (asked_of query.now) (certificate_value certificate.now) o) (said s)) }
+    ensures { IfOk result (λ s. TellsNoFault (λ o. ToJudged (said_by program.now) (asked_in query.now) (certificate_value certificate.now) o) (said s)) }
 {
     match check_query(alloc, program, query, certificate) {
         Ok(Verdict::Valid) => Ok(Said::Done(Vec::from_slice(alloc, b"valid\n")?)),

@@ -1,7 +1,7 @@
 //! What is said of texts, policies and queries that are refused, of differences and breaks, and of rows that fail.
 ghost use Rattle.std.specs.Prelude.{◌≡◌, ◌++◌, IfOk, OnOk, codes, decimal};
 ghost use Rattle.nk_bisim.specs.Answers.{whose};
-ghost use Rattle.nk_cert.specs.Values.{part_of};
+ghost use Rattle.nk_cert.specs.Values.{row_part};
 ghost use Rattle.nk_compile.specs.Refusals.{found_from};
 ghost use Rattle.nk_reach.specs.Finds.{found_of};
 ghost use Rattle.nk.specs.Asking.{broken_lines};
@@ -163,7 +163,7 @@ pub(crate) fn invalid_message(
     row: u64,
     part: CertPart,
 ) -> Result<Vec<u8>, AllocError>
-    ensures { IfOk result (λ v. v.items ≡ invalid_line row (part_of part)) }
+    ensures { IfOk result (λ v. v.items ≡ invalid_line row (row_part part)) }
 {
     let mut buffer = Buffer::new();
     let mut message = Vec::new(alloc);
@@ -177,7 +177,7 @@ pub(crate) fn invalid_message(
 
 /// The word for a part of a row.
 fn word_of(part: CertPart) -> &'static str
-    ensures { result.now ≡ part_word (part_of part) }
+    ensures { result.now ≡ part_word (row_part part) }
 {
     match part {
         CertPart::Position => "position",

@@ -20,7 +20,7 @@ use Rattle.nk_runs.specs.Labels.{IsAmong}
 use Rattle.nk_runs.proofs.Walking.{walk_in_range, walks_met, walk_places, given_walked}
 use Rattle.nk_cert.specs.Equality.{Side, on_left, on_right, IsAloneFrom, IsOfOneAlone, IsLeastDifference}
 use Rattle.nk_cert.specs.Together.{either_of, IsAtEither, EndsWithin}
-use Rattle.nk_cert.specs.Levelled.{IsAutomatonOfBoth, HasEach, IsOneSided, target_of}
+use Rattle.nk_cert.specs.Levelled.{IsAutomatonOfBoth, HasEach, IsOneSided, target_of_side}
 use Rattle.nk_cert.proofs.Together.{sides_of, exact_for, either_at, either_distinct}
 use Rattle.nk_cert.proofs.Levels.{left_ends_at, right_ends_at}
 
@@ -122,7 +122,7 @@ module _ (fields : FieldTable) (st : Held) (states : List ℕ) (left right : ℕ
 
     module _ (each : HasEach st start) where
       -- from all packets
-      of_side : (side : Side) (f : Found) → IsBreak st states (0 ∷ []) start bad (target_of side) f → IsOfOneAlone fields p q side f
+      of_side : (side : Side) (f : Found) → IsBreak st states (0 ∷ []) start bad (target_of_side side) f → IsOfOneAlone fields p q side f
       of_side on_left f b =
           let h = (left_breaks f).0 b in (packet_of_fields fields st f.start a.over h.0.0, h.1, h.2)
       of_side on_right f b =
@@ -142,7 +142,7 @@ module _ (fields : FieldTable) (st : Held) (states : List ℕ) (left right : ℕ
           (no_other_breaks b.0 f b.1)
 
       -- so the least that breaks is the least difference
-      pub least_difference : (side : Side) (f : Found) → IsBreak st states (0 ∷ []) start bad (target_of side) f
+      pub least_difference : (side : Side) (f : Found) → IsBreak st states (0 ∷ []) start bad (target_of_side side) f
           → IsLeast (λ g. Breaks st states (0 ∷ []) start bad g) f → IsLeastDifference fields p q side f
       least_difference side f b least =
           (of_side side f b, (some_side f least.0, λ g h. least.1 g (breaks_by h.0 g h.1)))

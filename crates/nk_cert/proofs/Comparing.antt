@@ -29,7 +29,7 @@ use Rattle.nk_reach.proofs.Settling.{levels_now}
 use Rattle.nk_cert.specs.Equality.{on_left, on_right, AreSame, IsOfOneAlone, IsLeastDifference}
 use Rattle.nk_cert.specs.Equality.{Side as SideOfBoth}
 use Rattle.nk_cert.specs.Together.{either_of}
-use Rattle.nk_cert.specs.Levelled.{IsAutomatonOfBoth, HasEach, AreLevelsOfBoth, AreSideLevels, target_of}
+use Rattle.nk_cert.specs.Levelled.{IsAutomatonOfBoth, HasEach, AreLevelsOfBoth, AreSideLevels, target_of_side}
 use Rattle.nk_cert.specs.Certificates.{CertificateValue, IsCertificate}
 use Rattle.nk_cert.specs.FromLevels.{IsCertificateOf}
 use Rattle.nk_cert.specs.Printed.{IsPrinted}
@@ -46,7 +46,7 @@ use Rattle.nk_cert.specs.declared.compared.Compared.{Compared}
 use Rattle.nk_cert.specs.declared.compared.Compared.TheVariants.{Related, Broken}
 
 -- both tell a side by one number
-same_target : (side : Side) → witness_target side ≡ target_of (whose side)
+same_target : (side : Side) → witness_target side ≡ target_of_side (whose side)
 same_target Left = refl
 same_target Right = refl
 

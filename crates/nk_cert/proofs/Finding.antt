@@ -22,11 +22,11 @@ use Rattle.nk_cert.specs.declared.certificate.CertPart.TheVariants.{Position, St
 use Rattle.nk_cert.specs.declared.certificate.Verdict.{Verdict}
 use Rattle.nk_cert.specs.declared.certificate.Verdict.TheVariants.{Valid, Invalid}
 use Rattle.nk_cert.specs.Together.{either_of}
-use Rattle.nk_cert.specs.Certificates.{at_start, behind, RowValue, CertificateValue, CertRow, later_row, rows_of, Holds, IsPlaceOf, HasAll, MeetsPosition, MeetsStart, MeetsFinals, MeetsHop, MeetsAll}
+use Rattle.nk_cert.specs.Certificates.{at_start, behind, RowValue, CertificateValue, CertRow, later_row, certificate_rows, Holds, IsPlaceOf, HasAllPackets, MeetsPosition, MeetsStart, MeetsFinals, MeetsHop, MeetsAll}
 use Rattle.nk_cert.specs.Verdicts.{FailsIn, FailsFirst, IsFinding}
 use Rattle.nk_cert.specs.Levelled.{IsAutomatonOfBoth, IsOneSided, HasEach}
 use Rattle.nk_cert.specs.Checked.{labels_at, IsSetAt, HasNoBad, StepsLeadToRows}
-use Rattle.nk_cert.specs.Values.{part_of, finding_of}
+use Rattle.nk_cert.specs.Values.{row_part, finding_of}
 use Rattle.nk_cert.specs.Judged.{AreLabels, IsStartEntryOf, AreEntriesOf, AreTold, row_at, entry_at, StepsStay, SomeStepLeaves, IsRowJudged, IsStartJudged, IsLaterFailure, IsJudged}
 use Rattle.nk_cert.proofs.CertRows.{position_is, finals_is, hop_is}
 use Rattle.nk_cert.proofs.Findings.{each_decided}
@@ -103,10 +103,10 @@ module _ (fields : FieldTable) (st : Held) (states : List ℕ) (left right : ℕ
     no_bad none pk range holds = none pk range ((keeps pk range).0 holds)
 
     -- where steps lead to rows they stay
-    steps_stay : StepsLeadToRows st states (rows_of c) row set → StepsStay st ss states bad told set x
+    steps_stay : StepsLeadToRows st states (certificate_rows c) row set → StepsStay st ss states bad told set x
     steps_stay h pk n range has step =
         let r = h pk n.1 n.0 range ((keeps pk range).1 has) step in
-        let k = placed c.rows (later_row r.0 r.1) (later_in (later_row r.0 r.1) r.0 refl (in_from_contains (rows_of c) (later_row r.0 r.1) r.2)) in
+        let k = placed c.rows (later_row r.0 r.1) (later_in (later_row r.0 r.1) r.0 refl (in_from_contains (certificate_rows c) (later_row r.0 r.1) r.2)) in
         let positions : (row_at c.rows k.0).positions ≡ r.0 = sym (ap (λ (z : CertRow). labels_at z.place) k.2) in
         let predicate : (row_at c.rows k.0).predicate ≡ r.1 = sym (ap (λ (z : CertRow). z.predicate) k.2) in
         let entry = es.each k.0 k.1 in
@@ -122,12 +122,12 @@ module _ (fields : FieldTable) (st : Held) (states : List ℕ) (left right : ℕ
         let under = under_at st entries k.0 (entry_at entries k.0) n.1 lt (get_or_same entries k.0 (0, 0) (entry_at entries k.0) lt) here in
         ((entry_at entries k.0).0, one, t.every (entry_at entries k.0).0 n.1 step.packet under)
       where
-        later_in : (z : CertRow) (positions : List ℕ) → z.place ≡ behind positions → In (rows_of c) z → In (map later_of c.rows) z
+        later_in : (z : CertRow) (positions : List ℕ) → z.place ≡ behind positions → In (certificate_rows c) z → In (map later_of c.rows) z
         later_in z positions is (inl e) = let f : at_start ≡ behind positions = sym (ap (λ (y : CertRow). y.place) e) ∙ is in absurd cc
         later_in z positions is (inr i) = i
 
     -- where steps stay they lead to rows
-    steps_lead : StepsStay st ss states bad told set x → StepsLeadToRows st states (rows_of c) row set
+    steps_lead : StepsStay st ss states bad told set x → StepsLeadToRows st states (certificate_rows c) row set
     steps_lead stay pk y next range holds step =
         let w = stay pk (next, y) range ((keeps pk range).0 holds) step in
         let k = entry_of st entries w.0 y (t.from w.0 y step.packet w.2) in
@@ -138,7 +138,7 @@ module _ (fields : FieldTable) (st : Held) (states : List ℕ) (left right : ℕ
         (λ are. (
           (row_at c.rows k.0).positions,
           (row_at c.rows k.0).predicate,
-          contains_from_in (rows_of c) (later_of (row_at c.rows k.0)) (inr (in_rows c.rows k.0 lt)),
+          contains_from_in (certificate_rows c) (later_of (row_at c.rows k.0)) (inr (in_rows c.rows k.0 lt)),
           λ l. (
             λ m. subst (λ z. Contains z l) members ((entry.members are l).1 m),
             λ m. (entry.members are l).0 (subst (λ z. Contains z l) (sym members) m),
@@ -152,38 +152,38 @@ module _ (fields : FieldTable) (st : Held) (states : List ℕ) (left right : ℕ
     finals_met : PairNone st x (bad set) → MeetsFinals fields p q row
     finals_met none = (finals_is fields st states left right p q a bad goal row ok set same).1 (no_bad none)
 
-    row_meets : PairNone st x (bad set) → StepsStay st ss states bad told set x → MeetsAll fields p q (rows_of c) row
+    row_meets : PairNone st x (bad set) → StepsStay st ss states bad told set x → MeetsAll fields p q (certificate_rows c) row
     row_meets none stay = record {
       position = ok;
       start = begun;
       finals = finals_met none;
-      hop = (hop_is fields st states left right p q a (rows_of c) row ok set same).1 (steps_lead stay);
+      hop = (hop_is fields st states left right p q a (certificate_rows c) row ok set same).1 (steps_lead stay);
     }
 
     row_ends : PairBad st x (bad set) → MeetsFinals fields p q row → ⊥
     row_ends m f =
         m.3 ((finals_is fields st states left right p q a bad goal row ok set same).0 f m.0 m.1 ((keeps m.0 m.1).1 m.2))
 
-    row_leaves : SomeStepLeaves st ss states bad told set x → MeetsHop fields p q (rows_of c) row → ⊥
+    row_leaves : SomeStepLeaves st ss states bad told set x → MeetsHop fields p q (certificate_rows c) row → ⊥
     row_leaves m h =
-        m.5 (steps_stay ((hop_is fields st states left right p q a (rows_of c) row ok set same).0 h) m.0 m.1 m.2 m.3 m.4)
+        m.5 (steps_stay ((hop_is fields st states left right p q a (certificate_rows c) row ok set same).0 h) m.0 m.1 m.2 m.3 m.4)
 
   -- the start row is judged by its entry
   start_same : IsSetAt at_start (get_or ss start.0 [])
   start_same = subst (IsSetAt at_start) (sym s.members) (λ l. (λ m. m, λ m. m))
 
-  start_has : HasEach st start.1 → HasAll fields at_start c.start
+  start_has : HasEach st start.1 → HasAllPackets fields at_start c.start
   start_has each pk good = let range = packet_in_range fields st pk a.over good in (s.packets.keeps pk range).1 (each pk range)
 
-  start_lacks : (HasEach st start.1 → ⊥) → HasAll fields at_start c.start → ⊥
+  start_lacks : (HasEach st start.1 → ⊥) → HasAllPackets fields at_start c.start → ⊥
   start_lacks other has = other (λ pk range. (s.packets.keeps pk range).0 (has pk (packet_of_fields fields st pk a.over range)))
 
-  start_meets : IsStartJudged st ss states bad told start None → MeetsAll fields p q (rows_of c) (start_row c)
+  start_meets : IsStartJudged st ss states bad told start None → MeetsAll fields p q (certificate_rows c) (start_row c)
   start_meets j =
       row_meets (start_row c) (get_or ss start.0 []) start.1 tt (start_has j.0) start_same s.pair.places s.packets.keeps j.1.0 j.1.1
 
   start_fails : (k : CertPart) → IsStartJudged st ss states bad told start (Some k)
-      → FailsIn fields p q (rows_of c) (start_row c) (part_of k)
+      → FailsIn fields p q (certificate_rows c) (start_row c) (row_part k)
   start_fails Position j = absurd j
   start_fails Start j = (tt, start_lacks j)
   start_fails Finals j = (
@@ -200,13 +200,13 @@ module _ (fields : FieldTable) (st : Held) (states : List ℕ) (left right : ℕ
 
   -- a later row is judged by its entry
   later_meets : (k : ℕ) → k < length c.rows → IsRowJudged st ss states bad told (row_at c.rows k).positions (entry_at entries k) None
-      → MeetsAll fields p q (rows_of c) (later_of (row_at c.rows k))
+      → MeetsAll fields p q (certificate_rows c) (later_of (row_at c.rows k))
   later_meets k lt j =
       let e = es.each k lt in
       row_meets (later_of (row_at c.rows k)) (get_or ss (entry_at entries k).0 []) (entry_at entries k).1 ((label_is (row_at c.rows k).positions).0 j.0) tt (e.members j.0) e.pair.places (e.keeps j.0) j.1.0 j.1.1
 
   later_fails : (k : ℕ) → k < length c.rows → (in_part : CertPart) → IsRowJudged st ss states bad told (row_at c.rows k).positions (entry_at entries k) (Some in_part)
-      → FailsIn fields p q (rows_of c) (later_of (row_at c.rows k)) (part_of in_part)
+      → FailsIn fields p q (certificate_rows c) (later_of (row_at c.rows k)) (row_part in_part)
   later_fails k lt Position j = λ place. j ((label_is (row_at c.rows k).positions).1 place)
   later_fails k lt Start j = absurd j
   later_fails k lt Finals j =
@@ -227,32 +227,32 @@ module _ (fields : FieldTable) (st : Held) (states : List ℕ) (left right : ℕ
 
   -- a later row fails first
   later_first : (k n : ℕ) (in_part : CertPart) → n ≡ k + 2 → IsLaterFailure st ss states bad told start c.rows entries k in_part
-      → FailsFirst fields p q (rows_of c) n (part_of in_part)
+      → FailsFirst fields p q (certificate_rows c) n (row_part in_part)
   later_first k n in_part is f = record {
     before = start_row c ∷ map later_of (take k c.rows);
     row = later_of (row_at c.rows k);
     later = map later_of (drop (suc k) c.rows);
     is = ap (λ l. start_row c ∷ l) (split_at c.rows k f.within);
     number = omega (arith, count_before c.rows k f.within, is);
-    met = all_from_members (λ r. MeetsAll fields p q (rows_of c) r) (start_row c ∷ map later_of (take k c.rows)) met;
+    met = all_from_members (λ r. MeetsAll fields p q (certificate_rows c) r) (start_row c ∷ map later_of (take k c.rows)) met;
     fails = later_fails k f.within in_part f.fails;
   }
     where
-      met : (r : CertRow) → In (start_row c ∷ map later_of (take k c.rows)) r → MeetsAll fields p q (rows_of c) r
-      met r (inl e) = subst (λ z. MeetsAll fields p q (rows_of c) z) (sym e) (start_meets f.first)
+      met : (r : CertRow) → In (start_row c ∷ map later_of (take k c.rows)) r → MeetsAll fields p q (certificate_rows c) r
+      met r (inl e) = subst (λ z. MeetsAll fields p q (certificate_rows c) z) (sym e) (start_meets f.first)
       met r (inr i) =
           let w = placed_before c.rows k r (omega (arith, f.within)) i in
-          subst (λ z. MeetsAll fields p q (rows_of c) z) (sym w.2) (later_meets w.0 (omega (arith, w.1, f.within)) (f.before w.0 w.1))
+          subst (λ z. MeetsAll fields p q (certificate_rows c) z) (sym w.2) (later_meets w.0 (omega (arith, w.1, f.within)) (f.before w.0 w.1))
 
   -- what is found
   pub found : (v : Verdict) → IsJudged st ss states bad told start c.rows entries v → IsFinding fields p q c (finding_of v)
-  found Valid j = λ row m. each row (in_from_contains (rows_of c) row m)
+  found Valid j = λ row m. each row (in_from_contains (certificate_rows c) row m)
     where
-      each : (row : CertRow) → In (rows_of c) row → MeetsAll fields p q (rows_of c) row
-      each row (inl e) = subst (λ z. MeetsAll fields p q (rows_of c) z) (sym e) (start_meets j.0)
+      each : (row : CertRow) → In (certificate_rows c) row → MeetsAll fields p q (certificate_rows c) row
+      each row (inl e) = subst (λ z. MeetsAll fields p q (certificate_rows c) z) (sym e) (start_meets j.0)
       each row (inr i) =
           let w = placed c.rows row i in
-          subst (λ z. MeetsAll fields p q (rows_of c) z) (sym w.2) (later_meets w.0 w.1 (j.1 w.0 w.1))
+          subst (λ z. MeetsAll fields p q (certificate_rows c) z) (sym w.2) (later_meets w.0 w.1 (j.1 w.0 w.1))
   found (Invalid n in_part) (inl j) = record {
     before = [];
     row = start_row c;

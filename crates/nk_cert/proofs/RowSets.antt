@@ -23,7 +23,7 @@ use Rattle.nk_reach.proofs.Kept.{packet_back, has_on, has_back}
 use Rattle.nk_reach.proofs.Growing.{sets_same, pair_on, packets_of, pairs_of, named_known, under_on, under_back}
 use Rattle.nk_cert.specs.Certificates.{behind, RowValue}
 use Rattle.nk_cert.specs.Checked.{IsSetAt}
-use Rattle.nk_cert.specs.Values.{row_value, row_values}
+use Rattle.nk_cert.specs.Values.{held_row_value, row_values}
 use Rattle.nk_cert.specs.Judged.{IsPacketsOf, AreLabels, IsEntryOf, AreEntriesOf, AreTold, row_at, entry_at}
 
 -- numbers that were sorted and whose doubles were dropped
@@ -90,7 +90,7 @@ packets_on a b predicate d g k = record {
 }
 
 -- the row at a place of rows that are held
-pub row_is : (rows : List (List ℕ × Pol)) (k : ℕ) (d : List ℕ × Pol) → k < length rows → row_at (row_values rows) k ≡ row_value (get_or rows k d)
+pub row_is : (rows : List (List ℕ × Pol)) (k : ℕ) (d : List ℕ × Pol) → k < length rows → row_at (row_values rows) k ≡ held_row_value (get_or rows k d)
 row_is [] k d lt = absurd (omega (arith, lt))
 row_is (r ∷ rs) zero d lt = refl
 row_is (r ∷ rs) (suc k) d lt = row_is rs k d (omega (arith, lt))
@@ -100,7 +100,7 @@ pub row_from : (rows : List (List ℕ × Pol)) (k : ℕ) (r : List ℕ × Pol) (
     → row_at (row_values rows) k ≡ record { positions = positions; predicate = tree_of r.1 }
 row_from rows k r positions lt is same =
     let f : List ℕ → RowValue = λ ps. record { positions = ps; predicate = tree_of r.1 } in
-    row_is rows k r lt ∙ ap row_value (sym is) ∙ ap f (sym same)
+    row_is rows k r lt ∙ ap held_row_value (sym is) ∙ ap f (sym same)
 
 -- and these are the positions at its place
 pub labels_of : (rows : List (List ℕ × Pol)) (k : ℕ) (r : List ℕ × Pol) (positions : List ℕ) → k < length rows → r ≡ get_or rows k r → positions ≡ r.0

@@ -10,9 +10,9 @@ use Rattle.nk_store.specs.Held.{Held, Grows}
 use Rattle.nk_determ.specs.Sets.{SetsGrow, IsSetOf}
 use Rattle.nk_reach.specs.Pairs.{HavePlaces}
 use Rattle.nk_reach.proofs.Growing.{pair_on, sets_same}
-use Rattle.nk_cert.specs.Certificates.{at_start, RowValue, CertificateValue, CertRow, rows_of, later_row}
+use Rattle.nk_cert.specs.Certificates.{at_start, RowValue, CertificateValue, CertRow, certificate_rows, later_row}
 use Rattle.nk_cert.specs.Verdicts.{HasPredicates}
-use Rattle.nk_cert.specs.Values.{row_value, row_values}
+use Rattle.nk_cert.specs.Values.{held_row_value, row_values}
 use Rattle.nk_cert.specs.Judged.{IsPacketsOf, IsStartEntryOf}
 use Rattle.nk_cert.proofs.RowSets.{packets_on}
 
@@ -46,12 +46,12 @@ start_on a b ss nss n predicate e g h k = record {
 pub start_predicate : (c : CertificateValue) → HasPredicates c → is_predicate c.start ≡ true
 start_predicate c h =
     let row : CertRow = record { place = at_start; predicate = c.start } in
-    h row (contains_from_in (rows_of c) row (inl refl))
+    h row (contains_from_in (certificate_rows c) row (inl refl))
 
 -- and so are those of the rows that are held
 pub later_predicates : (start : Policy) (rows : List (List ℕ × Pol)) → HasPredicates (record { start = start; rows = row_values rows })
     → All (λ r. is_predicate (tree_of r.1) ≡ true) rows
 later_predicates start rows h =
     all_from_members (λ r. is_predicate (tree_of r.1) ≡ true) rows
-    (λ r i. h (later_row r.0 (tree_of r.1)) (contains_from_in (rows_of (record { start = start; rows = row_values rows })) (later_row r.0 (tree_of r.1)) (inr
-    (in_mapped (λ (v : RowValue). later_row v.positions v.predicate) (row_values rows) (row_value r) (in_mapped row_value rows r i)))))
+    (λ r i. h (later_row r.0 (tree_of r.1)) (contains_from_in (certificate_rows (record { start = start; rows = row_values rows })) (later_row r.0 (tree_of r.1)) (inr
+    (in_mapped (λ (v : RowValue). later_row v.positions v.predicate) (row_values rows) (held_row_value r) (in_mapped held_row_value rows r i)))))

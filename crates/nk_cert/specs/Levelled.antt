@@ -51,9 +51,9 @@ pub record AreJoined (of_left of_right states : List ℕ) (p q : Policy) : Type 
   pub right : (i : ℕ) → i < dups_of q → slice_index states (1 + (dups_of p + i)) ≡ slice_index of_right (1 + i)
 
 -- the target of a bad final of that side
-abbrev pub target_of : Side → ℕ
-target_of on_left = 0
-target_of on_right = 1
+abbrev pub target_of_side : Side → ℕ
+target_of_side on_left = 0
+target_of_side on_right = 1
 
 -- Levels of states from all packets up to an end of one side alone, as they are made in a store that has grown since `first`:
 -- the labels below the bound are the left side's and the others the right one's, and each side has its own start. The ends

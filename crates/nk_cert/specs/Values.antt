@@ -11,25 +11,25 @@ use Rattle.nk_cert.specs.Certificates.{RowValue, CertificateValue}
 use Rattle.nk_cert.specs.Verdicts.{RowPart, position_part, start_part, finals_part, hop_part, Finding, valid, invalid}
 
 -- a row that is held: its positions and its predicate
-abbrev pub row_value : List ℕ × Pol → RowValue
-row_value r = record { positions = r.0; predicate = tree_of r.1 }
+abbrev pub held_row_value : List ℕ × Pol → RowValue
+held_row_value r = record { positions = r.0; predicate = tree_of r.1 }
 
 -- the rows that are held
 abbrev pub row_values : List (List ℕ × Pol) → List RowValue
-row_values rows = map row_value rows
+row_values rows = map held_row_value rows
 
 -- the certificate that is held
 abbrev pub certificate_value : Certificate → CertificateValue
 certificate_value c = record { start = tree_of c.start; rows = row_values c.rows }
 
 -- a part that is named
-abbrev pub part_of : CertPart → RowPart
-part_of Position = position_part
-part_of Start = start_part
-part_of Finals = finals_part
-part_of Hop = hop_part
+abbrev pub row_part : CertPart → RowPart
+row_part Position = position_part
+row_part Start = start_part
+row_part Finals = finals_part
+row_part Hop = hop_part
 
 -- the finding that a verdict tells
 abbrev pub finding_of : Verdict → Finding
 finding_of Valid = valid
-finding_of (Invalid row part) = invalid row (part_of part)
+finding_of (Invalid row part) = invalid row (row_part part)

@@ -17,11 +17,11 @@ use crate::entries::{row_entries, start_entry};
 use crate::judge::{Judge, judge_rows};
 use crate::pairing::{Both, automaton_of_both, number_behind};
 use indexmap::IndexMap;
-use nk_determ::{SetId, Sets};
-use nk_field::{Fields, List};
+use nk_determ::Sets;
+use nk_field::Fields;
 use nk_policy::Pol;
 use nk_reach::{OneSide, merge};
-use nk_store::{Id, Store};
+use nk_store::Store;
 use std::alloc::{AllocError, Global};
 
 /// What is found of a certificate of two policies: that each row meets its four parts, or the first row that fails, and

@@ -7,7 +7,7 @@ ghost use Rattle.nk_reach.specs.Sides.{alone, ends_of};
 ghost use Rattle.nk_cert.specs.Values.{row_values};
 ghost use Rattle.nk_cert.specs.Judged.{CanJudge, AreLabels, AreEntriesOf, IsSetJudged, IsRowJudged, IsStartJudged, IsJudged, row_at, entry_at};
 
-use crate::certificate::{CertPart, Certificate, Verdict};
+use crate::certificate::{CertPart, Verdict};
 use crate::entries::are_labels;
 use crate::packets::has_each;
 use indexmap::IndexMap;

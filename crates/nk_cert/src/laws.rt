@@ -21,11 +21,11 @@ ghost use Rattle.nk_reach.specs.Sides.{alone, ends_of, AreOneSided};
 ghost use Rattle.nk_reach.specs.Breaks.{IsBreak, Breaks};
 ghost use Rattle.nk_runs.specs.Labels.{IsAmong};
 ghost use Rattle.nk_cert.specs.Equality.{Side, AreSame, HasOneAlone, IsAloneFrom, IsLeastDifference};
-ghost use Rattle.nk_cert.specs.Together.{AreNumbered, either_of, AgreeBySets, HaveSets};
-ghost use Rattle.nk_cert.specs.Certificates.{CertificateValue, CertRow, behind, rows_of, IsPlaceOf, MeetsPosition, MeetsFinals, MeetsHop, IsCertificate};
+ghost use Rattle.nk_cert.specs.Together.{AreNumbered, either_of, AgreeBySets, HavePositionSets};
+ghost use Rattle.nk_cert.specs.Certificates.{CertificateValue, CertRow, behind, certificate_rows, IsPlaceOf, MeetsPosition, MeetsFinals, MeetsHop, IsCertificate};
 ghost use Rattle.nk_cert.specs.Verdicts.{Finding, hop_part, IsFinding, FailsFirst, HasPredicates, ArePartsDecided};
 ghost use Rattle.nk_cert.specs.Printed.{IsPrinted};
-ghost use Rattle.nk_cert.specs.Levelled.{IsAutomatonOfBoth, HasEach, IsOneSided, AreLevelsOfBoth, AreJoined, target_of, AreSideLevels};
+ghost use Rattle.nk_cert.specs.Levelled.{IsAutomatonOfBoth, HasEach, IsOneSided, AreLevelsOfBoth, AreJoined, target_of_side, AreSideLevels};
 ghost use Rattle.nk_cert.specs.FromLevels.{IsCertificateOf};
 ghost use Rattle.nk_cert.specs.Worked.{left_policy, right_policy, small, short};
 ghost use Rattle.nk_cert.specs.Checked.{IsSetAt, HasNoBad, StepsLeadToRows};
@@ -70,7 +70,7 @@ pub fn one_thing_is_found()
     ensures not_nothing { (fields : FieldTable) (p q : Policy) (c : CertificateValue)
         → ((v : Finding) → IsFinding fields p q c v → ⊥) → ⊥ }
     ensures decided { (fields : FieldTable) (p q : Policy) (c : CertificateValue)
-        → ((row : CertRow) → Contains (rows_of c) row → ArePartsDecided fields p q (rows_of c) row)
+        → ((row : CertRow) → Contains (certificate_rows c) row → ArePartsDecided fields p q (certificate_rows c) row)
         → (v : Finding) × IsFinding fields p q c v }
     ensures automaton { (fields : FieldTable) (st : Held) (states : List ℕ) (left right : ℕ) (p q : Policy)
         → IsAutomatonOfBoth fields st states left right p q
@@ -82,7 +82,7 @@ pub fn one_thing_is_found()
 pub fn worked_certificates()
     ensures is_one { (fields : FieldTable) → IsCertificate fields left_policy right_policy small }
     ensures fails { (fields : FieldTable) (pk : Packet) → IsPacketOf fields pk
-        → FailsFirst fields left_policy right_policy (rows_of short) 1 hop_part }
+        → FailsFirst fields left_policy right_policy (certificate_rows short) 1 hop_part }
 {}
 
 /// Both policies give the same histories exactly where, for every start packet and all records, the left and the right
@@ -90,9 +90,9 @@ pub fn worked_certificates()
 pub fn equality_is_by_sets()
     ensures members { (fields : FieldTable) (p q : Policy) → AreSides p q → AreSame fields p q → AgreeBySets fields p q }
     ensures histories { (fields : FieldTable) (p q : Policy) → AreSides p q
-        → HaveSets fields p q → AgreeBySets fields p q → AreSame fields p q }
+        → HavePositionSets fields p q → AgreeBySets fields p q → AreSame fields p q }
     ensures sets { (fields : FieldTable) (st : Held) (states : List ℕ) (left right : ℕ) (p q : Policy)
-        → IsAutomatonOfBoth fields st states left right p q → HaveSets fields p q }
+        → IsAutomatonOfBoth fields st states left right p q → HavePositionSets fields p q }
     ensures exactly { (fields : FieldTable) (st : Held) (states : List ℕ) (left right : ℕ) (p q : Policy)
         → IsAutomatonOfBoth fields st states left right p q → AreSame fields p q ↔ AgreeBySets fields p q }
 {}
@@ -186,7 +186,7 @@ pub fn histories_of_one_side_break()
         → IsAutomatonOfBoth fields st states left right p q
         → (bad : List ℕ → List ℕ → List Out) → IsOneSided st states left right (1 + dups_of p) bad
         → (start : ℕ) → HasEach st start → (side : Side) (f : Found)
-        → IsBreak st states (0 ∷ []) start bad (target_of side) f
+        → IsBreak st states (0 ∷ []) start bad (target_of_side side) f
         → IsLeast (λ g. Breaks st states (0 ∷ []) start bad g) f → IsLeastDifference fields p q side f }
 {}
 

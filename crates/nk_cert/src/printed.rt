@@ -7,7 +7,7 @@ ghost use Rattle.nk_sets.specs.PacketSets.{IsSet};
 ghost use Rattle.nk_reach.specs.Rounds.{HaveSets};
 ghost use Rattle.nk_tag.specs.Numbers.{AreEntries};
 ghost use Rattle.nk_cert.specs.FromLevels.{HaveRows, IsCertificateOf};
-ghost use Rattle.nk_cert.specs.Values.{row_value, row_values, certificate_value};
+ghost use Rattle.nk_cert.specs.Values.{held_row_value, row_values, certificate_value};
 ghost use Rattle.nk_cert.specs.Later.{packets_at, IsRowBy, AreLaterPackets};
 
 use crate::certificate::Certificate;
@@ -88,7 +88,7 @@ fn set_row(
     requires set { set < length ss.now }
     requires packets { HaveSets st.now met.now.entries }
     requires none { IsSet st.now none }
-    ensures { IfOk result (λ r. IsRowBy st.now ss.now met.now.entries none set (row_value r)) }
+    ensures { IfOk result (λ r. IsRowBy st.now ss.now met.now.entries none set (held_row_value r)) }
 {
     let members = Vec::from_slice(st.alloc(), ss.members(set))?;
     let packets = packets_under(met, none, set);

@@ -7,12 +7,12 @@ use Rattle.nk_lex.specs.declared.word.Number.{Number}
 use Rattle.nk_grammar.specs.declared.decl.GrammarError.TheVariants as error
 use Rattle.nk_grammar.specs.Terminal.{Terminal, terminal_of}
 use Rattle.nk_grammar.specs.Tree.{Tree}
-use Rattle.nk_grammar.specs.Machine.{State, step, ended, number_in, in_option}
+use Rattle.nk_grammar.specs.Machine.{State, step, policy_ended, number_in, in_option}
 use Rattle.nk_grammar.specs.File.{Declaration}
 use Rattle.nk_grammar.specs.FileMachine.{Reading, reading, read_one, declarations_at_end}
 use Rattle.nk_grammar.specs.Certified.{Row}
 use Rattle.nk_grammar.specs.CertifiedMachine.{CertifiedPhase, declaring, row_wanted, start_wanted, start_read, number_wanted, numbers_read, in_row, Certifying, is_certificate, is_start_word, row_in, in_line, certificate_begins, still_declaring, row_on, next_certifying, open_certified, judged_certified}
-use Rattle.nk_grammar.specs.Terminal.{is_colon}
+use Rattle.nk_grammar.specs.Terminal.{is_colon_terminal}
 use Rattle.nk_grammar.specs.CertifiedProgress.{CertifiedProgress, Going, Stopped, bare, done_declarations, SoFar, so_far, nothing_so_far, so_far_judged, so_far_after, IsRead}
 
 -- the certificate has begun
@@ -64,10 +64,10 @@ module _ (ds : List Declaration) where
   next_keeps (declaring r) rs t b = absurd b
   next_keeps row_wanted rs t b = on_line (row_in t) _ (λ l. (tt, refl))
   next_keeps (start_wanted line) rs t b = on_test (is_start_word t) _ None (tt, refl) tt
-  next_keeps (start_read line) rs t b = on_test (is_colon t) _ None (tt, refl) tt
+  next_keeps (start_read line) rs t b = on_test (is_colon_terminal t) _ None (tt, refl) tt
   next_keeps (number_wanted line) rs t b = on_number (number_in t) _ (λ n. (tt, refl))
-  next_keeps (numbers_read line ns) rs t b = on_test (is_colon t) _ _ (tt, refl) (on_number (number_in t) _ (λ n. (tt, refl)))
-  next_keeps (in_row line ns s) rs t b = on_row rs ns line (step s t) (ended s) t
+  next_keeps (numbers_read line ns) rs t b = on_test (is_colon_terminal t) _ _ (tt, refl) (on_number (number_in t) _ (λ n. (tt, refl)))
+  next_keeps (in_row line ns s) rs t b = on_row rs ns line (step s t) (policy_ended s) t
 
 -- one more token of the declarations
 next_declaring : (r : Reading) (rs : List Row) (t : Terminal) → rs ≡ [] → HaveNoRow (next_certifying (declaring r) [] rs t)

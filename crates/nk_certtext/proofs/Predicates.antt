@@ -12,11 +12,11 @@ use Rattle.nk_names.specs.declared.fault.NamesError.{NamesError}
 use Rattle.nk_names.specs.Meant.{MaybeTextFault, policy_for}
 use Rattle.nk_names.specs.ProgramOf.{predicate_fault, row_policy}
 use Rattle.nk_names.proofs.Predicates.{faultless_row}
-use Rattle.nk_cert.specs.Certificates.{RowValue, CertificateValue, CertRow, later_row, rows_of}
+use Rattle.nk_cert.specs.Certificates.{RowValue, CertificateValue, CertRow, later_row, certificate_rows}
 use Rattle.nk_cert.specs.Verdicts.{HasPredicates}
 use Rattle.nk_certtext.specs.declared.error.CertError.{CertError}
 use Rattle.nk_certtext.specs.declared.error.CertError.TheVariants.{CertFault}
-use Rattle.nk_certtext.specs.Rows.{is_misplaced, with_predicate, with_row, rows_after, with_rows, from_start, certificate_of}
+use Rattle.nk_certtext.specs.Rows.{is_misplaced, with_predicate, with_written_row, with_later_rows, with_rows, from_start, certificate_of}
 
 -- each row's predicate is one
 abbrev HavePredicates : List RowValue → Type 0
@@ -51,7 +51,7 @@ one_more (b ∷ bs) ns p h k r (inr i) = one_more bs ns p (λ q j. h q (inr j)) 
 
 -- with a row that is read
 with_one : (fields : FieldTable) (before : List RowValue) (r : Row) (after : List RowValue) → HavePredicates before
-    → with_row fields before r ≡ Ok after → HavePredicates after
+    → with_written_row fields before r ≡ Ok after → HavePredicates after
 with_one fields before (row ns t line) after h e = by (is_misplaced before ns) (row_policy fields t line) refl e
   where
     by : (b : Bool) (x : Result Policy NamesError) → row_policy fields t line ≡ x
@@ -62,14 +62,14 @@ with_one fields before (row ns t line) after h e = by (is_misplaced before ns) (
 
 -- with all rows that are read
 with_all : (fields : FieldTable) (rows : List Row) (before after : List RowValue) → HavePredicates before
-    → rows_after fields rows before ≡ Ok after → HavePredicates after
+    → with_later_rows fields rows before ≡ Ok after → HavePredicates after
 with_all fields [] before after h e = subst HavePredicates (ap rows_in e) h
 with_all fields (r ∷ rs) before after h e =
-    by (with_row fields before r) refl (λ mid k z. with_all fields rs mid after k z) e
+    by (with_written_row fields before r) refl (λ mid k z. with_all fields rs mid after k z) e
   where
-    by : (x : Result (List RowValue) CertError) → with_row fields before r ≡ x
-        → ((mid : List RowValue) → HavePredicates mid → rows_after fields rs mid ≡ Ok after → HavePredicates after)
-        → and_then x (rows_after fields rs) ≡ Ok after → HavePredicates after
+    by : (x : Result (List RowValue) CertError) → with_written_row fields before r ≡ x
+        → ((mid : List RowValue) → HavePredicates mid → with_later_rows fields rs mid ≡ Ok after → HavePredicates after)
+        → and_then x (with_later_rows fields rs) ≡ Ok after → HavePredicates after
     by (Ok mid) is rest e = rest mid (with_one fields before r mid h is) e
     by (Err f) is rest e = absurd cc
 
@@ -82,11 +82,11 @@ later_predicate (v ∷ vs) h r (inr i) = later_predicate vs (λ q j. h q (inr j)
 
 -- so all rows of a certificate that is read have predicates
 read_predicates : (fields : FieldTable) (t : Tree) (line : ℕ) (p : Policy) (later : List Row) (rows : List RowValue)
-    → row_policy fields t line ≡ Ok p → rows_after fields later [] ≡ Ok rows
+    → row_policy fields t line ≡ Ok p → with_later_rows fields later [] ≡ Ok rows
     → HasPredicates (record { start = p; rows = rows })
-read_predicates fields t line p later rows first rest r c = by (in_from_contains (rows_of (record { start = p; rows = rows })) r c)
+read_predicates fields t line p later rows first rest r c = by (in_from_contains (certificate_rows (record { start = p; rows = rows })) r c)
   where
-    by : In (rows_of (record { start = p; rows = rows })) r → is_predicate r.predicate ≡ true
+    by : In (certificate_rows (record { start = p; rows = rows })) r → is_predicate r.predicate ≡ true
     by (inl e) = ap (λ (x : CertRow). is_predicate x.predicate) e ∙ row_predicate fields t line p first
     by (inr i) = later_predicate rows (with_all fields later [] rows (λ q j. absurd j) rest) r i
 
@@ -98,11 +98,11 @@ of_certificate fields (row ns t line ∷ rs) c e = first (row_policy fields t li
     certificate_is : (a b : CertificateValue) → ◌≡◌ {A = Result CertificateValue CertError} (Ok a) (Ok b) → a ≡ b
     certificate_is a b e = cc
 
-    later : (p : Policy) (x : Result (List RowValue) CertError) → rows_after fields rs [] ≡ x → row_policy fields t line ≡ Ok p
+    later : (p : Policy) (x : Result (List RowValue) CertError) → with_later_rows fields rs [] ≡ x → row_policy fields t line ≡ Ok p
         → with_rows p x ≡ Ok c → HasPredicates c
     later p (Ok rows) is start e = subst HasPredicates (certificate_is _ c e) (read_predicates fields t line p rs rows start is)
     later p (Err f) is start e = absurd cc
 
     first : (x : Result Policy NamesError) → row_policy fields t line ≡ x → from_start fields x rs ≡ Ok c → HasPredicates c
-    first (Ok p) is e = later p (rows_after fields rs []) refl is e
+    first (Ok p) is e = later p (with_later_rows fields rs []) refl is e
     first (Err f) is e = absurd cc

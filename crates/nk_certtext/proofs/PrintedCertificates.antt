@@ -15,7 +15,7 @@ use Rattle.nk_names.specs.ReadBack.{IsReadablePredicate, DeclaresWritable}
 use Rattle.nk_cert.specs.Certificates.{RowValue}
 use Rattle.nk_cert.specs.Together.{AreNumbered, IsAtEither}
 use Rattle.nk_cert.specs.Printed.{IsMet, IsPredicateOf, IsRowBefore}
-use Rattle.nk_certtext.specs.ReadBack.{IsRowOf, ReadsPrinted}
+use Rattle.nk_certtext.specs.ReadBack.{IsReadableRow, ReadsPrintedCertificates}
 use Rattle.nk_cert.proofs.Printing.{row_cases}
 use Rattle.nk_certtext.specs.Printed.{AreCompared, PrintsPrintable, PrintsPredicates, ReadsPrintedFor}
 use Rattle.nk_certtext.proofs.PrintedSets.{printed_is_readable}
@@ -45,7 +45,7 @@ some_length (x ∷ xs) h = omega arith
 -- a row of a set that is met
 row_is : (fields : FieldTable) (p q : Policy) (row : RowValue) (u : List Packet) (x : Packet) → IsFieldTable fields
     → AreCompared p q → IsMet fields p q row.positions u x
-    → IsPredicateOf fields p q row.positions row.predicate → IsRowOf fields row
+    → IsPredicateOf fields p q row.positions row.predicate → IsReadableRow fields row
 row_is fields p q row u x table compared met printed = record {
   some = some_length row.positions met.2;
   small = λ k d lt.
@@ -88,10 +88,10 @@ pub prints_predicates : PrintsPredicates
 prints_predicates fields table p q compared c h =
     let ok = prints_printable fields table p q compared c h in
     row_cases (λ z. is_predicate z.predicate ≡ true) c ok.start.predicate
-    (λ r i. (members_from_all (IsRowOf fields) c.rows ok.rows r (in_from_contains c.rows r i)).predicate.predicate)
+    (λ r i. (members_from_all (IsReadableRow fields) c.rows ok.rows r (in_from_contains c.rows r i)).predicate.predicate)
 
 -- and it is read back where such certificates are
-pub reads_printed_for : ReadsPrinted → DeclaresWritable → ReadsPrintedFor
+pub reads_printed_for : ReadsPrintedCertificates → DeclaresWritable → ReadsPrintedFor
 reads_printed_for reads writable text ts ds s p q c cut read said compared h =
     reads text ts ds s c cut read said
     (prints_printable s.fields (writable text ts ds s cut read said).table p q compared c h)

@@ -22,7 +22,7 @@ use Rattle.nk_grammar.specs.Grammar.{Pol, pol_tree}
 use Rattle.nk_grammar.specs.Text.{lexemes_of_pol, IsNumberOn}
 use Rattle.nk_grammar.specs.File.{Declaration}
 use Rattle.nk_grammar.specs.FileMachine.{file_of}
-use Rattle.nk_grammar.specs.Certified.{row, WrittenRow, written_row, number_value, row_of, rows_of}
+use Rattle.nk_grammar.specs.Certified.{row, WrittenRow, written_row, number_value, row_of, rows_said}
 use Rattle.nk_grammar.specs.CertifiedText.{lexemes_of_numbers, lexemes_of_predicate, lexemes_of_rows, lexemes_of_certificate, AreRowsOn, ReadsCertificateTexts}
 use Rattle.nk_grammar.specs.Moved.{tree_moved, row_moved, nesting_of_row, ReadsTogether}
 use Rattle.nk_names.specs.ProgramOf.{Said, program_of, row_policy}
@@ -30,8 +30,8 @@ use Rattle.nk_names.specs.ReadBack.{IsWritable, DeclaresWritable, IsPredicateRea
 use Rattle.nk_names.proofs.Printed.{text_append}
 use Rattle.nk_cert.specs.Certificates.{RowValue, CertificateValue}
 use Rattle.nk_certtext.specs.Text.{position_bytes, predicate_bytes, row_bytes, cert_bytes}
-use Rattle.nk_certtext.specs.Rows.{ascend, ascend_after, have_positions, is_misplaced, with_row, rows_after, with_rows, from_start}
-use Rattle.nk_certtext.specs.ReadBack.{IsRowOf, IsPrintable, IsReadBack}
+use Rattle.nk_certtext.specs.Rows.{ascend, ascend_after, have_positions, is_misplaced, with_written_row, with_later_rows, with_rows, from_start}
+use Rattle.nk_certtext.specs.ReadBack.{IsReadableRow, IsPrintableCertificate, IsCertificateReadBack}
 use Rattle.nk_certtext.proofs.RowsRead.{row_read}
 
 -- ---- positions that are no fault
@@ -124,7 +124,7 @@ record IsRowWritten (fields : FieldTable) (line : ℕ) (r : RowValue) : Type 0 w
   pub predicate : IsPredicateReadBack fields line r.predicate
 
 row_written : ReadsPrintedPredicates → (fields : FieldTable) → IsWritable fields → (line : ℕ) (r : RowValue)
-    → IsRowOf fields r → IsRowWritten fields line r
+    → IsReadableRow fields r → IsRowWritten fields line r
 row_written reads fields writable line r h = by r.positions refl
   where
     by : (ns : List ℕ) → r.positions ≡ ns → IsRowWritten fields line r
@@ -149,10 +149,10 @@ record AreRowsWritten (fields : FieldTable) (line : ℕ) (rows : List RowValue) 
   pub nested : All (λ w. nesting_of_row w ≤ 256) written
   pub text : text_of (lexemes_of_rows written) ≡ flat_map (row_bytes fields) rows
   pub meant : (lines : ℕ) (before : List RowValue) → StandApart (before ++ rows)
-      → rows_after fields (map (row_moved lines) (map row_of written)) before ≡ Ok (before ++ rows)
+      → with_later_rows fields (map (row_moved lines) (map row_of written)) before ≡ Ok (before ++ rows)
 
 module _ (reads : ReadsPrintedPredicates) (fields : FieldTable) (writable : IsWritable fields) where
-  one_more : (line : ℕ) (r : RowValue) (rs : List RowValue) → IsRowOf fields r → AreRowsWritten fields (line + 1) rs
+  one_more : (line : ℕ) (r : RowValue) (rs : List RowValue) → IsReadableRow fields r → AreRowsWritten fields (line + 1) rs
       → AreRowsWritten fields line (r ∷ rs)
   one_more line r rs h rest =
       let one = row_written reads fields writable line r h in
@@ -182,7 +182,7 @@ module _ (reads : ReadsPrintedPredicates) (fields : FieldTable) (writable : IsWr
           ∙ sym (append_assoc positions predicate (flat_map (row_bytes fields) rs)))
 
       meant_one : (one : IsRowWritten fields line r) (lines : ℕ) (before : List RowValue) → StandApart (before ++ r ∷ rs)
-          → rows_after fields (map (row_moved lines) (map row_of (written_row line one.first one.more one.predicate.written ∷ rest.written))) before
+          → with_later_rows fields (map (row_moved lines) (map row_of (written_row line one.first one.more one.predicate.written ∷ rest.written))) before
           ≡ Ok (before ++ r ∷ rs)
       meant_one one lines before apart =
           let t = tree_moved lines (pol_tree one.predicate.written) in
@@ -191,12 +191,12 @@ module _ (reads : ReadsPrintedPredicates) (fields : FieldTable) (writable : IsWr
           let moved : (before ++ r ∷ []) ++ rs ≡ before ++ r ∷ rs = append_assoc before (r ∷ []) rs in
           let read = row_read before r.positions at (row_policy fields t at) r.predicate (before ++ r ∷ [])
           (not_misplaced before r rs h.ascend apart) (one.predicate.meant lines at) refl in
-          ap (λ l. and_then (with_row fields before (row l t at)) (rows_after fields later)) one.positions
-          ∙ ap (λ x. and_then x (rows_after fields later)) read
+          ap (λ l. and_then (with_written_row fields before (row l t at)) (with_later_rows fields later)) one.positions
+          ∙ ap (λ x. and_then x (with_later_rows fields later)) read
           ∙ rest.meant lines (before ++ r ∷ []) (subst StandApart (sym moved) apart)
           ∙ ap Ok moved
 
-  all_written : (line : ℕ) (rows : List RowValue) → AllByRecursion (IsRowOf fields) rows → AreRowsWritten fields line rows
+  all_written : (line : ℕ) (rows : List RowValue) → AllByRecursion (IsReadableRow fields) rows → AreRowsWritten fields line rows
   all_written line [] h = record {
     written = [];
     on_lines = tt;
@@ -210,25 +210,25 @@ module _ (reads : ReadsPrintedPredicates) (fields : FieldTable) (writable : IsWr
 
 pub certificates_back : DeclaresWritable → ReadsPrintedPredicates → ReadsCertificateTexts → ReadsTogether
     → (text : List ℕ) (ts : List Token) (ds : List Declaration) (s : Said) (c : CertificateValue)
-    → tokens_of text ≡ Ok ts → file_of ts ≡ Ok ds → program_of ds ≡ Ok s → IsPrintable s.fields c
-    → IsReadBack s.fields text ds c
+    → tokens_of text ≡ Ok ts → file_of ts ≡ Ok ds → program_of ds ≡ Ok s → IsPrintableCertificate s.fields c
+    → IsCertificateReadBack s.fields text ds c
 certificates_back declares reads texts together text ts ds s c cut read said h =
     let fields = s.fields in
     let writable = declares text ts ds s cut read said in
     let start = reads fields writable 2 c.start h.start in
-    let rows = all_written reads fields writable 3 c.rows (recursion_from_All (IsRowOf fields) c.rows h.rows) in
+    let rows = all_written reads fields writable 3 c.rows (recursion_from_All (IsReadableRow fields) c.rows h.rows) in
     let words : text_of (lexemes_of_certificate start.written rows.written) ≡ cert_bytes fields c =
     ap (λ l. codes "certificate\nrow start" ++ l)
     (predicate_text fields c.start start.written (lexemes_of_rows rows.written) start.text
     ∙ ap (λ l. predicate_bytes fields c.start ++ l) rows.text) in
     let alone = texts start.written rows.written start.on_line rows.on_lines start.nested rows.nested in
     let lines = line_feeds text + 1 in
-    let both = together text (cert_bytes fields c) ts alone.tokens ds (rows_of 2 start.written rows.written) cut read
+    let both = together text (cert_bytes fields c) ts alone.tokens ds (rows_said 2 start.written rows.written) cut read
     (subst (λ l. tokens_of l ≡ Ok alone.tokens) words alone.cut) alone.read in
     let later = map (row_moved lines) (map row_of rows.written) in
     record {
       tokens = both.tokens;
-      rows = map (row_moved lines) (rows_of 2 start.written rows.written);
+      rows = map (row_moved lines) (rows_said 2 start.written rows.written);
       cut = both.cut;
       read = both.read;
       started = refl;

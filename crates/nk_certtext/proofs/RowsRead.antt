@@ -20,11 +20,11 @@ use Rattle.nk_names.specs.ProgramOf.{row_policy}
 use Rattle.nk_names.specs.ProgramOf as program
 use Rattle.nk_cert.specs.Certificates.{RowValue}
 use Rattle.nk_cert.specs.declared.certificate.Certificate.{Certificate}
-use Rattle.nk_cert.specs.Values.{row_value, row_values, certificate_value}
+use Rattle.nk_cert.specs.Values.{held_row_value, row_values, certificate_value}
 use Rattle.nk_cert.specs.Verdicts.{HasPredicates}
 use Rattle.nk_certtext.specs.declared.error.CertError.TheVariants.{CertFault}
 use Rattle.nk_certtext.specs.declared.error.CertError.{CertError}
-use Rattle.nk_certtext.specs.Rows.{have_positions, is_misplaced, fault_of, with_predicate, placed_row, with_row, rows_after, with_rows, from_start, certificate_of, starts, goes_on, row_on, made_of, certificate_at_end, RowsValue, IsFault, Returns}
+use Rattle.nk_certtext.specs.Rows.{have_positions, is_misplaced, fault_of_predicate, with_predicate, placed_row, with_written_row, with_later_rows, with_rows, from_start, certificate_of, starts, with_later_row, with_next_row, made_of, certificate_at_end, RowsValue, IsFault, Returns}
 use Rattle.nk_certtext.proofs.Predicates.{of_certificate}
 
 -- the positions are found where a row has them
@@ -52,7 +52,7 @@ new_last (e ∷ es) ns p h = by (bytes_eq ns e.0) h (new_last es ns p)
 -- so the rows are one more
 pub row_put : (es fs : List (List ℕ × Pol)) (ns : List ℕ) (p : Pol) → have_positions (row_values es) ns ≡ false
     → fs ≡ insert_entry bytes_eq es ns p → with_predicate (row_values es) ns (Ok (tree_of p)) ≡ Ok (row_values fs)
-row_put es fs ns p h e = ap Ok (sym (ap row_values (e ∙ new_last es ns p h) ∙ map-append row_value es ((ns, p) ∷ [])))
+row_put es fs ns p h e = ap Ok (sym (ap row_values (e ∙ new_last es ns p h) ∙ map-append held_row_value es ((ns, p) ∷ [])))
 
 module _ (before : List RowValue) (ns : List ℕ) (line : ℕ) (wanted : Result Policy NamesError) where
   -- misplaced positions are the fault of a row
@@ -65,7 +65,7 @@ module _ (before : List RowValue) (ns : List ℕ) (line : ℕ) (wanted : Result 
 
   -- a predicate's fault is the row's
   pub row_refused : (e : NamesError) → is_misplaced before ns ≡ false → program.IsFault e wanted
-      → IsFault (fault_of e) (placed_row before ns line wanted)
+      → IsFault (fault_of_predicate e) (placed_row before ns line wanted)
   row_refused names.NoMemory h f = tt
   row_refused (names.Fault kind at) h f = placed h ∙ ap (with_predicate before ns) f
 
@@ -76,23 +76,23 @@ module _ (before : List RowValue) (ns : List ℕ) (line : ℕ) (wanted : Result 
 
 -- rows behind others are read one more at a time
 rows_more : (fields : FieldTable) (rs : List Row) (r : Row) (before : List RowValue)
-    → rows_after fields (rs ++ r ∷ []) before ≡ and_then (rows_after fields rs before) (λ b. with_row fields b r)
-rows_more fields [] r before = alone (with_row fields before r)
+    → with_later_rows fields (rs ++ r ∷ []) before ≡ and_then (with_later_rows fields rs before) (λ b. with_written_row fields b r)
+rows_more fields [] r before = alone (with_written_row fields before r)
   where
-    alone : (x : Result (List RowValue) CertError) → and_then x (rows_after fields []) ≡ x
+    alone : (x : Result (List RowValue) CertError) → and_then x (with_later_rows fields []) ≡ x
     alone (Ok b) = refl
     alone (Err e) = refl
-rows_more fields (q ∷ rs) r before = by (with_row fields before q) (rows_more fields rs r)
+rows_more fields (q ∷ rs) r before = by (with_written_row fields before q) (rows_more fields rs r)
   where
     by : (x : Result (List RowValue) CertError)
-        → ((b : List RowValue) → rows_after fields (rs ++ r ∷ []) b ≡ and_then (rows_after fields rs b) (λ c. with_row fields c r))
-        → and_then x (rows_after fields (rs ++ r ∷ [])) ≡ and_then (and_then x (rows_after fields rs)) (λ c. with_row fields c r)
+        → ((b : List RowValue) → with_later_rows fields (rs ++ r ∷ []) b ≡ and_then (with_later_rows fields rs b) (λ c. with_written_row fields c r))
+        → and_then x (with_later_rows fields (rs ++ r ∷ [])) ≡ and_then (and_then x (with_later_rows fields rs)) (λ c. with_written_row fields c r)
     by (Ok b) h = h b
     by (Err e) h = refl
 
 -- so what rows make is made row by row
 pub made_more : (fields : FieldTable) (rs : List Row) (ns : List ℕ) (t : Tree) (line : ℕ)
-    → made_of fields (rs ++ row ns t line ∷ []) ≡ row_on (made_of fields rs) ns line (row_policy fields t line)
+    → made_of fields (rs ++ row ns t line ∷ []) ≡ with_next_row (made_of fields rs) ns line (row_policy fields t line)
 made_more fields [] ns t line = by (row_policy fields t line)
   where
     by : (x : Result Policy NamesError) → Some (from_start fields x []) ≡ Some (starts x)
@@ -101,14 +101,14 @@ made_more fields [] ns t line = by (row_policy fields t line)
 made_more fields (row ms u at ∷ rs) ns t line = ap Some (by (row_policy fields u at) (rows_more fields rs (row ns t line) []))
   where
     on : (p : Policy) (x : Result (List RowValue) CertError)
-        → with_rows p (and_then x (λ b. with_row fields b (row ns t line))) ≡ goes_on (with_rows p x) ns line (row_policy fields t line)
+        → with_rows p (and_then x (λ b. with_written_row fields b (row ns t line))) ≡ with_later_row (with_rows p x) ns line (row_policy fields t line)
     on p (Ok b) = refl
     on p (Err e) = refl
 
     by : (x : Result Policy NamesError)
-        → rows_after fields (rs ++ row ns t line ∷ []) [] ≡ and_then (rows_after fields rs []) (λ b. with_row fields b (row ns t line))
-        → from_start fields x (rs ++ row ns t line ∷ []) ≡ goes_on (from_start fields x rs) ns line (row_policy fields t line)
-    by (Ok p) h = ap (with_rows p) h ∙ on p (rows_after fields rs [])
+        → with_later_rows fields (rs ++ row ns t line ∷ []) [] ≡ and_then (with_later_rows fields rs []) (λ b. with_written_row fields b (row ns t line))
+        → from_start fields x (rs ++ row ns t line ∷ []) ≡ with_later_row (from_start fields x rs) ns line (row_policy fields t line)
+    by (Ok p) h = ap (with_rows p) h ∙ on p (with_later_rows fields rs [])
     by (Err e) h = refl
 
 -- and all rows make the certificate
@@ -119,11 +119,11 @@ made_all fields (r ∷ rs) = refl
 -- with the row at the place
 pub made_next : (fields : FieldTable) (rows : List CertRow) (i : ℕ) (r : CertRow) (before after : RowsValue) → i < length rows → r ≡ get_or rows i r
     → before ≡ made_of fields (map written_row (take i rows))
-    → after ≡ row_on before r.positions r.line (row_policy fields (written_of r.pred) r.line)
+    → after ≡ with_next_row before r.positions r.line (row_policy fields (written_of r.pred) r.line)
     → after ≡ made_of fields (map written_row (take (i + 1) rows))
 made_next fields rows i r before after lt is h e =
     e
-    ∙ ap (λ b. row_on b r.positions r.line (row_policy fields (written_of r.pred) r.line)) h
+    ∙ ap (λ b. with_next_row b r.positions r.line (row_policy fields (written_of r.pred) r.line)) h
     ∙ sym (made_more fields (map written_row (take i rows)) r.positions (written_of r.pred) r.line)
     ∙ ap (made_of fields) (sym (
     ap (map written_row) (take_more rows i r lt ∙ ap (λ x. take i rows ++ x ∷ []) (sym is))

@@ -28,8 +28,8 @@ use Rattle.nk_certtext.specs.declared.error.CertError.{CertError}
 use Rattle.nk_certtext.specs.declared.error.TextError.{TextError}
 use Rattle.nk_certtext.specs.declared.error.TextError.TheVariants as error
 use Rattle.nk_certtext.specs.Progress.{PartsValue, CertProgress, IsTaken, IsTakenOn, IsStepped, made_by, predicate_over, text_at_end, text_by, with_completed, with_row_part}
-use Rattle.nk_certtext.specs.Rows.{certificate_of, row_on}
-use Rattle.nk_certtext.specs.Whole.{IsTextFault, ReturnsText, grammar_fault, text_of, text_of_said, text_of_written, with_certificate}
+use Rattle.nk_certtext.specs.Rows.{certificate_of, with_next_row}
+use Rattle.nk_certtext.specs.Whole.{IsTextFault, ReturnsText, grammar_fault, text_of_tokens, text_of_said, text_of_written, with_certificate}
 use Rattle.nk_certtext.proofs.DeclaredFirst.{declared_first}
 use Rattle.nk_certtext.proofs.Predicates.{of_certificate}
 use Rattle.nk_certtext.proofs.RowsRead.{made_all, made_more}
@@ -41,7 +41,7 @@ made_none (Err e) = refl
 
 -- one more row
 made_by_more : (s : Result Said NamesError) (rs : List Row) (ns : List ℕ) (t : Tree) (line : ℕ)
-    → made_by s (rs ++ row ns t line ∷ []) ≡ row_on (made_by s rs) ns line (predicate_over s t line)
+    → made_by s (rs ++ row ns t line ∷ []) ≡ with_next_row (made_by s rs) ns line (predicate_over s t line)
 made_by_more (Ok s) rs ns t line = made_more s.fields rs ns t line
 made_by_more (Err e) [] ns t line = refl
 made_by_more (Err e) (r ∷ rs) ns t line = refl
@@ -50,7 +50,7 @@ made_by_more (Err e) (r ∷ rs) ns t line = refl
 row_part : (p : PartsValue) (rs : List Row) (r : Row) → p.rows ≡ made_by p.said rs
     → ((with_row_part p r).said ≡ p.said) × ((with_row_part p r).rows ≡ made_by p.said (rs ++ r ∷ []))
 row_part p rs (row ns t line) h =
-    (refl, ap (λ x. row_on x ns line (predicate_over p.said t line)) h ∙ sym (made_by_more p.said rs ns t line))
+    (refl, ap (λ x. with_next_row x ns line (predicate_over p.said t line)) h ∙ sym (made_by_more p.said rs ns t line))
 
 -- a list isn't one with more
 not_more : {A : Type 0} (xs : List A) (x : A) → xs ++ x ∷ [] ≡ xs → ⊥
@@ -106,7 +106,7 @@ taken_on ts old new t (Err e) h k = tt
 -- ---- at the end
 
 -- a fault of the grammar is the text's
-pub grammar_refused : (ts : List Token) (e : GrammarError) → Fails e (certified_of ts) → IsTextFault (grammar_fault e) (text_of ts)
+pub grammar_refused : (ts : List Token) (e : GrammarError) → Fails e (certified_of ts) → IsTextFault (grammar_fault e) (text_of_tokens ts)
 grammar_refused ts grammar.NoMemory h = tt
 grammar_refused ts (grammar.Unexpected line) h = ap text_of_written h
 grammar_refused ts (grammar.TooDeep line) h = ap text_of_written h
@@ -117,7 +117,7 @@ said_whole (Err e) rs = refl
 
 -- with the last row the text is whole
 pub text_whole : (ts : List Token) (p : CertProgress) (h : IsTaken ts p) (r : Row)
-    → certified_of ts ≡ Ok (certified h.declarations (h.rows ++ r ∷ [])) → text_at_end (with_row_part p.parts r) ≡ text_of ts
+    → certified_of ts ≡ Ok (certified h.declarations (h.rows ++ r ∷ [])) → text_at_end (with_row_part p.parts r) ≡ text_of_tokens ts
 text_whole ts p h r read =
     let part = row_part p.parts h.rows r h.makes in
     ap (λ s. text_by s (with_row_part p.parts r).rows) part.0
@@ -144,20 +144,20 @@ module _ (ts : List Token) (p : CertProgress) (h : IsTaken ts p) (last : Result 
       by (Err g) (Err f) none e is = absurd cc
 
   -- and the text is whole
-  pub whole_at_end : IsOk r → text_at_end new ≡ text_of ts
+  pub whole_at_end : IsOk r → text_at_end new ≡ text_of_tokens ts
   whole_at_end is = by last r read refused put is
     where
       by : (l : Result CertRow GrammarError) (x : Result (Unit {0}) TextError)
           → Returns (λ row. certified h.declarations (h.rows ++ row_value row ∷ [])) l (certified_of ts)
           → IfErr l (λ fault. x ≡ Err (grammar_fault fault))
-          → IfOk l (λ row. OnOk x (new ≡ with_row_part p.parts (row_value row))) → IsOk x → text_at_end new ≡ text_of ts
+          → IfOk l (λ row. OnOk x (new ≡ with_row_part p.parts (row_value row))) → IsOk x → text_at_end new ≡ text_of_tokens ts
       by (Ok q) (Ok u) f none e is = ap text_at_end e ∙ text_whole ts p h (row_value q) f
       by (Ok q) (Err g) f none e is = absurd cc
       by (Err g) (Ok u) f none e is = absurd cc
       by (Err g) (Err k) f none e is = absurd cc
 
   -- or the fault is the text's
-  pub refused_at_end : IfOk last (λ row. IfErr r (λ e. e ≡ error.NoMemory)) → (e : TextError) → r ≡ Err e → IsTextFault e (text_of ts)
+  pub refused_at_end : IfOk last (λ row. IfErr r (λ e. e ≡ error.NoMemory)) → (e : TextError) → r ≡ Err e → IsTextFault e (text_of_tokens ts)
   refused_at_end memory e is = by last r read refused memory is
     where
       fault_is : (a b : TextError) → ◌≡◌ {A = Result (Unit {0}) TextError} (Err a) (Err b) → a ≡ b
@@ -166,13 +166,13 @@ module _ (ts : List Token) (p : CertProgress) (h : IsTaken ts p) (last : Result 
       by : (l : Result CertRow GrammarError) (x : Result (Unit {0}) TextError)
           → Returns (λ row. certified h.declarations (h.rows ++ row_value row ∷ [])) l (certified_of ts)
           → IfErr l (λ fault. x ≡ Err (grammar_fault fault))
-          → IfOk l (λ row. IfErr x (λ f. f ≡ error.NoMemory)) → x ≡ Err e → IsTextFault e (text_of ts)
+          → IfOk l (λ row. IfErr x (λ f. f ≡ error.NoMemory)) → x ≡ Err e → IsTextFault e (text_of_tokens ts)
       by (Ok q) (Ok u) f none m is = absurd cc
-      by (Ok q) (Err g) f none m is = subst (λ k. IsTextFault k (text_of ts)) (sym m ∙ fault_is g e is) tt
-      by (Err g) x f none m is = subst (λ k. IsTextFault k (text_of ts)) (fault_is (grammar_fault g) e (sym none ∙ is)) (grammar_refused ts g f)
+      by (Ok q) (Err g) f none m is = subst (λ k. IsTextFault k (text_of_tokens ts)) (sym m ∙ fault_is g e is) tt
+      by (Err g) x f none m is = subst (λ k. IsTextFault k (text_of_tokens ts)) (fault_is (grammar_fault g) e (sym none ∙ is)) (grammar_refused ts g f)
 
 -- a certificate that is read has predicates
-pub text_predicates : (ts : List Token) (s : Said) (c : CertificateValue) → text_of ts ≡ Ok (s, c) → HasPredicates c
+pub text_predicates : (ts : List Token) (s : Said) (c : CertificateValue) → text_of_tokens ts ≡ Ok (s, c) → HasPredicates c
 text_predicates ts s c e = by (certified_of ts) e
   where
     certificate_in : Result (Said × CertificateValue) TextError → CertificateValue
@@ -193,6 +193,6 @@ text_predicates ts s c e = by (certified_of ts) e
     by (Err g) k = absurd cc
 
 pub returned_predicates : (ts : List Token) (r : Result (Program × Certificate) TextError)
-    → ReturnsText (λ x. (said_by x.0, certificate_value x.1)) r (text_of ts) → IfOk r (λ x. HasPredicates (certificate_value x.1))
+    → ReturnsText (λ x. (said_by x.0, certificate_value x.1)) r (text_of_tokens ts) → IfOk r (λ x. HasPredicates (certificate_value x.1))
 returned_predicates ts (Ok x) h = text_predicates ts (said_by x.0) (certificate_value x.1) h
 returned_predicates ts (Err e) h = tt

@@ -23,12 +23,12 @@ becomes None rows = rows
 becomes (Some r) rows = rows_in r
 
 -- what a row that was added makes known: nothing in place of it, or its fault; or memory ran out
-abbrev pub IsAdded : {X E : Type 0} → Result X CertError → Result (Option RowsRead) E → Type 0
-IsAdded (Ok x) r = r ≡ Ok None
-IsAdded (Err NoMemory) (Ok o) = ⊥
-IsAdded (Err NoMemory) (Err e) = ⊤
-IsAdded (Err (CertFault line)) r = r ≡ Ok (Some (read.Faulty (CertFault line)))
-IsAdded (Err (Fault kind line)) r = r ≡ Ok (Some (read.Faulty (Fault kind line)))
+abbrev pub MakesKnown : {X E : Type 0} → Result X CertError → Result (Option RowsRead) E → Type 0
+MakesKnown (Ok x) r = r ≡ Ok None
+MakesKnown (Err NoMemory) (Ok o) = ⊥
+MakesKnown (Err NoMemory) (Err e) = ⊤
+MakesKnown (Err (CertFault line)) r = r ≡ Ok (Some (read.Faulty (CertFault line)))
+MakesKnown (Err (Fault kind line)) r = r ≡ Ok (Some (read.Faulty (Fault kind line)))
 
 -- the declarations and rows so far
 abbrev pub parts_in : Parts → PartsValue

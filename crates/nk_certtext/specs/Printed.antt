@@ -11,7 +11,7 @@ use Rattle.nk_cert.specs.Certificates.{CertificateValue}
 use Rattle.nk_cert.specs.Together.{AreNumbered}
 use Rattle.nk_cert.specs.Printed.{IsPrinted}
 use Rattle.nk_cert.specs.Verdicts.{HasPredicates}
-use Rattle.nk_certtext.specs.ReadBack.{IsPrintable, IsReadBack}
+use Rattle.nk_certtext.specs.ReadBack.{IsPrintableCertificate, IsCertificateReadBack}
 
 -- two policies that are numbered one after the other, with numbers that a program's dups can have
 pub record AreCompared (p q : Policy) : Type 0 where
@@ -21,7 +21,7 @@ pub record AreCompared (p q : Policy) : Type 0 where
 -- the printed certificate of two policies is of the kind that a text has
 abbrev pub PrintsPrintable : Type 0
 PrintsPrintable = (fields : FieldTable) → IsFieldTable fields → (p q : Policy) → AreCompared p q → (c : CertificateValue)
-    → IsPrinted fields p q c → IsPrintable fields c
+    → IsPrinted fields p q c → IsPrintableCertificate fields c
 
 -- each of its rows has a predicate
 abbrev pub PrintsPredicates : Type 0
@@ -32,4 +32,4 @@ PrintsPredicates = (fields : FieldTable) → IsFieldTable fields → (p q : Poli
 abbrev pub ReadsPrintedFor : Type 0
 ReadsPrintedFor = (text : List ℕ) (ts : List Token) (ds : List Declaration) (s : Said) (p q : Policy) (c : CertificateValue)
     → tokens_of text ≡ Ok ts → file_of ts ≡ Ok ds → program_of ds ≡ Ok s → AreCompared p q → IsPrinted s.fields p q c
-    → IsReadBack s.fields text ds c
+    → IsCertificateReadBack s.fields text ds c

@@ -16,7 +16,7 @@ use Rattle.nk_names.specs.Declaring.{said_on}
 use Rattle.nk_names.specs.ProgramOf.{Said, program_of, row_policy}
 use Rattle.nk_cert.specs.Certificates.{CertificateValue}
 use Rattle.nk_certtext.specs.declared.error.TextError.{TextError}
-use Rattle.nk_certtext.specs.Rows.{RowsValue, fault_of, row_on, made_of, certificate_at_end}
+use Rattle.nk_certtext.specs.Rows.{RowsValue, fault_of_predicate, with_next_row, made_of, certificate_at_end}
 use Rattle.nk_certtext.specs.Whole.{names_fault, with_certificate}
 
 -- what the declarations so far say, and what the rows so far make
@@ -30,17 +30,17 @@ predicate_over said t line = and_then said (λ s. row_policy s.fields t line)
 
 -- one more row
 abbrev pub with_row_part : PartsValue → Row → PartsValue
-with_row_part p (row ns t line) = record p { rows = row_on p.rows ns line (predicate_over p.said t line) }
+with_row_part p (row ns t line) = record p { rows = with_next_row p.rows ns line (predicate_over p.said t line) }
 
 -- one more declaration or row
-abbrev pub with_part : PartsValue → Completed → PartsValue
-with_part p (completed.Declaration d) = record p { said = said_on p.said (declaration_of d) }
-with_part p (completed.Row r) = with_row_part p (row_value r)
+abbrev pub with_next_part : PartsValue → Completed → PartsValue
+with_next_part p (completed.Declaration d) = record p { said = said_on p.said (declaration_of d) }
+with_next_part p (completed.Row r) = with_row_part p (row_value r)
 
 -- the same of what a token completes, if it does
 abbrev pub with_completed : PartsValue → Option Completed → PartsValue
 with_completed p None = p
-with_completed p (Some c) = with_part p c
+with_completed p (Some c) = with_next_part p c
 
 -- what may come next, or the grammar's fault; and what is known of the declarations and rows that the tokens completed
 pub record CertProgress : Type 0 where
@@ -51,7 +51,7 @@ pub record CertProgress : Type 0 where
 abbrev pub made_by : Result Said NamesError → List Row → RowsValue
 made_by (Ok s) rs = made_of s.fields rs
 made_by (Err e) [] = None
-made_by (Err e) (r ∷ rs) = Some (Err (fault_of e))
+made_by (Err e) (r ∷ rs) = Some (Err (fault_of_predicate e))
 
 -- these are the tokens so far: they completed these declarations and rows, which say and make this
 pub record IsTaken (ts : List Token) (p : CertProgress) : Type 0 where

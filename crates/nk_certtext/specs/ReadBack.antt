@@ -18,21 +18,21 @@ use Rattle.nk_certtext.specs.Rows.{HasStartRow, certificate_of}
 
 -- a later row has a position, its positions are numbers that a text can have and ascend strictly, and its predicate is one
 -- whose text is read back
-pub record IsRowOf (fields : FieldTable) (r : RowValue) : Type 0 where
+pub record IsReadableRow (fields : FieldTable) (r : RowValue) : Type 0 where
   pub some : 1 ≤ length r.positions
   pub small : All (λ n. n ≤ largest) r.positions
   pub ascend : IsStrictlyIncreasing r.positions
   pub predicate : IsReadablePredicate fields r.predicate
 
 -- so it is of each later row, no two of them have the same positions, and the start row's predicate is such a one too
-pub record IsPrintable (fields : FieldTable) (c : CertificateValue) : Type 0 where
+pub record IsPrintableCertificate (fields : FieldTable) (c : CertificateValue) : Type 0 where
   pub start : IsReadablePredicate fields c.start
-  pub rows : All (IsRowOf fields) c.rows
+  pub rows : All (IsReadableRow fields) c.rows
   pub apart : AllPairs (λ r s. r.positions ≢ s.positions) c.rows
 
 -- A text, a line feed and the certificate's text are cut into tokens, and read as these declarations and as rows that make
 -- the certificate.
-pub record IsReadBack (fields : FieldTable) (text : List ℕ) (ds : List Declaration) (c : CertificateValue) : Type 0 where
+pub record IsCertificateReadBack (fields : FieldTable) (text : List ℕ) (ds : List Declaration) (c : CertificateValue) : Type 0 where
   pub tokens : List Token
   pub rows : List Row
   pub cut : tokens_of (joined text (cert_bytes fields c)) ≡ Ok tokens
@@ -42,10 +42,10 @@ pub record IsReadBack (fields : FieldTable) (text : List ℕ) (ds : List Declara
 
 -- what is printed of such a certificate is read as it behind the text of each program with its fields, and that text as its
 -- own declarations
-abbrev pub ReadsPrinted : Type 0
-ReadsPrinted = (text : List ℕ) (ts : List Token) (ds : List Declaration) (s : Said) (c : CertificateValue)
-    → tokens_of text ≡ Ok ts → file_of ts ≡ Ok ds → program_of ds ≡ Ok s → IsPrintable s.fields c
-    → IsReadBack s.fields text ds c
+abbrev pub ReadsPrintedCertificates : Type 0
+ReadsPrintedCertificates = (text : List ℕ) (ts : List Token) (ds : List Declaration) (s : Said) (c : CertificateValue)
+    → tokens_of text ≡ Ok ts → file_of ts ≡ Ok ds → program_of ds ≡ Ok s → IsPrintableCertificate s.fields c
+    → IsCertificateReadBack s.fields text ds c
 
 -- the rows of each text with a certificate begin with a start row
 abbrev pub HaveStartRows : Type 0
@@ -56,10 +56,10 @@ abbrev pub small_predicate : Policy
 small_predicate = seq_of (part (test 0 1) (part (not_of (range 1 2 3)) no_part))
 
 -- a start row and a later one, over the switch and the port
-abbrev pub small : CertificateValue
-small = record { start = seq_of no_part; rows = record { positions = 1 ∷ 3 ∷ []; predicate = small_predicate } ∷ [] }
+abbrev pub small_certificate : CertificateValue
+small_certificate = record { start = seq_of no_part; rows = record { positions = 1 ∷ 3 ∷ []; predicate = small_predicate } ∷ [] }
 
 -- it is a certificate of this kind, and this is its text
 pub record IsMetBySmall : Type 0 where
-  pub printable : IsPrintable built_in small
-  pub text : cert_bytes built_in small ≡ codes "certificate\nrow start : id\nrow 1 3 : sw=1;~pt in 2..3\n"
+  pub printable : IsPrintableCertificate built_in small_certificate
+  pub text : cert_bytes built_in small_certificate ≡ codes "certificate\nrow start : id\nrow 1 3 : sw=1;~pt in 2..3\n"

@@ -37,27 +37,27 @@ abbrev pub is_misplaced : (before : List RowValue) → List ℕ → Bool
 is_misplaced before ns = not (ascend ns) || have_positions before ns
 
 -- the fault of a predicate as one of a certificate
-abbrev pub fault_of : NamesError → CertError
-fault_of names.NoMemory = NoMemory
-fault_of (names.Fault kind line) = Fault kind line
+abbrev pub fault_of_predicate : NamesError → CertError
+fault_of_predicate names.NoMemory = NoMemory
+fault_of_predicate (names.Fault kind line) = Fault kind line
 
 -- the rows with one more, or the fault of its predicate
 abbrev pub with_predicate : (before : List RowValue) → List ℕ → Result Policy NamesError → Result (List RowValue) CertError
 with_predicate before ns (Ok p) = Ok (before ++ record { positions = ns; predicate = p } ∷ [])
-with_predicate before ns (Err e) = Err (fault_of e)
+with_predicate before ns (Err e) = Err (fault_of_predicate e)
 
 -- the rows with one more of this predicate, or its first fault: of its positions, and then of its predicate
 abbrev pub placed_row : (before : List RowValue) → List ℕ → (line : ℕ) → Result Policy NamesError → Result (List RowValue) CertError
 placed_row before ns line predicate = if is_misplaced before ns then Err (CertFault line) else with_predicate before ns predicate
 
 -- the same of a row as it is written
-abbrev pub with_row : FieldTable → (before : List RowValue) → Row → Result (List RowValue) CertError
-with_row fields before (row ns t line) = placed_row before ns line (row_policy fields t line)
+abbrev pub with_written_row : FieldTable → (before : List RowValue) → Row → Result (List RowValue) CertError
+with_written_row fields before (row ns t line) = placed_row before ns line (row_policy fields t line)
 
 -- the rows behind those that were read before
-abbrev pub rows_after : FieldTable → List Row → (before : List RowValue) → Result (List RowValue) CertError
-rows_after fields [] before = Ok before
-rows_after fields (r ∷ rs) before = and_then (with_row fields before r) (rows_after fields rs)
+abbrev pub with_later_rows : FieldTable → List Row → (before : List RowValue) → Result (List RowValue) CertError
+with_later_rows fields [] before = Ok before
+with_later_rows fields (r ∷ rs) before = and_then (with_written_row fields before r) (with_later_rows fields rs)
 
 -- a certificate of the start row's predicate and the later rows
 abbrev pub with_rows : Policy → Result (List RowValue) CertError → Result CertificateValue CertError
@@ -66,8 +66,8 @@ with_rows p (Err e) = Err e
 
 -- the start row's predicate, and then the later rows
 abbrev pub from_start : FieldTable → Result Policy NamesError → List Row → Result CertificateValue CertError
-from_start fields (Ok p) later = with_rows p (rows_after fields later [])
-from_start fields (Err e) later = Err (fault_of e)
+from_start fields (Ok p) later = with_rows p (with_later_rows fields later [])
+from_start fields (Err e) later = Err (fault_of_predicate e)
 
 -- the certificate of a text's rows, the start row first; without rows there is none
 abbrev pub certificate_of : FieldTable → List Row → Result CertificateValue CertError
@@ -79,21 +79,21 @@ certificate_of fields (row ns t line ∷ later) = from_start fields (row_policy 
 -- a certificate of a start row with this predicate alone
 abbrev pub starts : Result Policy NamesError → Result CertificateValue CertError
 starts (Ok p) = Ok (record { start = p; rows = [] })
-starts (Err e) = Err (fault_of e)
+starts (Err e) = Err (fault_of_predicate e)
 
 -- the certificate with one more row; the first fault stays
-abbrev pub goes_on : Result CertificateValue CertError → List ℕ → (line : ℕ) → Result Policy NamesError → Result CertificateValue CertError
-goes_on (Ok c) ns line predicate = with_rows c.start (placed_row c.rows ns line predicate)
-goes_on (Err e) ns line predicate = Err e
+abbrev pub with_later_row : Result CertificateValue CertError → List ℕ → (line : ℕ) → Result Policy NamesError → Result CertificateValue CertError
+with_later_row (Ok c) ns line predicate = with_rows c.start (placed_row c.rows ns line predicate)
+with_later_row (Err e) ns line predicate = Err e
 
 -- the certificate of the rows so far, or their first fault; none where there is no row
 abbrev pub RowsValue : Type 0
 RowsValue = Option (Result CertificateValue CertError)
 
 -- with one more row of this predicate, where the first row is the start row
-abbrev pub row_on : RowsValue → List ℕ → (line : ℕ) → Result Policy NamesError → RowsValue
-row_on None ns line predicate = Some (starts predicate)
-row_on (Some c) ns line predicate = Some (goes_on c ns line predicate)
+abbrev pub with_next_row : RowsValue → List ℕ → (line : ℕ) → Result Policy NamesError → RowsValue
+with_next_row None ns line predicate = Some (starts predicate)
+with_next_row (Some c) ns line predicate = Some (with_later_row c ns line predicate)
 
 -- what these rows make
 abbrev pub made_of : FieldTable → List Row → RowsValue

@@ -48,8 +48,8 @@ text_of_written (Ok w) = text_of_said (program_of w.declarations) w.rows
 text_of_written (Err e) = Err (grammar_fault e)
 
 -- of tokens
-abbrev pub text_of : List Token → Result (Said × CertificateValue) TextError
-text_of ts = text_of_written (certified_of ts)
+abbrev pub text_of_tokens : List Token → Result (Said × CertificateValue) TextError
+text_of_tokens ts = text_of_written (certified_of ts)
 
 -- this is the fault of what is wanted; want of memory may come at any
 abbrev pub IsTextFault : {X : Type 0} → TextError → Result X TextError → Type 0

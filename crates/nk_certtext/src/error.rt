@@ -1,6 +1,6 @@
 //! Why the rows of a text make no certificate, and why the tokens of a text make no program with a certificate.
 ghost use Rattle.std.specs.Prelude.{◌≡◌};
-ghost use Rattle.nk_certtext.specs.Rows.{fault_of};
+ghost use Rattle.nk_certtext.specs.Rows.{fault_of_predicate};
 ghost use Rattle.nk_certtext.specs.Whole.{grammar_fault, names_fault, rows_fault};
 ghost use Rattle.nk_certtext.specs.declared.error.CertError.TheVariants.{NoMemory};
 ghost use Rattle.nk_certtext.specs.declared.error.TextError.TheVariants as text;
@@ -41,7 +41,7 @@ impl From<AllocError> for CertError {
 }
 
 impl From<NamesError> for CertError {
-    ghost from_gives = { λ error e. e ≡ fault_of error };
+    ghost from_gives = { λ error e. e ≡ fault_of_predicate error };
 
     fn from(error: NamesError) -> Self {
         match error {

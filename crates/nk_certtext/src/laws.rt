@@ -1,6 +1,6 @@
 //! Laws of reading the rows of a certificate: they are read by the grammar, and what is printed is read back.
 ghost use Rattle.nk_certtext.specs.Printed.{PrintsPredicates, PrintsPrintable, ReadsPrintedFor};
-ghost use Rattle.nk_certtext.specs.ReadBack.{HaveStartRows, IsMetBySmall, ReadsPrinted};
+ghost use Rattle.nk_certtext.specs.ReadBack.{HaveStartRows, IsMetBySmall, ReadsPrintedCertificates};
 
 use nk_grammar::{
     a_program_and_a_certificate_are_read_together, certificate_texts_are_read,
@@ -13,7 +13,7 @@ use nk_names::laws::{declared_fields_are_writable, printed_predicates_are_read_b
 /// predicates have values in range, are at most 256 deep and have no sum or sequence of exactly one part, of any size;
 /// its later rows have at least one position, strictly ascending ones, and no two rows the same.
 pub fn printed_certificates_are_read()
-    ensures { ReadsPrinted }
+    ensures { ReadsPrintedCertificates }
 {
     declared_fields_are_writable();
     printed_predicates_are_read_back();

@@ -10,8 +10,8 @@ ghost use Rattle.nk_names.specs.ProgramOf.{said_by};
 ghost use Rattle.nk_cert.specs.Values.{certificate_value};
 ghost use Rattle.nk_cert.specs.Verdicts.{HasPredicates};
 ghost use Rattle.nk_certtext.specs.InMemory.{parts_in};
-ghost use Rattle.nk_certtext.specs.Progress.{HasStopped, IsTaken, IsTakenOn, text_at_end, with_completed, with_part, with_row_part};
-ghost use Rattle.nk_certtext.specs.Whole.{ReturnsText, grammar_fault, text_of};
+ghost use Rattle.nk_certtext.specs.Progress.{HasStopped, IsTaken, IsTakenOn, text_at_end, with_completed, with_next_part, with_row_part};
+ghost use Rattle.nk_certtext.specs.Whole.{ReturnsText, grammar_fault, text_of_tokens};
 
 use crate::error::TextError;
 use crate::rows::RowsRead;
@@ -44,7 +44,7 @@ impl Parts {
 
     /// One more declaration or row.
     fn put(&mut self, alloc: Global, part: &Completed) -> Result<(), AllocError>
-        ensures ok { OnOk result (parts_in self.new ≡ with_part (parts_in self.old) part.now) }
+        ensures ok { OnOk result (parts_in self.new ≡ with_next_part (parts_in self.old) part.now) }
         ensures kept { OnErr result (parts_in self.new ≡ parts_in self.old) }
     {
         match part {
@@ -99,8 +99,8 @@ impl Parts {
 }
 
 /// A text with a certificate read token by token. Its declarations become a program and its rows predicates as they come: neither
-/// the tokens nor the declarations and rows are kept, but for the last one that is complete. After a fault nothing but the fault is
-/// kept, and what may come next by the grammar.
+/// the tokens nor the declarations and rows are kept, but for the last one that is complete. After a fault of the grammar nothing
+/// more is taken in. A fault of the declarations stands in place of the program, and one of the rows in place of the certificate.
 #[derive(Drop)]
 pub struct CertReader {
     grammar: CertifiedReader,
@@ -176,7 +176,7 @@ impl CertReader {
     pub fn end(self, alloc: Global) -> Result<(Program, Certificate), TextError>
         requires small { (ts : List Token) × IsTaken ts self × All (λ t. t.value ≤ largest) ts }
         ensures read { (ts : List Token) → IsTaken ts self
-            → ReturnsText (λ r. (said_by r.0, certificate_value r.1)) result (text_of ts) }
+            → ReturnsText (λ r. (said_by r.0, certificate_value r.1)) result (text_of_tokens ts) }
         ensures predicates { IfOk result (λ r. HasPredicates (certificate_value r.1)) }
     {
         // This is a law: what is complete has numbers of a text.

@@ -5,8 +5,8 @@ ghost use Rattle.nk_policy.specs.Tree.{tree_of};
 ghost use Rattle.nk_names.specs.declared.fault.NamesError.{NamesError};
 ghost use Rattle.nk_names.specs.ProgramOf as program;
 ghost use Rattle.nk_cert.specs.Values.{certificate_value, row_values};
-ghost use Rattle.nk_certtext.specs.InMemory.{IsAdded, becomes, rows_in};
-ghost use Rattle.nk_certtext.specs.Rows.{ascend, ascend_after, certificate_at_end, have_positions, is_misplaced, placed_row, row_on, starts, Returns, with_predicate};
+ghost use Rattle.nk_certtext.specs.InMemory.{MakesKnown, becomes, rows_in};
+ghost use Rattle.nk_certtext.specs.Rows.{ascend, certificate_at_end, have_positions, is_misplaced, placed_row, with_next_row, starts, Returns, with_predicate};
 
 use crate::error::CertError;
 use indexmap::IndexMap;
@@ -124,7 +124,7 @@ fn begun(alloc: Global, predicate: Result<Pol, NamesError>) -> Result<RowsRead, 
 
 /// What is known after a row that was added: nothing new, or the first fault.
 fn after_adding(added: Result<(), CertError>) -> Result<Option<RowsRead>, AllocError>
-    ensures { IsAdded added result }
+    ensures { MakesKnown added result }
 {
     match added {
         Ok(()) => Ok(None),
@@ -149,7 +149,7 @@ impl RowsRead {
     ) -> Result<Option<RowsRead>, AllocError>
         ensures told { (wanted : Result Policy NamesError) → program.Returns tree_of predicate wanted
             → IfOk result (λ next. becomes next (rows_in self.new)
-            ≡ row_on (rows_in self.old) row.now.positions row.now.line wanted) }
+            ≡ with_next_row (rows_in self.old) row.now.positions row.now.line wanted) }
         ensures kept { OnErr result (rows_in self.new ≡ rows_in self.old) }
     {
         match self {
@@ -178,7 +178,7 @@ impl RowsRead {
         predicate: Result<Pol, NamesError>,
     ) -> Result<(), AllocError>
         ensures ok { (wanted : Result Policy NamesError) → program.Returns tree_of predicate wanted
-            → OnOk result (rows_in self.new ≡ row_on (rows_in self.old) row.now.positions row.now.line wanted) }
+            → OnOk result (rows_in self.new ≡ with_next_row (rows_in self.old) row.now.positions row.now.line wanted) }
         ensures kept { OnErr result (rows_in self.new ≡ rows_in self.old) }
     {
         let next = self.tell(alloc, row, predicate)?;

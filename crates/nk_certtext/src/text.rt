@@ -1,8 +1,8 @@
 //! The text of a certificate.
-ghost use Rattle.std.specs.Prelude.{◌≡◌, ◌++◌, IfOk, OnOk, codes};
+ghost use Rattle.std.specs.Prelude.{◌≡◌, ◌++◌, IfOk, OnOk};
 ghost use Rattle.std.specs.List.{flat_map};
 ghost use Rattle.nk_policy.specs.Tree.{tree_of};
-ghost use Rattle.nk_cert.specs.Values.{certificate_value, row_value};
+ghost use Rattle.nk_cert.specs.Values.{certificate_value, held_row_value};
 ghost use Rattle.nk_certtext.specs.Text.{position_bytes, predicate_bytes, row_bytes, cert_bytes};
 
 use itoa::Buffer;
@@ -33,7 +33,7 @@ fn push_rows(
     rows: &[(List<u64>, Pol)],
 ) -> Result<(), AllocError>
     ensures { OnOk result (out.new.items
-        ≡ out.old.items ++ flat_map (λ r. row_bytes fields.now (row_value r)) rows.now) }
+        ≡ out.old.items ++ flat_map (λ r. row_bytes fields.now (held_row_value r)) rows.now) }
 {
     for row in rows {
         push_row(alloc, out, fields, row)?;
@@ -48,7 +48,7 @@ fn push_row(
     fields: &Fields,
     row: &(List<u64>, Pol),
 ) -> Result<(), AllocError>
-    ensures { OnOk result (out.new.items ≡ out.old.items ++ row_bytes fields.now (row_value row.now)) }
+    ensures { OnOk result (out.new.items ≡ out.old.items ++ row_bytes fields.now (held_row_value row.now)) }
 {
     out.extend_from_slice(b"row")?;
     push_positions(out, row.0.as_slice())?;

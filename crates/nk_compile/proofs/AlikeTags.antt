@@ -21,48 +21,48 @@ use Rattle.nk_determ.specs.Automaton.{IsAutomaton}
 use Rattle.nk_reach.specs.declared.found.Side.{Side}
 use Rattle.nk_reach.specs.declared.found.Side.TheVariants.{Left, Right}
 use Rattle.nk_switches.specs.Matched.{Matched}
-use Rattle.nk_switches.specs.Tagged.{set_of}
+use Rattle.nk_switches.specs.Tagged.{set_of_tag}
 use Rattle.nk_switches.proofs.Matching.{of_second, matched_maps}
-use Rattle.nk_merge.specs.Alike.{SetGives, AreAlike, AreTagsAlike, behind}
+use Rattle.nk_merge.specs.Alike.{SetGives, AreAlike, AreTagsAlike, labels_behind}
 use Rattle.nk_merge.specs.Apart.{IsOfFirst, IsOfOne, IsLeastOfOne}
 use Rattle.nk_merge.specs.Classes.{AreClasses, AreFirsts}
 use Rattle.nk_merge.specs.SumsAfter.{sum_after}
 use Rattle.nk_merge.proofs.Policies.{set_gives}
 use Rattle.nk_compile.specs.declared.compact.Apart.{Apart}
-use Rattle.nk_compile.specs.Compacted.{IsOfOneAlone, IsLeastAlone, IsClass, IsFirstSet, IsApartIn, classes_apart, AreAparts}
-use Rattle.nk_compile.specs.MergedTable.{GivesBehind, AreSetsAlike, AreTagClasses, IsMember}
+use Rattle.nk_compile.specs.Compacted.{IsOfFirstSetAlone, IsLeastAlone, IsClass, IsFirstSet, IsApartIn, classes_apart, AreAparts}
+use Rattle.nk_compile.specs.MergedTable.{GivesBehind, AreSetsAlike, AreTagClasses, IsOfClass}
 use Rattle.nk_compile.specs.Ready.{sets_of}
 use Rattle.nk_compile.specs.Refusals.{found_from}
-use Rattle.nk_compile.specs.Told.{number_of, IsTold, row, rows, AreTold}
+use Rattle.nk_compile.specs.Told.{number_on_side, IsToldApart, pairs_behind, first_pairs, AreToldApart}
 use Rattle.nk_compile.proofs.Merging.{get_index, index_get}
 use Rattle.nk_compile.proofs.Results.{set_there}
 
 -- what is left behind the labels of a set, as a sum
-sum_behind : (p : Policy) (s : List ℕ) (x : Packet) (w : List Packet) (y : Packet) → Gives (sum_after p (behind s)) x w y ↔ GivesBehind p s x w y
+sum_behind : (p : Policy) (s : List ℕ) (x : Packet) (w : List Packet) (y : Packet) → Gives (sum_after p (labels_behind s)) x w y ↔ GivesBehind p s x w y
 sum_behind p s x w y = (λ g. let h = from s g in (h.0, contains_from_in s h.0 h.1, h.2), λ h. there s h.0 (in_from_contains s h.0 h.1) h.2)
   where
-    from : (ls : List ℕ) → Gives (sum_after p (behind ls)) x w y → (l : ℕ) × In ls l × Gives (after p (l + 1)) x w y
+    from : (ls : List ℕ) → Gives (sum_after p (labels_behind ls)) x w y → (l : ℕ) × In ls l × Gives (after p (l + 1)) x w y
     from [] g = absurd g
     from (l ∷ ls) g = ⊎_elim (λ a. (l, inl refl, a)) (λ b. let h = from ls b in (h.0, inr h.1, h.2)) g
 
-    there : (ls : List ℕ) (l : ℕ) → In ls l → Gives (after p (l + 1)) x w y → Gives (sum_after p (behind ls)) x w y
+    there : (ls : List ℕ) (l : ℕ) → In ls l → Gives (after p (l + 1)) x w y → Gives (sum_after p (labels_behind ls)) x w y
     there [] l i g = absurd i
     there (k ∷ ls) l i g = ⊎_elim (λ e. inl (subst (λ n. Gives (after p (n + 1)) x w y) e g)) (λ m. inr (there ls l m g)) i
 
 -- the labels behind a set are dups of the policy
 abbrev pub AreDups : Policy → List ℕ → Type 0
-AreDups p s = (l : ℕ) → Contains (behind s) l → has_dup p l ≡ true
+AreDups p s = (l : ℕ) → Contains (labels_behind s) l → has_dup p l ≡ true
 
 module _ (fields : FieldTable) (p : Policy) (distinct : HasDistinct p) (st : Held) (states : List ℕ) (over : IsOver fields st) (auto : IsAutomaton st states 1 p) (tidy : AreTidy st) where
   -- what a set's states give
-  gives_is : (s : List ℕ) → AreDups p s → (x : Packet) (w : List Packet) (y : Packet) → IsPacket fields x → SetGives st states (behind s) x w y ↔ GivesBehind p s x w y
+  gives_is : (s : List ℕ) → AreDups p s → (x : Packet) (w : List Packet) (y : Packet) → IsPacket fields x → SetGives st states (labels_behind s) x w y ↔ GivesBehind p s x w y
   gives_is s dups x w y packet =
-      let e = set_gives p distinct st states auto tidy (behind s) dups x w y (packet_in_range fields st x over packet) in
+      let e = set_gives p distinct st states auto tidy (labels_behind s) dups x w y (packet_in_range fields st x over packet) in
       let f = sum_behind p s x w y in
       (λ g. f.0 (e.0 g), λ g. e.1 (f.1 g))
 
   -- two sets are alike
-  pub alike_is : (s t : List ℕ) → AreDups p s → AreDups p t → AreAlike st states (behind s) (behind t) ↔ AreSetsAlike fields p s t
+  pub alike_is : (s t : List ℕ) → AreDups p s → AreDups p t → AreAlike st states (labels_behind s) (labels_behind t) ↔ AreSetsAlike fields p s t
   alike_is s t sd td = (
     λ h x w y packet.
         let a = gives_is s sd x w y packet in
@@ -78,7 +78,7 @@ module _ (fields : FieldTable) (p : Policy) (distinct : HasDistinct p) (st : Hel
   )
 
   -- a history of the first set alone
-  first_is : (s t : List ℕ) → AreDups p s → AreDups p t → (f : Found) → IsOfFirst st states (behind s) (behind t) f ↔ IsOfOneAlone fields p s t f
+  first_is : (s t : List ℕ) → AreDups p s → AreDups p t → (f : Found) → IsOfFirst st states (labels_behind s) (labels_behind t) f ↔ IsOfFirstSetAlone fields p s t f
   first_is s t sd td f = (
     λ h.
         let packet = packet_of_fields fields st f.start over h.0 in
@@ -87,12 +87,12 @@ module _ (fields : FieldTable) (p : Policy) (distinct : HasDistinct p) (st : Hel
   )
 
   -- of one of both
-  one_from : (s t : List ℕ) → AreDups p s → AreDups p t → (f : Found) → IsOfOneAlone fields p s t f ⊎ IsOfOneAlone fields p t s f → (k : Side) × IsOfOne st states (behind s) (behind t) k f
+  one_from : (s t : List ℕ) → AreDups p s → AreDups p t → (f : Found) → IsOfFirstSetAlone fields p s t f ⊎ IsOfFirstSetAlone fields p t s f → (k : Side) × IsOfOne st states (labels_behind s) (labels_behind t) k f
   one_from s t sd td f (inl h) = (Left, (first_is s t sd td f).1 h)
   one_from s t sd td f (inr h) = (Right, (first_is t s td sd f).1 h)
 
   -- the least one
-  least_is : (s t : List ℕ) → AreDups p s → AreDups p t → (side : Side) (f : Found) (first second alone : ℕ) → alone ≡ number_of side first second → IsLeastOfOne st states (behind s) (behind t) side f →
+  least_is : (s t : List ℕ) → AreDups p s → AreDups p t → (side : Side) (f : Found) (first second alone : ℕ) → alone ≡ number_on_side side first second → IsLeastOfOne st states (labels_behind s) (labels_behind t) side f →
       ((alone ≡ first) × IsLeastAlone fields p s t f) ⊎ ((alone ≡ second) × IsLeastAlone fields p t s f)
   least_is s t sd td Left f first second alone is h =
       let own = (first_is s t sd td f).0 h.0 in
@@ -101,9 +101,9 @@ module _ (fields : FieldTable) (p : Policy) (distinct : HasDistinct p) (st : Hel
       let own = (first_is t s td sd f).0 h.0 in
       inr (is, (own, (inl own, λ g k. h.1.1 g (one_from s t sd td g (⊎_elim (λ a. inr a) (λ b. inl b) k)))))
 
-  module _ (ss : List (List ℕ)) (tags classes firsts : List ℕ) (dups : (i : ℕ) → i < length tags → AreDups p (set_of ss tags i)) where
+  module _ (ss : List (List ℕ)) (tags classes firsts : List ℕ) (dups : (i : ℕ) → i < length tags → AreDups p (set_of_tag ss tags i)) where
     -- the set at a place
-    set_here : (i : ℕ) → i < length tags → slice_index_or (sets_of ss tags) i [] ≡ set_of ss tags i
+    set_here : (i : ℕ) → i < length tags → slice_index_or (sets_of ss tags) i [] ≡ set_of_tag ss tags i
     set_here i lt = get_or-map (λ s. get_or ss s []) tags i 0 [] lt
 
     -- the classes are those of the tag sets
@@ -115,11 +115,11 @@ module _ (fields : FieldTable) (p : Policy) (distinct : HasDistinct p) (st : Hel
           same = λ i j li lj.
               let a = subst (λ n. i < n) many li in
               let b = subst (λ n. j < n) many lj in
-              let e = alike_is (set_of ss tags i) (set_of ss tags j) (dups i a) (dups j b) in
+              let e = alike_is (set_of_tag ss tags i) (set_of_tag ss tags j) (dups i a) (dups j b) in
               let f = k.same i j a b in (
                 λ h. subst (λ s. AreSetsAlike fields p (slice_index_or (sets_of ss tags) i []) s) (sym (set_here j b))
-                    (subst (λ s. AreSetsAlike fields p s (set_of ss tags j)) (sym (set_here i a)) (e.0 (f.0 h))),
-                λ h. f.1 (e.1 (subst (λ s. AreSetsAlike fields p (set_of ss tags i) s) (set_here j b)
+                    (subst (λ s. AreSetsAlike fields p s (set_of_tag ss tags j)) (sym (set_here i a)) (e.0 (f.0 h))),
+                λ h. f.1 (e.1 (subst (λ s. AreSetsAlike fields p (set_of_tag ss tags i) s) (set_here j b)
                     (subst (λ s. AreSetsAlike fields p s (slice_index_or (sets_of ss tags) j [])) (set_here i a) h))),
               );
           from_one = λ i li. k.from_one i (subst (λ n. i < n) many li);
@@ -128,7 +128,7 @@ module _ (fields : FieldTable) (p : Policy) (distinct : HasDistinct p) (st : Hel
 
     module _ (count : length classes ≡ length tags) (from_one : (i : ℕ) → i < length tags → 1 ≤ slice_index classes i) (fm : AreFirsts classes firsts) where
       -- the set of the first member of a class
-      first_set_is : (c : ℕ) → c < length firsts → (n : ℕ) → n ≡ suc c → IsFirstSet (sets_of ss tags) classes n (set_of ss tags (slice_index firsts c))
+      first_set_is : (c : ℕ) → c < length firsts → (n : ℕ) → n ≡ suc c → IsFirstSet (sets_of ss tags) classes n (set_of_tag ss tags (slice_index firsts c))
       first_set_is c lt n is =
           let m = fm.member c lt in (
             slice_index firsts c,
@@ -137,15 +137,15 @@ module _ (fields : FieldTable) (p : Policy) (distinct : HasDistinct p) (st : Hel
           )
 
       -- what is told of two classes tells them apart
-      told_is : (i j : ℕ) → i < length firsts → j < length firsts → (a : Apart) → IsTold st states ss tags firsts i j a → IsApartIn fields p (sets_of ss tags) classes a
+      told_is : (i j : ℕ) → i < length firsts → j < length firsts → (a : Apart) → IsToldApart st states ss tags firsts i j a → IsApartIn fields p (sets_of ss tags) classes a
       told_is i j li lj a k =
           let inside : (c : ℕ) → c < length firsts → slice_index firsts c < length tags = λ c lt. subst (λ n. slice_index firsts c < n) count (fm.member c lt).0 in
           record {
-            s = set_of ss tags (slice_index firsts i);
-            t = set_of ss tags (slice_index firsts j);
+            s = set_of_tag ss tags (slice_index firsts i);
+            t = set_of_tag ss tags (slice_index firsts j);
             of_first = first_set_is i li a.first k.first_is;
             of_second = first_set_is j lj a.second k.second_is;
-            least = least_is (set_of ss tags (slice_index firsts i)) (set_of ss tags (slice_index firsts j)) (dups (slice_index firsts i) (inside i li)) (dups (slice_index firsts j) (inside j lj)) k.side (found_from a.start a.history) a.first a.second a.alone k.alone_is k.least;
+            least = least_is (set_of_tag ss tags (slice_index firsts i)) (set_of_tag ss tags (slice_index firsts j)) (dups (slice_index firsts i) (inside i li)) (dups (slice_index firsts j) (inside j lj)) k.side (found_from a.start a.history) a.first a.second a.alone k.alone_is k.least;
           }
 
       -- a class is one of so many
@@ -155,7 +155,7 @@ module _ (fields : FieldTable) (p : Policy) (distinct : HasDistinct p) (st : Hel
         λ h. absurd (omega (arith, h.2)),
       )
         where
-          within : (i n : ℕ) → IsMember classes n i → i < length classes
+          within : (i n : ℕ) → IsOfClass classes n i → i < length classes
           within i n e = slice_get_within classes i n e
       class_is (suc c) = (
         λ h. let lt = slice_get_within classes h.0 (suc c) h.1 in let le = fm.all h.0 lt in (c, omega (arith, le, index_get classes h.0 (suc c) h.1), refl),
@@ -203,15 +203,15 @@ spot_turn i j = by (ltb i j)
     by false = tt
 
 -- a row has the places behind i
-row_from : (i n : ℕ) (q : ℕ × ℕ) → In (row i n) q → (q.0 ≡ i) × (i < q.1) × (q.1 < n)
+row_from : (i n : ℕ) (q : ℕ × ℕ) → In (pairs_behind i n) q → (q.0 ≡ i) × (i < q.1) × (q.1 < n)
 row_from i zero q h = absurd h
 row_from i (suc n) q h =
     ⊎_elim
     (λ a. let r = row_from i n q a in (r.0, r.1, let lt = r.2 in omega (arith, lt)))
     (λ b. let s = spot_from i n q b in (ap (λ (k : ℕ × ℕ). k.0) s.0, let e = ap (λ (k : ℕ × ℕ). k.1) s.0 in omega (arith, e, s.1), let e = ap (λ (k : ℕ × ℕ). k.1) s.0 in omega (arith, e)))
-    (in_either (row i n) (spot i n) q h)
+    (in_either (pairs_behind i n) (spot i n) q h)
 
-row_there : (i n j : ℕ) → i < j → j < n → In {X = ℕ × ℕ} (row i n) (i, j)
+row_there : (i n j : ℕ) → i < j → j < n → In {X = ℕ × ℕ} (pairs_behind i n) (i, j)
 row_there i zero j a b = absurd (omega (arith, b))
 row_there i (suc n) j a b = by (row_there i n j a) (either j n b)
   where
@@ -221,28 +221,28 @@ row_there i (suc n) j a b = by (row_there i n j a) (either j n b)
     either (suc k) zero l = absurd (omega (arith, l))
     either (suc k) (suc m) l = ⊎_elim (λ x. inl (omega (arith, x))) (λ x. inr (ap suc x)) (either k m (omega (arith, l)))
 
-    by : (j < n → In {X = ℕ × ℕ} (row i n) (i, j)) → (j < n) ⊎ (j ≡ n) → In {X = ℕ × ℕ} (row i n ++ spot i n) (i, j)
-    by f (inl l) = in_left (row i n) (spot i n) (i, j) (f l)
-    by f (inr e) = in_right (row i n) (spot i n) (i, j) (subst (λ m. In {X = ℕ × ℕ} (spot i m) (i, j)) e (spot_there i j a))
+    by : (j < n → In {X = ℕ × ℕ} (pairs_behind i n) (i, j)) → (j < n) ⊎ (j ≡ n) → In {X = ℕ × ℕ} (pairs_behind i n ++ spot i n) (i, j)
+    by f (inl l) = in_left (pairs_behind i n) (spot i n) (i, j) (f l)
+    by f (inr e) = in_right (pairs_behind i n) (spot i n) (i, j) (subst (λ m. In {X = ℕ × ℕ} (spot i m) (i, j)) e (spot_there i j a))
 
-row_turn : (i n : ℕ) → InTurn (row i n)
+row_turn : (i n : ℕ) → InTurn (pairs_behind i n)
 row_turn i zero = tt
 row_turn i (suc n) =
-    turn_append (row i n) (spot i n) (row_turn i n) (spot_turn i n) (λ x y a b.
+    turn_append (pairs_behind i n) (spot i n) (row_turn i n) (spot_turn i n) (λ x y a b.
     let r = row_from i n x a in
     let s = spot_from i n y b in
     inr (r.0 ∙ sym (ap (λ (k : ℕ × ℕ). k.0) s.0), let e = ap (λ (k : ℕ × ℕ). k.1) s.0 in omega (arith, e, r.2)))
 
 -- and all rows
-rows_from : (n m : ℕ) (q : ℕ × ℕ) → In (rows n m) q → (q.0 < m) × (q.0 < q.1) × (q.1 < n)
+rows_from : (n m : ℕ) (q : ℕ × ℕ) → In (first_pairs n m) q → (q.0 < m) × (q.0 < q.1) × (q.1 < n)
 rows_from n zero q h = absurd h
 rows_from n (suc m) q h =
     ⊎_elim
     (λ a. let r = rows_from n m q a in (let lt = r.0 in omega (arith, lt), r.1, r.2))
     (λ b. let r = row_from m n q b in (let e = r.0 in omega (arith, e), omega (arith, r.0, r.1), r.2))
-    (in_either (rows n m) (row m n) q h)
+    (in_either (first_pairs n m) (pairs_behind m n) q h)
 
-rows_there : (n m i j : ℕ) → i < m → i < j → j < n → In {X = ℕ × ℕ} (rows n m) (i, j)
+rows_there : (n m i j : ℕ) → i < m → i < j → j < n → In {X = ℕ × ℕ} (first_pairs n m) (i, j)
 rows_there n zero i j a b c = absurd (omega (arith, a))
 rows_there n (suc m) i j a b c = by (λ l. rows_there n m i j l b c) (either i m a)
   where
@@ -252,14 +252,14 @@ rows_there n (suc m) i j a b c = by (λ l. rows_there n m i j l b c) (either i m
     either (suc k) zero l = absurd (omega (arith, l))
     either (suc k) (suc m) l = ⊎_elim (λ x. inl (omega (arith, x))) (λ x. inr (ap suc x)) (either k m (omega (arith, l)))
 
-    by : (i < m → In {X = ℕ × ℕ} (rows n m) (i, j)) → (i < m) ⊎ (i ≡ m) → In {X = ℕ × ℕ} (rows n m ++ row m n) (i, j)
-    by f (inl l) = in_left (rows n m) (row m n) (i, j) (f l)
-    by f (inr e) = in_right (rows n m) (row m n) (i, j) (subst (λ k. In {X = ℕ × ℕ} (row k n) (i, j)) e (row_there i n j b c))
+    by : (i < m → In {X = ℕ × ℕ} (first_pairs n m) (i, j)) → (i < m) ⊎ (i ≡ m) → In {X = ℕ × ℕ} (first_pairs n m ++ pairs_behind m n) (i, j)
+    by f (inl l) = in_left (first_pairs n m) (pairs_behind m n) (i, j) (f l)
+    by f (inr e) = in_right (first_pairs n m) (pairs_behind m n) (i, j) (subst (λ k. In {X = ℕ × ℕ} (pairs_behind k n) (i, j)) e (row_there i n j b c))
 
-rows_turn : (n m : ℕ) → InTurn (rows n m)
+rows_turn : (n m : ℕ) → InTurn (first_pairs n m)
 rows_turn n zero = tt
 rows_turn n (suc m) =
-    turn_append (rows n m) (row m n) (rows_turn n m) (row_turn m n) (λ x y a b.
+    turn_append (first_pairs n m) (pairs_behind m n) (rows_turn n m) (row_turn m n) (λ x y a b.
     let r = rows_from n m x a in
     let s = row_from m n y b in
     inl (let lt = r.0 in let e = s.0 in omega (arith, lt, e)))
@@ -287,18 +287,18 @@ abbrev raised : ℕ × ℕ → ℕ × ℕ
 raised q = (suc q.0, suc q.1)
 
 module _ (fields : FieldTable) (p : Policy) (distinct : HasDistinct p) (st : Held) (states : List ℕ) (over : IsOver fields st) (auto : IsAutomaton st states 1 p) (tidy : AreTidy st)
-    (ss : List (List ℕ)) (tags classes firsts : List ℕ) (dups : (i : ℕ) → i < length tags → AreDups p (set_of ss tags i))
+    (ss : List (List ℕ)) (tags classes firsts : List ℕ) (dups : (i : ℕ) → i < length tags → AreDups p (set_of_tag ss tags i))
     (count : length classes ≡ length tags) (from_one : (i : ℕ) → i < length tags → 1 ≤ slice_index classes i) (fm : AreFirsts classes firsts) where
   -- what is told of any two classes in turn tells any two apart
-  pub told_all : (aparts : List Apart) → AreTold st states ss tags firsts (rows (length firsts) (length firsts)) aparts → AreAparts fields p (sets_of ss tags) classes aparts
+  pub told_all : (aparts : List Apart) → AreToldApart st states ss tags firsts (first_pairs (length firsts) (length firsts)) aparts → AreAparts fields p (sets_of ss tags) classes aparts
   told_all aparts k =
       let n = length firsts in
-      let numbers : map classes_apart aparts ≡ map raised (rows n n) =
-      matched_maps (λ (q : ℕ × ℕ) (a : Apart). IsTold st states ss tags firsts q.0 q.1 a) raised classes_apart (λ q a t. ap (λ x. (x, a.second)) t.first_is ∙ ap (λ y. (suc q.0, y)) t.second_is) (rows n n) aparts k in
+      let numbers : map classes_apart aparts ≡ map raised (first_pairs n n) =
+      matched_maps (λ (q : ℕ × ℕ) (a : Apart). IsToldApart st states ss tags firsts q.0 q.1 a) raised classes_apart (λ q a t. ap (λ x. (x, a.second)) t.first_is ∙ ap (λ y. (suc q.0, y)) t.second_is) (first_pairs n n) aparts k in
       record {
         exactly = λ i j. (
           λ c.
-              let m = from_mapped raised (rows n n) (i, j) (in_from_contains (map raised (rows n n)) (i, j) (subst (λ (l : List (ℕ × ℕ)). Contains l (i, j)) numbers c)) in
+              let m = from_mapped raised (first_pairs n n) (i, j) (in_from_contains (map raised (first_pairs n n)) (i, j) (subst (λ (l : List (ℕ × ℕ)). Contains l (i, j)) numbers c)) in
               let r = rows_from n n m.0 m.1 in
               let a : i ≡ suc m.0.0 = ap (λ (k : ℕ × ℕ). k.0) m.2 in
               let b : j ≡ suc m.0.1 = ap (λ (k : ℕ × ℕ). k.1) m.2 in
@@ -311,13 +311,13 @@ module _ (fields : FieldTable) (p : Policy) (distinct : HasDistinct p) (st : Hel
               let a = (class_is fields p distinct st states over auto tidy ss tags classes firsts dups count from_one fm i).0 h.1 in
               let b = (class_is fields p distinct st states over auto tidy ss tags classes firsts dups count from_one fm j).0 h.2 in
               let lt : a.0 < b.0 = let l = h.0 in omega (arith, l, a.2, b.2) in
-              let there = in_mapped raised (rows n n) (a.0, b.0) (rows_there n n a.0 b.0 a.1 lt b.1) in
+              let there = in_mapped raised (first_pairs n n) (a.0, b.0) (rows_there n n a.0 b.0 a.1 lt b.1) in
               let same : (suc a.0, suc b.0) ≡ (i, j) = ap (λ x. (x, suc b.0)) (sym a.2) ∙ ap (λ y. (i, y)) (sym b.2) in
-              subst (λ (l : List (ℕ × ℕ)). Contains l (i, j)) (sym numbers) (contains_from_in (map raised (rows n n)) (i, j) (subst (λ (q : ℕ × ℕ). In (map raised (rows n n)) q) same there)),
+              subst (λ (l : List (ℕ × ℕ)). Contains l (i, j)) (sym numbers) (contains_from_in (map raised (first_pairs n n)) (i, j) (subst (λ (q : ℕ × ℕ). In (map raised (first_pairs n n)) q) same there)),
         );
-        in_order = told_turn (λ (q : ℕ × ℕ) (a : Apart). IsTold st states ss tags firsts q.0 q.1 a) (λ q a t. (t.first_is, t.second_is)) (rows n n) aparts (rows_turn n n) k;
+        in_order = told_turn (λ (q : ℕ × ℕ) (a : Apart). IsToldApart st states ss tags firsts q.0 q.1 a) (λ q a t. (t.first_is, t.second_is)) (first_pairs n n) aparts (rows_turn n n) k;
         each = all_from_members (IsApartIn fields p (sets_of ss tags) classes) aparts (λ a i.
-            let s = of_second (λ (q : ℕ × ℕ) (a : Apart). IsTold st states ss tags firsts q.0 q.1 a) (rows n n) aparts a k i in
+            let s = of_second (λ (q : ℕ × ℕ) (a : Apart). IsToldApart st states ss tags firsts q.0 q.1 a) (first_pairs n n) aparts a k i in
             let r = rows_from n n s.0 s.1 in
             told_is fields p distinct st states over auto tidy ss tags classes firsts dups count from_one fm s.0.0 s.0.1 r.0 r.2 a s.2);
       }

@@ -11,7 +11,7 @@ use Rattle.nk_topo.specs.Topology.{Topology, numbers_of}
 use Rattle.nk_policy.specs.Policy.{Policy}
 use Rattle.nk_policy.specs.Tags.{AreTags}
 use Rattle.nk_policy.proofs.Numbering.{numbered_distinct}
-use Rattle.nk_names.specs.Accepted.{IsStart}
+use Rattle.nk_names.specs.Accepted.{IsStartPacket}
 use Rattle.nk_store.specs.Diagram.{IsReduced, leaf_at}
 use Rattle.nk_store.specs.Held.{Held, IsId, IsPacket as IsPacketOf}
 use Rattle.nk_store.proofs.InRange.{packet_in_range}
@@ -25,14 +25,14 @@ use Rattle.nk_switches.specs.declared.stop.ClassHere.{ClassHere}
 use Rattle.nk_switches.specs.declared.stop.ClassStop.{ClassStop}
 use Rattle.nk_switches.specs.declared.stop.Stop.{Stop}
 use Rattle.nk_switches.specs.Matched.{Matched}
-use Rattle.nk_switches.specs.Tagged.{set_of, members_of}
+use Rattle.nk_switches.specs.Tagged.{set_of_tag, members_of}
 use Rattle.nk_switches.specs.Made.{IsTagAt}
 use Rattle.nk_switches.specs.Classed.{class_of, acting_tag, LeadsTo, IsActingAt, IsClassAt, IsClassStop, IsClassTreeAt, IsClassTableAt}
 use Rattle.nk_switches.proofs.Matching.{of_second, matched_maps}
 use Rattle.nk_compile.specs.ClassStops.{acting_of, classes_among, class_stop_of}
 use Rattle.nk_compile.specs.Comings.{ComesTo, HasComing}
 use Rattle.nk_compile.specs.Mergeable.{IsMergeable}
-use Rattle.nk_compile.specs.MergedTable.{IsMetUnder, IsMember, IsMetMember, ActsFor, IsNumberedList, IsClassTree, HasClassRowsAt, IsClassTable, IsMergedTable}
+use Rattle.nk_compile.specs.MergedTable.{IsMetUnder, IsOfClass, IsMetMember, ActsFor, IsNumberedList, IsClassTree, HasClassRowsAt, IsClassTable, IsMergedTable}
 use Rattle.nk_compile.specs.Ready.{sets_of}
 use Rattle.nk_compile.specs.WholeTable.{TagTree, rows_of_trees, HasRowsAt, link_end}
 use Rattle.nk_compile.proofs.ActingTags.{acting_from, acting_some, IsFirstMet, IsNoneMet, acting_is, IsClassOf, class_from, start_there, class_there, classes_rise}
@@ -75,7 +75,7 @@ module _ (fields : FieldTable) (topo : Topology) (tag : ℕ) (p : Policy) (st : 
     (ends : List (Option ℕ)) (each_end : (l : ℕ) → l < length states → get_or ends l None ≡ link_end p l) where
   -- shorter names
   abbrev Start : Packet → Type 0
-  Start = IsStart fields topo
+  Start = IsStartPacket fields topo
 
   abbrev sets : List (List ℕ)
   sets = sets_of ss tags
@@ -111,7 +111,7 @@ module _ (fields : FieldTable) (topo : Topology) (tag : ℕ) (p : Policy) (st : 
   rows_here = comes_rows 0 fields topo tag p st ss states tags m.clear m.ready ends each_end
 
   -- a member of the class stands at its place
-  member_at : (i c : ℕ) → i < length tags → slice_index classes i ≡ c → IsMember classes c i
+  member_at : (i c : ℕ) → i < length tags → slice_index classes i ≡ c → IsOfClass classes c i
   member_at i c lt is = get_index classes i (subst (λ n. i < n) (sym classes_count) lt) ∙ ap Some is
 
   module _ (s : Stop) (coming : HasComing ends ss tags (length tags) s) where
@@ -157,7 +157,7 @@ module _ (fields : FieldTable) (topo : Topology) (tag : ℕ) (p : Policy) (st : 
               let inside : f.place < length tags = let le = tag_within (suc f.place) f.comes in omega (arith, le) in
               subst (ActsFor p Start sets classes (suc low) bare_packet) (sym f.tag_is)
               (inl (
-                (member_at f.place (suc low) inside f.class_is, set_of ss tags f.place, set_there ss tags f.place inside, ((m.met_are f.place inside).met bare_packet bare_in_range).0 f.met_is),
+                (member_at f.place (suc low) inside f.class_is, set_of_tag ss tags f.place, set_there ss tags f.place inside, ((m.met_are f.place inside).met bare_packet bare_in_range).0 f.met_is),
                 λ j less q. let k = met_here j q in f.first j k.0 k.1 k.2 less,
               ))
 

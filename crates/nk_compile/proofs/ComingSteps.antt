@@ -8,7 +8,7 @@ use Rattle.std.proofs.lemmas.Bool.Decides.{nat_tests}
 use Rattle.nk_field.proofs.Lists.{In, in_from_contains, contains_from_in, in_either, in_left, in_right, in_mapped, numbers_decided}
 use Rattle.nk_field.proofs.Ascending.{Rising, rising_from, increasing_from, members_from_all, all_from_members}
 use Rattle.nk_switches.specs.declared.stop.Stop.{Stop}
-use Rattle.nk_switches.specs.Tagged.{set_of}
+use Rattle.nk_switches.specs.Tagged.{set_of_tag}
 use Rattle.nk_compile.specs.Comings.{first_end, ComesTo, HasComing, with_tag}
 use Rattle.nk_compile.proofs.Reached.{same_some}
 
@@ -37,15 +37,15 @@ module _ (ends : List (Option ℕ)) (ss : List (List ℕ)) (tags : List ℕ) whe
   comes_on i sw (suc t) h = (omega (arith, h.0), h.1)
 
   -- what comes of one more is that tag or came before
-  comes_back : (i sw t : ℕ) → ComesTo ends ss tags (i + 1) sw t → ComesTo ends ss tags i sw t ⊎ ((t ≡ i + 1) × (first_end ends (set_of ss tags i) ≡ Some sw))
+  comes_back : (i sw t : ℕ) → ComesTo ends ss tags (i + 1) sw t → ComesTo ends ss tags i sw t ⊎ ((t ≡ i + 1) × (first_end ends (set_of_tag ss tags i) ≡ Some sw))
   comes_back i sw zero h = inl tt
   comes_back i sw (suc t) h = elim (numbers_decided t i) [
-    | inl e ↦ inr (omega (arith, e), subst (λ k. first_end ends (set_of ss tags k) ≡ Some sw) e h.1)
+    | inl e ↦ inr (omega (arith, e), subst (λ k. first_end ends (set_of_tag ss tags k) ≡ Some sw) e h.1)
     | inr ne ↦ inl (omega (arith, h.0, ne), h.1)
   ]
 
   -- a tag that comes to no such switch
-  pub coming_same : (i : ℕ) (s : Stop) → (first_end ends (set_of ss tags i) ≡ Some s.switch → ⊥) → HasComing ends ss tags i s → HasComing ends ss tags (i + 1) s
+  pub coming_same : (i : ℕ) (s : Stop) → (first_end ends (set_of_tag ss tags i) ≡ Some s.switch → ⊥) → HasComing ends ss tags i s → HasComing ends ss tags (i + 1) s
   coming_same i s never k = record {
     ascend = k.ascend;
     within = λ j d lt. let a = k.within j d lt in omega (arith, a);
@@ -56,7 +56,7 @@ module _ (ends : List (Option ℕ)) (ss : List (List ℕ)) (tags : List ℕ) whe
   }
 
   -- a tag that comes to a switch
-  pub coming_more : (i sw : ℕ) (s : Stop) → first_end ends (set_of ss tags i) ≡ Some sw → HasComing ends ss tags i s → HasComing ends ss tags (i + 1) (with_tag sw (i + 1) s)
+  pub coming_more : (i sw : ℕ) (s : Stop) → first_end ends (set_of_tag ss tags i) ≡ Some sw → HasComing ends ss tags i s → HasComing ends ss tags (i + 1) (with_tag sw (i + 1) s)
   coming_more i sw s end k = by (numbers_decided s.switch sw)
     where
       longer : Stop
@@ -86,7 +86,7 @@ module _ (ends : List (Option ℕ)) (ss : List (List ℕ)) (tags : List ℕ) whe
           last zero z = absurd (omega (arith, z))
           last (suc t) z =
               let same : t ≡ i = omega (arith, z) in
-              (omega (arith, same), subst (λ j. first_end ends (set_of ss tags j) ≡ Some s.switch) (sym same) (end ∙ ap Some (sym e)))
+              (omega (arith, same), subst (λ j. first_end ends (set_of_tag ss tags j) ≡ Some s.switch) (sym same) (end ∙ ap Some (sym e)))
 
       by : (s.switch ≡ sw) ⊎ (s.switch ≡ sw → ⊥) → HasComing ends ss tags (i + 1) (with_tag sw (i + 1) s)
       by (inl e) = subst (HasComing ends ss tags (i + 1)) (sym (tag_put sw (i + 1) s e)) (here e)
@@ -95,7 +95,7 @@ module _ (ends : List (Option ℕ)) (ss : List (List ℕ)) (tags : List ℕ) whe
           (coming_same i s (λ f. ne (same_some s.switch sw (sym f ∙ end))) k)
 
   -- all switches with one tag more
-  pub all_more : (i sw : ℕ) (all : List Stop) → first_end ends (set_of ss tags i) ≡ Some sw → All (HasComing ends ss tags i) all → All (HasComing ends ss tags (i + 1)) (map (with_tag sw (i + 1)) all)
+  pub all_more : (i sw : ℕ) (all : List Stop) → first_end ends (set_of_tag ss tags i) ≡ Some sw → All (HasComing ends ss tags i) all → All (HasComing ends ss tags (i + 1)) (map (with_tag sw (i + 1)) all)
   all_more i sw all end k = all_from_members (HasComing ends ss tags (i + 1)) (map (with_tag sw (i + 1)) all) (there all (λ s m. members_from_all (HasComing ends ss tags i) all k s m))
     where
       there : (xs : List Stop) → ((s : Stop) → In xs s → HasComing ends ss tags i s) → (s : Stop) → In (map (with_tag sw (i + 1)) xs) s → HasComing ends ss tags (i + 1) s
@@ -104,7 +104,7 @@ module _ (ends : List (Option ℕ)) (ss : List (List ℕ)) (tags : List ℕ) whe
       there (x ∷ xs) h s (inr m) = there xs (λ y n. h y (inr n)) s m
 
   -- or none
-  pub all_same : (i : ℕ) (all : List Stop) → first_end ends (set_of ss tags i) ≡ None → All (HasComing ends ss tags i) all → All (HasComing ends ss tags (i + 1)) all
+  pub all_same : (i : ℕ) (all : List Stop) → first_end ends (set_of_tag ss tags i) ≡ None → All (HasComing ends ss tags i) all → All (HasComing ends ss tags (i + 1)) all
   all_same i all none k j d lt = coming_same i (get_or all j d) (λ f. let z : None ≡ Some (get_or all j d).switch = sym none ∙ f in cc) (k j d lt)
 
 -- the switches stay

@@ -12,7 +12,7 @@ use Rattle.nk_compile.specs.declared.refusal.Refusal.{Refusal}
 use Rattle.nk_compile.specs.declared.refusal.Refusal.TheVariants.{NoPolicy, NoTag, TagUsed, LooseDup, SwitchSet, NoSuchLink, OffEdge, TooManyTags}
 use Rattle.nk_compile.specs.declared.refusal.CompileError.{CompileError}
 use Rattle.nk_compile.specs.declared.refusal.CompileError.TheVariants.{NoMemory, Refused}
-use Rattle.nk_compile.specs.Compacted.{IsCompactOf, IsCompactReason, IsCompactError, IsCompactRefused, IsCompactAnswer}
+use Rattle.nk_compile.specs.Compacted.{IsCompactOf, IsCompactReason, IsCompactError, IsCompactRefused, AnswersCompact}
 use Rattle.nk_compile.specs.Preparing.{IsEarlyError}
 use Rattle.nk_compile.proofs.Making.{seen_named}
 use Rattle.nk_compile.proofs.Merging.{named_merged_carries}
@@ -44,7 +44,7 @@ compact_reason_named program name p named (TooManyTags found) e = (p, named, e)
 -- the answer for the policy is that for its name
 pub compact_answer_named : (program : Program) (name : List ℕ) (p : Policy) (r : Result Compact CompileError) →
     IsProgram program.fields program.topo program.lets → policy_named program name ≡ Some p →
-    IfOk r (IsCompactOf program.fields program.topo p) → IfErr r (IsCompactError program.fields program.topo p) → IsCompactAnswer program name r
+    IfOk r (IsCompactOf program.fields program.topo p) → IfErr r (IsCompactError program.fields program.topo p) → AnswersCompact program name r
 compact_answer_named program name p (Ok c) ok named made error =
     (p, named, made, named_merged_carries program name p made.tags made.classes c.tables ok named made.compilable made.merged)
 compact_answer_named program name p (Err NoMemory) ok named made error = tt

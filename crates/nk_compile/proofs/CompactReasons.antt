@@ -7,13 +7,13 @@ use Rattle.nk_policy.specs.Policy.{Policy}
 use Rattle.nk_policy.specs.Tags.{AreTags}
 use Rattle.nk_names.specs.declared.Program.{Program}
 use Rattle.nk_names.specs.ProgramOf.{said_by}
-use Rattle.nk_names.specs.Accepted.{IsStart, IsCompilable, most_tags}
+use Rattle.nk_names.specs.Accepted.{IsStartPacket, IsCompilable, most_tags}
 use Rattle.nk_names.specs.Named.{policy_named}
 use Rattle.nk_names.proofs.Alike.{fields_alike, topo_alike, named_alike, one_policy}
 use Rattle.nk_merge.proofs.Numbering.{numbers_fixed}
 use Rattle.nk_compile.specs.declared.refusal.Refusal.{Refusal}
 use Rattle.nk_compile.specs.declared.refusal.Refusal.TheVariants.{NoPolicy, NoTag, TagUsed, LooseDup, SwitchSet, NoSuchLink, OffEdge, TooManyTags}
-use Rattle.nk_compile.specs.Compacted.{AcceptsCompact, HasFewClasses, HaveClasses, IsCompactReason, IsCompactRefused}
+use Rattle.nk_compile.specs.Compacted.{AcceptsCompact, HasFewClasses, HaveTagClasses, IsCompactReason, IsCompactRefused}
 use Rattle.nk_compile.specs.MergedTable.{ArePlacesAlike, AreTagClasses}
 use Rattle.nk_compile.specs.PairAnswers.{IsUnopposed}
 use Rattle.nk_compile.specs.Refusals.{IsReason}
@@ -25,15 +25,15 @@ use Rattle.nk_compile.proofs.Reasons.{none_some, one_reason, unseen}
 
 -- the classes of tag sets in order are one list
 pub one_classes :
-    (fields : FieldTable) (topo : Topology) (p : Policy) (xs ys : List (List ℕ)) (a b : List ℕ) → AreTags p (IsStart fields topo) xs → AreTags p (IsStart fields topo) ys
+    (fields : FieldTable) (topo : Topology) (p : Policy) (xs ys : List (List ℕ)) (a b : List ℕ) → AreTags p (IsStartPacket fields topo) xs → AreTags p (IsStartPacket fields topo) ys
     → AreTagClasses fields p xs a → AreTagClasses fields p ys b → a ≡ b
 one_classes fields topo p xs ys a b h k c d =
-    let same = one_tag_list p (IsStart fields topo) xs ys h k in
+    let same = one_tag_list p (IsStartPacket fields topo) xs ys h k in
     numbers_fixed (ArePlacesAlike fields p ys) (length ys) a b (subst (λ ts. AreTagClasses fields p ts a) same c) d
 
 module _ (fields : FieldTable) (topo : Topology) (p : Policy) where
   -- so many classes are no more than few
-  few_many : (found : ℕ) → HasFewClasses fields topo p → HaveClasses fields topo p found → found ≤ most_tags fields fields.tag
+  few_many : (found : ℕ) → HasFewClasses fields topo p → HaveTagClasses fields topo p found → found ≤ most_tags fields fields.tag
   few_many found few many =
       let c = many.4 in
       let same = one_classes fields topo p many.0 few.0 many.1 few.1 many.2 few.2 many.3 few.3 in

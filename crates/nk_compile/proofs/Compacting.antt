@@ -17,7 +17,7 @@ use Rattle.nk_policy.specs.Ranges.{IsInRange}
 use Rattle.nk_policy.specs.Tags.{AreTags}
 use Rattle.nk_policy.proofs.LinkStructure.{holds_first, holds_second}
 use Rattle.nk_policy.proofs.Numbering.{number_within, numbered_distinct}
-use Rattle.nk_names.specs.Accepted.{IsStart}
+use Rattle.nk_names.specs.Accepted.{IsStartPacket}
 use Rattle.nk_store.specs.Nodes.{InRange}
 use Rattle.nk_store.specs.Held.{Held, IsId, IsWhole, Grows, IsOver, HasFields, AreTidy, IsPacket as IsPacketOf}
 use Rattle.nk_store.proofs.InRange.{packet_in_range, over_grown}
@@ -31,9 +31,9 @@ use Rattle.nk_determ.specs.Sets.{SetsGrow, Ascend}
 use Rattle.nk_determ.proofs.Naming.{named_within}
 use Rattle.nk_runs.specs.Labels.{IsAmong}
 use Rattle.nk_runs.proofs.Stands.{stands, are_states}
-use Rattle.nk_switches.specs.Tagged.{set_of}
+use Rattle.nk_switches.specs.Tagged.{set_of_tag}
 use Rattle.nk_switches.proofs.Growing.{set_kept, known_kept, tag_set_kept}
-use Rattle.nk_merge.specs.Alike.{behind, AreAlike, AreTagsAlike}
+use Rattle.nk_merge.specs.Alike.{labels_behind, AreAlike, AreTagsAlike}
 use Rattle.nk_merge.specs.Classes.{AreClasses, AreFirsts}
 use Rattle.nk_compile.specs.declared.prepared.Prepared.{Prepared}
 use Rattle.nk_compile.specs.Mergeable.{IsMetPackets, IsMergeable}
@@ -41,7 +41,7 @@ use Rattle.nk_compile.specs.MergedTable.{IsMetUnder, AreTagClasses}
 use Rattle.nk_compile.specs.MetPackets.{HaveIds, AreMet}
 use Rattle.nk_compile.specs.Preparing.{IsPrepared}
 use Rattle.nk_compile.specs.Ready.{sets_of, IsReady}
-use Rattle.nk_compile.specs.Told.{first_set, IsBase}
+use Rattle.nk_compile.specs.Told.{first_member_set, IsBase}
 use Rattle.nk_compile.proofs.AlikeTags.{AreDups, tag_classes}
 use Rattle.nk_compile.proofs.Levelled.{among_start, start_among, auto_then, tag_set_too, prepared_known, prepared_tags, prepared_ends, prepared_entries}
 use Rattle.nk_compile.proofs.MetUnder.{level_of, under_of}
@@ -79,7 +79,7 @@ firsts_in classes firsts count k many i d lt = subst (λ n. n < count) (get_or_d
 
 -- the first members of two classes are not alike, also where the store and the sets have grown
 pub classes_differ : (st new : Held) (ss more : List (List ℕ)) (states tags classes firsts : List ℕ) → IsBase st ss new more states tags firsts → AreClasses (AreTagsAlike st states ss tags) (length tags) classes → AreFirsts classes firsts →
-    (i j : ℕ) → i < j → j < length firsts → AreAlike new states (first_set more tags firsts i) (first_set more tags firsts j) → ⊥
+    (i j : ℕ) → i < j → j < length firsts → AreAlike new states (first_member_set more tags firsts i) (first_member_set more tags firsts j) → ⊥
 classes_differ st new ss more states tags classes firsts base c fm i j lt inside k =
     let li : i < length firsts = omega (arith, lt, inside) in
     let then = alike_then st ss new more states tags firsts base i j li inside k in
@@ -97,33 +97,33 @@ module _ (fields : FieldTable) (topo : Topology) (tag : ℕ) (p : Policy) (b : P
   known = prepared_known fields topo tag p b k tags numbers
 
   -- and are the tag sets
-  pub tags_are : AreTags p (IsStart fields topo) (sets_of b.sets tags)
+  pub tags_are : AreTags p (IsStartPacket fields topo) (sets_of b.sets tags)
   tags_are = prepared_tags fields topo tag p b k tags numbers
 
-  tag_set : (i : ℕ) → i < length tags → IsTagSet p (IsStart fields topo) (set_of b.sets tags i)
-  tag_set i lt = (tags_are.exactly (set_of b.sets tags i)).0 (set_contained b.sets tags i lt)
+  tag_set : (i : ℕ) → i < length tags → IsTagSet p (IsStartPacket fields topo) (set_of_tag b.sets tags i)
+  tag_set i lt = (tags_are.exactly (set_of_tag b.sets tags i)).0 (set_contained b.sets tags i lt)
 
   -- their labels are first dups of literals
-  literal : (i : ℕ) → i < length tags → (l : ℕ) → Contains (set_of b.sets tags i) l → (j : Literal) × HoldsLiteral p j × (j.mark ≡ l)
-  literal i lt = literal_of topo k.begun.clear.topology.links p distinct k.begun.clear.dups_in_links k.begun.clear.links_declared (IsStart fields topo) (set_of b.sets tags i) (tag_set i lt)
+  literal : (i : ℕ) → i < length tags → (l : ℕ) → Contains (set_of_tag b.sets tags i) l → (j : Literal) × HoldsLiteral p j × (j.mark ≡ l)
+  literal i lt = literal_of topo k.begun.clear.topology.links p distinct k.begun.clear.dups_in_links k.begun.clear.links_declared (IsStartPacket fields topo) (set_of_tag b.sets tags i) (tag_set i lt)
 
   -- a dup is a place of a state
   dup_place : (l : ℕ) → has_dup p l ≡ true → l < 1 + dups_of p
   dup_place l h = (number_within p 1 l (ap (λ q. has_dup q l) k.begun.clear.numbered ∙ h)).1
 
   -- the labels behind them are dups
-  dups_behind : (i : ℕ) → i < length tags → AreDups p (set_of b.sets tags i)
+  dups_behind : (i : ℕ) → i < length tags → AreDups p (set_of_tag b.sets tags i)
   dups_behind i lt l c =
-      let m = from_mapped (λ n. n + 1) (set_of b.sets tags i) l (in_from_contains (behind (set_of b.sets tags i)) l c) in
-      let j = literal i lt m.0 (contains_from_in (set_of b.sets tags i) m.0 m.1) in
+      let m = from_mapped (λ n. n + 1) (set_of_tag b.sets tags i) l (in_from_contains (labels_behind (set_of_tag b.sets tags i)) l c) in
+      let j = literal i lt m.0 (contains_from_in (set_of_tag b.sets tags i) m.0 m.1) in
       subst (λ n. has_dup p n ≡ true) (ap (λ n. n + 1) j.2 ∙ sym m.2) (holds_second p j.0 j.1)
 
   -- they are small
   pub labels_small : All (λ s. All (λ l. l + 1 < 18446744073709551616) (slice_index_or b.sets s [])) tags
   labels_small i d lt =
       subst (λ s. All (λ l. l + 1 < 18446744073709551616) (slice_index_or b.sets s [])) (get_or_default tags i 0 d lt)
-      (all_from_members (λ l. l + 1 < 18446744073709551616) (set_of b.sets tags i) (λ l m.
-      let j = literal i lt l (contains_from_in (set_of b.sets tags i) l m) in
+      (all_from_members (λ l. l + 1 < 18446744073709551616) (set_of_tag b.sets tags i) (λ l m.
+      let j = literal i lt l (contains_from_in (set_of_tag b.sets tags i) l m) in
       let lt = dup_place l (subst (λ n. has_dup p n ≡ true) j.2 (holds_first p j.0 j.1)) in
       omega (arith, lt, small)))
 
@@ -139,7 +139,7 @@ module _ (fields : FieldTable) (topo : Topology) (tag : ℕ) (p : Policy) (b : P
       subst (λ l. All (λ (e : ℕ × ℕ). e.0 < length b.sets) l) (get_or_default b.levels.levels i [] d lt) (prepared_entries fields topo tag p b k i lt).0
 
   -- the packets of levels under the labels behind a tag set are met under it
-  met_is : (i : ℕ) → i < length tags → (x : Packet) → IsPacketOf b.store x → ((j : ℕ) × InLevel b.store b.sets b.levels.levels j (behind (set_of b.sets tags i), x)) ↔ IsMetUnder p (IsStart fields topo) (set_of b.sets tags i) x
+  met_is : (i : ℕ) → i < length tags → (x : Packet) → IsPacketOf b.store x → ((j : ℕ) × InLevel b.store b.sets b.levels.levels j (labels_behind (set_of_tag b.sets tags i), x)) ↔ IsMetUnder p (IsStartPacket fields topo) (set_of_tag b.sets tags i) x
   met_is i lt x r =
       let lv = k.levelled in
       let first = lv.first in
@@ -147,12 +147,12 @@ module _ (fields : FieldTable) (topo : Topology) (tag : ℕ) (p : Policy) (b : P
       let to = among_start fields topo tag p k.before b.states b.store b.sets b.levels.levels b.levels.broken k.begun.clear k.begun.over k.begun.automaton lv in
       let back = start_among fields topo tag p k.before b.states b.store b.sets b.levels.levels b.levels.broken k.begun.clear k.begun.over k.begun.automaton lv in
       let levels = subst (AreLevels lv.first b.store b.sets b.states lv.set lv.start lv.bad b.levels.levels) k.whole lv.are in
-      let s = set_of b.sets tags i in
+      let s = set_of_tag b.sets tags i in
       let good : IsPacketOf first x = subst (λ m. InRange m x) lv.grows.maxes r in (
         λ h.
             let lt' = named_within b.levels.levels h.0 h.1.0 (under_named b.store (slice_index_or b.levels.levels h.0 []) h.1.0 x h.1.2) in
             let u = under_of topo k.begun.clear.topology.links p distinct k.begun.clear.dups_in_links k.begun.clear.links_declared first b.store b.sets b.states lv.set lv.start lv.bad b.levels.levels auto lv.tidy lv.set_is levels
-            s (tag_set_too p (IsStart fields topo) (IsAmong first lv.start) back to s (tag_set i lt)) x good h.0 lt' h.1 in
+            s (tag_set_too p (IsStartPacket fields topo) (IsAmong first lv.start) back to s (tag_set i lt)) x good h.0 lt' h.1 in
             (u.0, u.1, u.2, to u.0 u.3, u.4, u.5, u.6, u.7),
         λ u.
             level_of topo k.begun.clear.topology.links p distinct k.begun.clear.dups_in_links k.begun.clear.links_declared first b.store b.sets b.states lv.set lv.start lv.bad b.levels.levels auto lv.tidy lv.set_is levels
@@ -171,7 +171,7 @@ module _ (fields : FieldTable) (topo : Topology) (tag : ℕ) (p : Policy) (b : P
     over_there = over_grown fields k.before st k.begun.over (grows_on k.before k.levelled.first st k.levelled.grew (grows_on k.levelled.first b.store st k.levelled.grows g))
 
     -- the tags' sets stay
-    pub set_there_is : (i : ℕ) → i < length tags → set_of ss tags i ≡ set_of b.sets tags i
+    pub set_there_is : (i : ℕ) → i < length tags → set_of_tag ss tags i ≡ set_of_tag b.sets tags i
     set_there_is i lt = tag_set_kept b.sets ss tags i s known lt
 
     pub known_there : All (λ n. n < length ss) tags
@@ -185,15 +185,15 @@ module _ (fields : FieldTable) (topo : Topology) (tag : ℕ) (p : Policy) (b : P
         by (t ∷ ts) h = ap (λ x. x ∷ sets_of ss ts) (h t (inl refl)) ∙ ap (λ l. get_or b.sets t [] ∷ l) (by ts (λ n i. h n (inr i)))
 
     -- the labels behind them are dups there too
-    pub dups_there : (i : ℕ) → i < length tags → AreDups p (set_of ss tags i)
+    pub dups_there : (i : ℕ) → i < length tags → AreDups p (set_of_tag ss tags i)
     dups_there i lt = subst (AreDups p) (sym (set_there_is i lt)) (dups_behind i lt)
 
     -- and places of states
-    pub places_there : All (λ n. HavePlaces (length b.states) (behind (slice_index_or ss n []))) tags
+    pub places_there : All (λ n. HavePlaces (length b.states) (labels_behind (slice_index_or ss n []))) tags
     places_there i d lt =
-        subst (λ n. HavePlaces (length b.states) (behind (slice_index_or ss n []))) (get_or_default tags i 0 d lt)
-        (all_from_members (λ l. l < length b.states) (behind (set_of ss tags i)) (λ l m.
-        let c = contains_from_in (behind (set_of ss tags i)) l m in
+        subst (λ n. HavePlaces (length b.states) (labels_behind (slice_index_or ss n []))) (get_or_default tags i 0 d lt)
+        (all_from_members (λ l. l < length b.states) (labels_behind (set_of_tag ss tags i)) (λ l m.
+        let c = contains_from_in (labels_behind (set_of_tag ss tags i)) l m in
         let lt' = dup_place l (dups_there i lt l c) in
         let n = k.begun.automaton.count in
         omega (arith, lt', n)))
@@ -228,8 +228,8 @@ module _ (fields : FieldTable) (topo : Topology) (tag : ℕ) (p : Policy) (b : P
         subst (λ l. AreTagClasses fields p l classes) sets_there (tag_classes fields p distinct st b.states over_there auto_there tidy ss tags classes [] dups_there c)
 
     -- what is met in a store before is met there
-    pub met_there : (mid : Held) (d i : ℕ) → Grows b.store mid → Grows mid st → i < length tags → AreMet b.store b.sets b.levels.levels (behind (set_of b.sets tags i)) mid d →
-        IsMetPackets fields topo p (set_of ss tags i) st d
+    pub met_there : (mid : Held) (d i : ℕ) → Grows b.store mid → Grows mid st → i < length tags → AreMet b.store b.sets b.levels.levels (labels_behind (set_of_tag b.sets tags i)) mid d →
+        IsMetPackets fields topo p (set_of_tag ss tags i) st d
     met_there mid d i early late lt m = record {
       id = late.ids d m.id;
       met = λ x packet.
@@ -238,13 +238,13 @@ module _ (fields : FieldTable) (topo : Topology) (tag : ℕ) (p : Policy) (b : P
           let r : IsPacketOf b.store x = subst (λ q. InRange q x) g.maxes (packet_in_range fields st x over_there packet) in
           let e = m.met x whole in
           let u = met_is i lt x r in
-          subst (λ l. (is_in st d x ≡ true) ↔ IsMetUnder p (IsStart fields topo) l x) (sym (set_there_is i lt))
+          subst (λ l. (is_in st d x ≡ true) ↔ IsMetUnder p (IsStartPacket fields topo) l x) (sym (set_there_is i lt))
           (λ h. u.0 (e.0 (sym same ∙ h)), λ h. same ∙ e.1 (u.1 h));
     }
 
     -- so the merged tables can be made
     pub mergeable_there : IsInRange p fields → Ascend ss → HasFields st → (classes firsts met : List ℕ) → AreTagClasses fields p (sets_of b.sets tags) classes → AreFirsts classes firsts → length met ≡ length tags →
-        ((i : ℕ) → i < length tags → IsMetPackets fields topo p (set_of ss tags i) st (slice_index met i)) → IsMergeable fields topo tag p st ss b.states tags classes firsts met
+        ((i : ℕ) → i < length tags → IsMetPackets fields topo p (set_of_tag ss tags i) st (slice_index met i)) → IsMergeable fields topo tag p st ss b.states tags classes firsts met
     mergeable_there in_range ascend has classes firsts met are fm count each = record {
       clear = k.begun.clear;
       in_range = in_range;

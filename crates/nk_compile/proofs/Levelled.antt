@@ -15,7 +15,7 @@ use Rattle.nk_policy.specs.Distinct.{HasDistinct}
 use Rattle.nk_policy.specs.Labels.{IsTagSet, AtMost, AtLeast}
 use Rattle.nk_policy.specs.Tags.{AreTags, IsShortest, IsTagBefore}
 use Rattle.nk_policy.proofs.Numbering.{numbered_distinct}
-use Rattle.nk_names.specs.Accepted.{IsStart, IsCompilable, most_tags}
+use Rattle.nk_names.specs.Accepted.{IsStartPacket, IsCompilable, most_tags}
 use Rattle.nk_store.specs.declared.node.Out.{Out}
 use Rattle.nk_store.specs.Held.{Held, Grows, IsOver, HasFields, IsPacket}
 use Rattle.nk_store.proofs.Stores.{grows_on}
@@ -85,10 +85,10 @@ module _ (fields : FieldTable) (topo : Topology) (tag : ℕ) (p : Policy) (old f
   setup = set_up fields first tag clear.table (over_grown fields old first over grew) clear.tag_is
 
   -- the packets of the set are those that start
-  pub among_is : (pk : Packet) → IsAmong first start pk → IsStart fields topo pk
+  pub among_is : (pk : Packet) → IsAmong first start pk → IsStartPacket fields topo pk
   among_is pk h = start_of fields topo tag first.maxes setup pk h.0 (sym (start_is.at pk h.0) ∙ h.1)
 
-  pub is_among : (pk : Packet) → IsStart fields topo pk → IsAmong first start pk
+  pub is_among : (pk : Packet) → IsStartPacket fields topo pk → IsAmong first start pk
   is_among pk h =
       let r : IsPacket first pk = packet_in_range fields first pk (over_grown fields old first over grew) h.packet in
       (r, start_is.at pk r ∙ test_of fields topo tag first.maxes setup pk h)
@@ -128,14 +128,14 @@ module _ (fields : FieldTable) (topo : Topology) (tag : ℕ) (p : Policy) (old :
   auto_then = stands old lv.first states 1 p auto lv.grew
 
   -- the packets of the first level are those that start
-  pub among_start : (pk : Packet) → IsAmong lv.first lv.start pk → IsStart fields topo pk
+  pub among_start : (pk : Packet) → IsAmong lv.first lv.start pk → IsStartPacket fields topo pk
   among_start = among_is fields topo tag p old lv.first lv.start clear over lv.grew lv.start_is
 
-  pub start_among : (pk : Packet) → IsStart fields topo pk → IsAmong lv.first lv.start pk
+  pub start_among : (pk : Packet) → IsStartPacket fields topo pk → IsAmong lv.first lv.start pk
   start_among = is_among fields topo tag p old lv.first lv.start clear over lv.grew lv.start_is
 
   -- where they are not, all histories end at edge ports
-  pub all_end : broken ≡ false → (pk : Packet) (w : List Packet) (last : Packet) → IsStart fields topo pk → Gives p pk w last →
+  pub all_end : broken ≡ false → (pk : Packet) (w : List Packet) (last : Packet) → IsStartPacket fields topo pk → Gives p pk w last →
       IsTrue (is_edge topo (slice_index last 0) (slice_index last 1))
   all_end e pk w last start gives =
       holds_unless (is_edge topo (slice_index last 0) (slice_index last 1)) (λ off.
@@ -147,16 +147,16 @@ module _ (fields : FieldTable) (topo : Topology) (tag : ℕ) (p : Policy) (old :
   distinct = numbered_distinct p 1 clear.numbered
 
   -- the sets at odd levels in order are the tag sets
-  pub numbers_are_tags : broken ≡ false → Differ ss → (r : List ℕ) → AreNumbers ss ls r → AreTags p (IsStart fields topo) (sets_of ss r)
+  pub numbers_are_tags : broken ≡ false → Differ ss → (r : List ℕ) → AreNumbers ss ls r → AreTags p (IsStartPacket fields topo) (sets_of ss r)
   numbers_are_tags e differ r k =
-      tags_too p (IsAmong lv.first lv.start) (IsStart fields topo) among_start start_among (sets_of ss r)
+      tags_too p (IsAmong lv.first lv.start) (IsStartPacket fields topo) among_start start_among (sets_of ss r)
       (are_tags lv.first new ss states lv.set lv.start lv.bad ls p auto_then distinct lv.tidy lv.set_is (subst (AreLevels lv.first new ss states lv.set lv.start lv.bad ls) e lv.are) clear.dups_in_links differ lv.grows r k)
 
   -- where there are so many of them, there are as many tag sets
-  pub many_are_tags : broken ≡ false → Differ ss → (least : ℕ) → AtLeast least (IsAtOdd ls) → AtLeast least (IsTagSet p (IsStart fields topo))
+  pub many_are_tags : broken ≡ false → Differ ss → (least : ℕ) → AtLeast least (IsAtOdd ls) → AtLeast least (IsTagSet p (IsStartPacket fields topo))
   many_are_tags e differ least k =
       let h = many_tags lv.first new ss states lv.set lv.start lv.bad ls p auto_then distinct lv.tidy lv.set_is (subst (AreLevels lv.first new ss states lv.set lv.start lv.bad ls) e lv.are) differ lv.grows least k in
-      (h.0, h.1, h.2, λ i d lt. tag_set_too p (IsAmong lv.first lv.start) (IsStart fields topo) among_start start_among (get_or h.0 i d) (h.3 i d lt))
+      (h.0, h.1, h.2, λ i d lt. tag_set_too p (IsAmong lv.first lv.start) (IsStartPacket fields topo) among_start start_among (get_or h.0 i d) (h.3 i d lt))
 
 -- at most so many tag sets
 pub tags_few : (p : Policy) (Start : Packet → Type 0) (tags : List (List ℕ)) (most : ℕ) → AreTags p Start tags → length tags ≤ most → AtMost most (IsTagSet p Start)
@@ -234,13 +234,13 @@ module _ (fields : FieldTable) (topo : Topology) (tag : ℕ) (p : Policy) (b : P
   prepared_unopposed = (none_seen fields topo tag p k.begun.clear.tag_is k.begun.seen, prepared_ends)
 
   -- where so many sets are at odd levels, there are as many tag sets
-  pub prepared_many : (least : ℕ) → AtLeast least (IsAtOdd b.levels.levels) → AtLeast least (IsTagSet p (IsStart fields topo))
+  pub prepared_many : (least : ℕ) → AtLeast least (IsAtOdd b.levels.levels) → AtLeast least (IsTagSet p (IsStartPacket fields topo))
   prepared_many least h =
       many_are_tags fields topo tag p k.before b.states b.store b.sets b.levels.levels b.levels.broken k.begun.clear k.begun.over prepared_states k.levelled k.whole k.differ least h
 
   module _ (r : List ℕ) (numbers : AreNumbers b.sets b.levels.levels r) where
     -- the sets at odd levels in order are the tag sets
-    pub prepared_tags : AreTags p (IsStart fields topo) (sets_of b.sets r)
+    pub prepared_tags : AreTags p (IsStartPacket fields topo) (sets_of b.sets r)
     prepared_tags =
         numbers_are_tags fields topo tag p k.before b.states b.store b.sets b.levels.levels b.levels.broken k.begun.clear k.begun.over prepared_states k.levelled k.whole k.differ r numbers
 
@@ -269,11 +269,11 @@ module _ (fields : FieldTable) (topo : Topology) (tag : ℕ) (p : Policy) (b : P
     prepared_counted = (sets_of b.sets r, prepared_tags, sym (length-map r (λ s. get_or b.sets s [])))
 
     -- at least
-    pub prepared_least : AtLeast (length r) (IsTagSet p (IsStart fields topo))
-    prepared_least = subst (λ n. AtLeast n (IsTagSet p (IsStart fields topo))) (length-map r (λ s. get_or b.sets s [])) (tags_many p (IsStart fields topo) (sets_of b.sets r) prepared_tags)
+    pub prepared_least : AtLeast (length r) (IsTagSet p (IsStartPacket fields topo))
+    prepared_least = subst (λ n. AtLeast n (IsTagSet p (IsStartPacket fields topo))) (length-map r (λ s. get_or b.sets s [])) (tags_many p (IsStartPacket fields topo) (sets_of b.sets r) prepared_tags)
 
     -- and no more than the tag has values above 0, where the numbers are not
-    pub prepared_few : (most : ℕ) → most ≡ slice_index fields.maxima tag → length r ≤ most → AtMost (most_tags fields fields.tag) (IsTagSet p (IsStart fields topo))
+    pub prepared_few : (most : ℕ) → most ≡ slice_index fields.maxima tag → length r ≤ most → AtMost (most_tags fields fields.tag) (IsTagSet p (IsStartPacket fields topo))
     prepared_few most is few =
-        tags_few p (IsStart fields topo) (sets_of b.sets r) (most_tags fields fields.tag) prepared_tags
+        tags_few p (IsStartPacket fields topo) (sets_of b.sets r) (most_tags fields fields.tag) prepared_tags
         (subst (λ n. n ≤ most_tags fields fields.tag) (sym (length-map r (λ s. get_or b.sets s []))) (subst (λ n. length r ≤ n) (is ∙ sym (ap (most_tags fields) k.begun.clear.tag_is)) few))

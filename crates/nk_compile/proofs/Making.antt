@@ -7,7 +7,7 @@ use Rattle.nk_topo.specs.Topology.{Topology, IsTopology}
 use Rattle.nk_policy.specs.Policy.{Policy, marked_from}
 use Rattle.nk_policy.specs.Leaves.{has_leaf, is_on_field, is_dup, is_switch_assignment}
 use Rattle.nk_policy.specs.Labels.{IsTagSet, AtLeast}
-use Rattle.nk_names.specs.Accepted.{IsStart, IsCompilable, is_link_outside, most_tags}
+use Rattle.nk_names.specs.Accepted.{IsStartPacket, IsCompilable, is_link_outside, most_tags}
 use Rattle.nk_store.specs.Held.{Held}
 use Rattle.nk_tag.specs.Numbers.{IsAtOdd}
 use Rattle.nk_compile.specs.Refusals.{seen_with, seen_for, seen, found_from}
@@ -147,13 +147,13 @@ early_error fields topo p (Refused (TooManyTags found)) h = absurd h
 -- so are too many sets
 pub many_error : (fields : FieldTable) (topo : Topology) (tag : ℕ) (p : Policy) → fields.tag ≡ Some tag → IsUnopposed fields topo p →
     (levels : List (List (ℕ × ℕ))) (max : ℕ) (e : CompileError) → max ≡ slice_index fields.maxima tag →
-    ((least : ℕ) → AtLeast least (IsAtOdd levels) → AtLeast least (IsTagSet p (IsStart fields topo))) → IsTagFault levels 0 max e → IsError fields topo p e
+    ((least : ℕ) → AtLeast least (IsAtOdd levels) → AtLeast least (IsTagSet p (IsStartPacket fields topo))) → IsTagFault levels 0 max e → IsError fields topo p e
 many_error fields topo tag p is alone levels max NoMemory most to h = tt
 many_error fields topo tag p is alone levels max (Refused (TooManyTags found)) most to h = (
   alone.0,
   alone.1,
   h.0 ∙ ap (λ n. n + 1) (most ∙ sym (ap (most_tags fields) is)),
-  subst (λ n. AtLeast n (IsTagSet p (IsStart fields topo))) (let e = h.1.2 in omega (arith, e)) (to h.1.0 h.1.1),
+  subst (λ n. AtLeast n (IsTagSet p (IsStartPacket fields topo))) (let e = h.1.2 in omega (arith, e)) (to h.1.0 h.1.1),
 )
 many_error fields topo tag p is alone levels max (Refused NoPolicy) most to h = absurd h
 many_error fields topo tag p is alone levels max (Refused NoTag) most to h = absurd h

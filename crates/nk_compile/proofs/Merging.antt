@@ -15,7 +15,7 @@ use Rattle.nk_policy.specs.Distinct.{HasDistinct}
 use Rattle.nk_policy.specs.Ranges.{IsInRange}
 use Rattle.nk_policy.proofs.Numbering.{numbered_distinct}
 use Rattle.nk_names.specs.declared.Program.{Program}
-use Rattle.nk_names.specs.Accepted.{IsStart, IsCompilable}
+use Rattle.nk_names.specs.Accepted.{IsStartPacket, IsCompilable}
 use Rattle.nk_names.specs.Named.{policy_named}
 use Rattle.nk_names.specs.ProgramValue.{IsLet, IsProgram}
 use Rattle.nk_names.proofs.Named.{let_named}
@@ -24,7 +24,7 @@ use Rattle.nk_table.specs.declared.Tables.{Tables}
 use Rattle.nk_table.specs.declared.Table.{Table}
 use Rattle.nk_switches.specs.Classed.{class_of}
 use Rattle.nk_compile.specs.Carries.{Carries}
-use Rattle.nk_compile.specs.MergedTable.{GivesBehind, AreSetsAlike, AreTagClasses, IsMember, ActsFor, IsClassTree, HasClassRowsAt, IsClassTable, IsMergedTable}
+use Rattle.nk_compile.specs.MergedTable.{GivesBehind, AreSetsAlike, AreTagClasses, IsOfClass, ActsFor, IsClassTree, HasClassRowsAt, IsClassTable, IsMergedTable}
 use Rattle.nk_compile.specs.WholeTable.{HasRowsAt, TagTree}
 use Rattle.nk_compile.proofs.Acting.{GivesAs, Acts, Numbering}
 use Rattle.nk_compile.proofs.Carried.{Leaving, leaving_by}
@@ -53,7 +53,7 @@ set_get (x ∷ xs) (suc i) s e = set_get xs i s e
 
 -- where a tag of the class has rows, the class has
 class_rows :
-    (p : Policy) (tags : List (List ℕ)) (classes : List ℕ) (sw i c : ℕ) → IsMember classes c i → 0 < c
+    (p : Policy) (tags : List (List ℕ)) (classes : List ℕ) (sw i c : ℕ) → IsOfClass classes c i → 0 < c
     → HasRowsAt p tags sw (suc i) → HasClassRowsAt p tags classes sw c
 class_rows p tags classes sw i zero m lt h = absurd (omega (arith, lt))
 class_rows p tags classes sw i (suc c) m lt h = (i, m, h)
@@ -61,12 +61,12 @@ class_rows p tags classes sw i (suc c) m lt h = (i, m, h)
 module _ (t : Tables) (p : Policy) (tag : ℕ) (tags : List (List ℕ)) (classes : List ℕ) (g : Setting t p tag tags) (are : AreTagClasses t.fields p tags classes) where
   -- shorter names
   abbrev Start : Packet → Type 0
-  Start = IsStart t.fields t.topo
+  Start = IsStartPacket t.fields t.topo
 
   -- a place with a tag set has a class
   place_class :
       (i : ℕ) (labels : List ℕ) → slice_get tags i ≡ Some labels
-      → IsMember classes (slice_index classes i) i × (0 < slice_index classes i)
+      → IsOfClass classes (slice_index classes i) i × (0 < slice_index classes i)
   place_class i labels get =
       let within = slice_get_within tags i labels get in
       let many = are.one_each in
@@ -92,7 +92,7 @@ module _ (t : Tables) (p : Policy) (tag : ℕ) (tags : List (List ℕ)) (classes
       ((m.1, m.2, m.3), index_get classes j (suc c) m.0))
       (λ none.
       let m = place_class i under.0 under.1 in
-      absurd (none.0 i (subst (λ n. IsMember classes n i) e m.0, under.0, under.1, under.2)))
+      absurd (none.0 i (subst (λ n. IsOfClass classes n i) e m.0, under.0, under.1, under.2)))
       h
 
   -- alike tags
@@ -157,12 +157,12 @@ Asked p tags classes t fields topo =
     × HasDistinct p
     × IsInRange p fields
     × IsCompilable fields topo p
-    × IsMergedTable fields topo (IsStart fields topo) p tags classes t
+    × IsMergedTable fields topo (IsStartPacket fields topo) p tags classes t
 
 -- over the tables' own fields and topology
 leave_here : (p : Policy) (tags : List (List ℕ)) (classes : List ℕ) (t : Tables) → Asked p tags classes t t.fields t.topo → Leaving p t t.fields t.topo
 leave_here p tags classes t a =
-    let table : IsMergedTable t.fields t.topo (IsStart t.fields t.topo) p tags classes t = a.5 in
+    let table : IsMergedTable t.fields t.topo (IsStartPacket t.fields t.topo) p tags classes t = a.5 in
     let g : Setting t p table.tag tags =
     record {
       fields_ok = a.0;
@@ -171,7 +171,7 @@ leave_here p tags classes t a =
       in_range = a.3;
       compilable = a.4;
       tag_is = table.tag_declared;
-      stand = tags_stand p (IsStart t.fields t.topo) tags table.in_order;
+      stand = tags_stand p (IsStartPacket t.fields t.topo) tags table.in_order;
     } in
     leaving_by t p table.tag tags g (class_of classes) (class_numbering t p table.tag tags classes g table.are_classes table.switches table.each)
 
@@ -189,7 +189,7 @@ leave_over p tags classes t fields topo e f =
 pub merged_carries :
     (program : Program) (p : Policy) (tags : List (List ℕ)) (classes : List ℕ) (t : Tables) → IsFieldTable program.fields → AreLinks program.topo
     → HasDistinct p → IsInRange p program.fields → IsCompilable program.fields program.topo p
-    → IsMergedTable program.fields program.topo (IsStart program.fields program.topo) p tags classes t → Carries program p t
+    → IsMergedTable program.fields program.topo (IsStartPacket program.fields program.topo) p tags classes t → Carries program p t
 merged_carries program p tags classes t fields_ok links_ok distinct in_range compilable table =
     let h = leave_over p tags classes t program.fields program.topo table.same_fields table.same_topology (fields_ok, links_ok, distinct, in_range, compilable, table) in
     record {
@@ -205,7 +205,7 @@ pub named_merged_carries :
     (program : Program) (name : List ℕ) (p : Policy) (tags : List (List ℕ)) (classes : List ℕ) (t : Tables)
     → IsProgram program.fields program.topo program.lets → policy_named program name ≡ Some p
     → IsCompilable program.fields program.topo p
-    → IsMergedTable program.fields program.topo (IsStart program.fields program.topo) p tags classes t → Carries program p t
+    → IsMergedTable program.fields program.topo (IsStartPacket program.fields program.topo) p tags classes t → Carries program p t
 named_merged_carries program name p tags classes t ok named compilable table =
     let is : IsLet program.fields p = let_named program name p ok named in
     merged_carries program p tags classes t ok.table ok.topology.links (numbered_distinct p 1 is.numbered) is.in_range compilable table

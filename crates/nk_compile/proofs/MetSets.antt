@@ -12,9 +12,9 @@ use Rattle.nk_algebra.specs.PacketSets.{has_out, is_in}
 use Rattle.nk_algebra.proofs.Members.{Has, merged_has, merged_left, merged_right}
 use Rattle.nk_determ.specs.Sets.{IsSetOf, SetsGrow, Differ}
 use Rattle.nk_determ.specs.Pairs.{Under, EachPair}
-use Rattle.nk_switches.specs.Tagged.{set_of}
+use Rattle.nk_switches.specs.Tagged.{set_of_tag}
 use Rattle.nk_switches.proofs.Growing.{set_kept, sets_longer}
-use Rattle.nk_merge.specs.Alike.{behind}
+use Rattle.nk_merge.specs.Alike.{labels_behind}
 use Rattle.nk_compile.specs.MetPackets.{entries_of, AreUnder, AreMet}
 
 -- a leaf with an out has one
@@ -215,8 +215,8 @@ rising_raised (x ∷ xs) r = (
   rising_raised xs r.1,
 )
 
-pub behind_increasing : (xs labels : List ℕ) → IsStrictlyIncreasing xs → labels ≡ behind xs → IsStrictlyIncreasing labels
-behind_increasing xs labels h is = subst IsStrictlyIncreasing (sym is) (increasing_from (behind xs) (rising_raised xs (rising_from xs h)))
+pub behind_increasing : (xs labels : List ℕ) → IsStrictlyIncreasing xs → labels ≡ labels_behind xs → IsStrictlyIncreasing labels
+behind_increasing xs labels h is = subst IsStrictlyIncreasing (sym is) (increasing_from (labels_behind xs) (rising_raised xs (rising_from xs h)))
 
 -- the element behind a list
 append_at : (xs : List ℕ) (y : ℕ) → get_or (xs ++ y ∷ []) (length xs) 0 ≡ y
@@ -225,22 +225,22 @@ append_at (x ∷ xs) y = append_at xs y
 
 -- one more set behind a tag's
 pub behind_more : (first ss more : List (List ℕ)) (tags : List ℕ) (i s b : ℕ) (all longer : List ℕ) → SetsGrow first ss → SetsGrow ss more → All (λ n. n < length first) tags → i < length tags →
-    s ≡ get_or tags i s → IsSetOf more b (behind (get_or ss s [])) → length all ≡ i → longer ≡ all ++ b ∷ [] →
-    ((k : ℕ) → k < i → IsSetOf ss (get_or all k 0) (behind (set_of first tags k))) → (k : ℕ) → k < i + 1 → IsSetOf more (get_or longer k 0) (behind (set_of first tags k))
+    s ≡ get_or tags i s → IsSetOf more b (labels_behind (get_or ss s [])) → length all ≡ i → longer ≡ all ++ b ∷ [] →
+    ((k : ℕ) → k < i → IsSetOf ss (get_or all k 0) (labels_behind (set_of_tag first tags k))) → (k : ℕ) → k < i + 1 → IsSetOf more (get_or longer k 0) (labels_behind (set_of_tag first tags k))
 behind_more first ss more tags i s b all longer g h known lt at one many is k j less = by (numbers_decided j i)
   where
-    by : (j ≡ i) ⊎ (j ≡ i → ⊥) → IsSetOf more (get_or longer j 0) (behind (set_of first tags j))
+    by : (j ≡ i) ⊎ (j ≡ i → ⊥) → IsSetOf more (get_or longer j 0) (labels_behind (set_of_tag first tags j))
     by (inl e) =
         let here : get_or longer j 0 ≡ b = ap (λ (l : List ℕ). get_or l j 0) is ∙ ap (λ n. get_or (all ++ b ∷ []) n 0) (e ∙ sym many) ∙ append_at all b in
         let tag : s ≡ get_or tags j 0 = at ∙ get_or_default tags i s 0 lt ∙ ap (λ n. get_or tags n 0) (sym e) in
         let inside : j < length tags = subst (λ n. n < length tags) (sym e) lt in
-        let set : get_or ss s [] ≡ set_of first tags j = ap (λ n. get_or ss n []) tag ∙ set_kept first ss (get_or tags j 0) g (known j 0 inside) in
-        subst (λ n. IsSetOf more n (behind (set_of first tags j))) (sym here) (subst (λ l. IsSetOf more b (behind l)) set one)
+        let set : get_or ss s [] ≡ set_of_tag first tags j = ap (λ n. get_or ss n []) tag ∙ set_kept first ss (get_or tags j 0) g (known j 0 inside) in
+        subst (λ n. IsSetOf more n (labels_behind (set_of_tag first tags j))) (sym here) (subst (λ l. IsSetOf more b (labels_behind l)) set one)
     by (inr ne) =
         let low : j < i = omega (arith, less, ne) in
         let inside : j < length all = omega (arith, low, many) in
         let old = k j low in
         let here : get_or longer j 0 ≡ get_or all j 0 = ap (λ (l : List ℕ). get_or l j 0) is ∙ get_or_append_left all (b ∷ []) 0 j inside in
         let wide = sets_longer ss more h in
-        subst (λ n. IsSetOf more n (behind (set_of first tags j))) (sym here)
+        subst (λ n. IsSetOf more n (labels_behind (set_of_tag first tags j))) (sym here)
         record { within = omega (arith, old.within, wide); members = set_kept ss more (get_or all j 0) h old.within ∙ old.members }

@@ -25,7 +25,7 @@ use Rattle.nk_determ.specs.Automaton.{IsAutomaton}
 use Rattle.nk_determ.specs.Levels.{At, InLevel, AreLevels}
 use Rattle.nk_runs.specs.Labels.{IsAmong}
 use Rattle.nk_runs.proofs.Labelled.{met_labels, labels_met}
-use Rattle.nk_merge.specs.Alike.{behind}
+use Rattle.nk_merge.specs.Alike.{labels_behind}
 use Rattle.nk_compile.specs.MergedTable.{IsMetUnder}
 use Rattle.nk_compile.proofs.MetSets.{rising_raised}
 use Rattle.nk_compile.proofs.Reached.{same_some}
@@ -46,11 +46,11 @@ halves (suc i) = by (halves i)
     by (inr r) = inl (r.0 + 1, omega (arith, r.1))
 
 -- a label stands behind one of a set exactly where it is one more than it
-behind_has : (s : List ℕ) (l : ℕ) → Contains s l ↔ Contains (behind s) (l + 1)
+behind_has : (s : List ℕ) (l : ℕ) → Contains s l ↔ Contains (labels_behind s) (l + 1)
 behind_has s l = (
-  λ c. contains_from_in (behind s) (l + 1) (in_mapped (λ n. n + 1) s l (in_from_contains s l c)),
+  λ c. contains_from_in (labels_behind s) (l + 1) (in_mapped (λ n. n + 1) s l (in_from_contains s l c)),
   λ c.
-      let m = from_mapped (λ n. n + 1) s (l + 1) (in_from_contains (behind s) (l + 1) c) in
+      let m = from_mapped (λ n. n + 1) s (l + 1) (in_from_contains (labels_behind s) (l + 1) c) in
       let same : m.0 ≡ l = omega (arith, m.2) in
       contains_from_in s l (subst (λ n. In s n) same m.1),
 )
@@ -97,24 +97,24 @@ module _ (topo : Topology) (links : AreLinks topo) (p : Policy) (distinct : HasD
           (c.0, c.1, ((on_link p distinct k.0 k.1).only z x l' (subst (λ j. RecordsAt (after p j) z [] x l') (sym k.2) c.2)).0 ∙ ap (λ j. j + 1) k.2)
 
       -- so the label sets are one behind the other
-      set_on : (s : List ℕ) → IsLabelSet p pk (front ++ z ∷ []) s → IsLabelSet p pk ((front ++ z ∷ []) ++ x ∷ []) (behind s)
+      set_on : (s : List ℕ) → IsLabelSet p pk (front ++ z ∷ []) s → IsLabelSet p pk ((front ++ z ∷ []) ++ x ∷ []) (labels_behind s)
       set_on s h = (
         λ e. let m = some_label s h.0 in let c = (behind_has s m.0).0 m.1 in in_from_contains [] (m.0 + 1) (subst (λ q. Contains q (m.0 + 1)) e c),
         (
-          increasing_from (behind s) (rising_raised s (rising_from s h.1.0)),
+          increasing_from (labels_behind s) (rising_raised s (rising_from s h.1.0)),
           λ l'. (
             λ c.
-                let m = from_mapped (λ n. n + 1) s l' (in_from_contains (behind s) l' c) in
+                let m = from_mapped (λ n. n + 1) s l' (in_from_contains (labels_behind s) l' c) in
                 subst (λ n. IsAt p pk ((front ++ z ∷ []) ++ x ∷ []) n) (sym m.2) (crossed m.0 ((h.1.1 m.0).0 (contains_from_in s m.0 m.1))),
             λ a.
                 let m = came l' a in
-                subst (λ n. Contains (behind s) n) (sym m.2) ((behind_has s m.0).0 ((h.1.1 m.0).1 m.1)),
+                subst (λ n. Contains (labels_behind s) n) (sym m.2) ((behind_has s m.0).0 ((h.1.1 m.0).1 m.1)),
           ),
         ),
       )
 
       -- and back
-      set_back : (s : List ℕ) → s ≢ [] → HasExactly (λ l. Contains s l) s → IsLabelSet p pk ((front ++ z ∷ []) ++ x ∷ []) (behind s) → IsLabelSet p pk (front ++ z ∷ []) s
+      set_back : (s : List ℕ) → s ≢ [] → HasExactly (λ l. Contains s l) s → IsLabelSet p pk ((front ++ z ∷ []) ++ x ∷ []) (labels_behind s) → IsLabelSet p pk (front ++ z ∷ []) s
       set_back s some rise h = (
         some,
         (
@@ -136,10 +136,10 @@ module _ (topo : Topology) (links : AreLinks topo) (p : Policy) (distinct : HasD
     Start = IsAmong old start
 
     -- what is met under a tag set some level has under the labels behind it
-    pub level_of : (s : List ℕ) (x : Packet) → IsMetUnder p Start s x → (j : ℕ) × InLevel new ss ls j (behind s, x)
+    pub level_of : (s : List ℕ) (x : Packet) → IsMetUnder p Start s x → (j : ℕ) × InLevel new ss ls j (labels_behind s, x)
     level_of s x h = by h.1 h.4 h.5 h.7
       where
-        by : (u : List Packet) → length u ≡ 2 * h.2 + 1 → IsLabelSet p h.0 u s → IsAt p h.0 (u ++ x ∷ []) h.6 → (j : ℕ) × InLevel new ss ls j (behind s, x)
+        by : (u : List Packet) → length u ≡ 2 * h.2 + 1 → IsLabelSet p h.0 u s → IsAt p h.0 (u ++ x ∷ []) h.6 → (j : ℕ) × InLevel new ss ls j (labels_behind s, x)
         by [] odd set at = absurd (omega (arith, odd))
         by (y ∷ u) odd set at =
             let c = last_of_list y u in
@@ -147,14 +147,14 @@ module _ (topo : Topology) (links : AreLinks topo) (p : Policy) (distinct : HasD
             let set' = subst (λ v. IsLabelSet p h.0 v s) c.2 set in
             let at' = subst (λ v. IsAt p h.0 (v ++ x ∷ []) h.6) c.2 at in
             let label = set_on h.0 h.2 c.0 c.1 odd' x h.6 at' s set' in
-            let met = labels_met old states start p a distinct tidy (suc (length (c.0 ++ c.1 ∷ []))) (behind s, x) (h.0, c.0 ++ c.1 ∷ [], h.3, refl, label) in
-            let l = levels.complete refl (suc (length (c.0 ++ c.1 ∷ []))) (behind s, x) (subst (λ q. At old states q start (suc (length (c.0 ++ c.1 ∷ []))) (behind s, x)) (sym from) met) in
+            let met = labels_met old states start p a distinct tidy (suc (length (c.0 ++ c.1 ∷ []))) (labels_behind s, x) (h.0, c.0 ++ c.1 ∷ [], h.3, refl, label) in
+            let l = levels.complete refl (suc (length (c.0 ++ c.1 ∷ []))) (labels_behind s, x) (subst (λ q. At old states q start (suc (length (c.0 ++ c.1 ∷ []))) (labels_behind s, x)) (sym from) met) in
             (l.0, l.3)
 
     -- and the other way
-    pub under_of : (s : List ℕ) → IsTagSet p Start s → (x : Packet) → IsPacket old x → (j : ℕ) → j < length ls → InLevel new ss ls j (behind s, x) → IsMetUnder p Start s x
+    pub under_of : (s : List ℕ) → IsTagSet p Start s → (x : Packet) → IsPacket old x → (j : ℕ) → j < length ls → InLevel new ss ls j (labels_behind s, x) → IsMetUnder p Start s x
     under_of s tag_set x good j lt h =
-        by j (subst (λ q. At old states q start j (behind s, x)) from (levels.exact.sound j (behind s, x) lt good h))
+        by j (subst (λ q. At old states q start j (labels_behind s, x)) from (levels.exact.sound j (labels_behind s, x) lt good h))
       where
         set_is : IsLabelSet p tag_set.0 tag_set.1 s
         set_is = tag_set.5
@@ -162,7 +162,7 @@ module _ (topo : Topology) (links : AreLinks topo) (p : Policy) (distinct : HasD
         first : (l : ℕ) → Contains s l → (k : Literal) × HoldsLiteral p k × (k.mark ≡ l)
         first = literal_of topo links p distinct no_dup declared Start s tag_set
 
-        odd_never : (pk : Packet) (u : List Packet) (k : ℕ) → length u ≡ 2 * k + 1 → IsLabelSet p pk u (behind s) → ⊥
+        odd_never : (pk : Packet) (u : List Packet) (k : ℕ) → length u ≡ 2 * k + 1 → IsLabelSet p pk u (labels_behind s) → ⊥
         odd_never pk u k odd label =
             let m = some_label s set_is.0 in
             let c = (behind_has s m.0).0 m.1 in
@@ -170,24 +170,24 @@ module _ (topo : Topology) (links : AreLinks topo) (p : Policy) (distinct : HasD
             let f = first m.0 m.1 in
             climbs (bound_of p) f.0 q.0 f.1 q.1 (q.2 ∙ ap (λ n. n + 1) (sym f.2)) (omega arith)
 
-        even : (pk : Packet) → Start pk → (v : List Packet) (k : ℕ) → length v ≡ 2 * k + 1 → IsLabelSet p pk (v ++ x ∷ []) (behind s) → IsMetUnder p Start s x
+        even : (pk : Packet) → Start pk → (v : List Packet) (k : ℕ) → length v ≡ 2 * k + 1 → IsLabelSet p pk (v ++ x ∷ []) (labels_behind s) → IsMetUnder p Start s x
         even pk start_pk [] k odd label = absurd (omega (arith, odd))
         even pk start_pk (y ∷ v) k odd label =
             let c = last_of_list y v in
             let odd' : length (c.0 ++ c.1 ∷ []) ≡ 2 * k + 1 = sym (ap length c.2) ∙ odd in
-            let label' = subst (λ w. IsLabelSet p pk (w ++ x ∷ []) (behind s)) c.2 label in
+            let label' = subst (λ w. IsLabelSet p pk (w ++ x ∷ []) (labels_behind s)) c.2 label in
             let m = some_label s set_is.0 in
             let at = (label'.1.1 (m.0 + 1)).0 ((behind_has s m.0).0 m.1) in
             let back = set_back pk k c.0 c.1 odd' x (m.0 + 1) at s set_is.0 (set_is.1.0, λ l. (λ q. q, λ q. q)) label' in
             (pk, c.0 ++ c.1 ∷ [], k, start_pk, odd', back, m.0 + 1, at)
 
-        by : (i : ℕ) → At old states (0 ∷ []) start i (behind s, x) → IsMetUnder p Start s x
+        by : (i : ℕ) → At old states (0 ∷ []) start i (labels_behind s, x) → IsMetUnder p Start s x
         by zero h =
             let m = some_label s set_is.0 in
             let c = (behind_has s m.0).0 m.1 in
             absurd (⊎_elim (λ e. let z : m.0 + 1 ≡ 0 = e in omega (arith, z)) (λ n. n) (in_from_contains (0 ∷ []) (m.0 + 1) (subst (λ q. Contains q (m.0 + 1)) h.set_is c)))
         by (suc i) h =
-            let l = met_labels old states start p a distinct tidy (suc i) (behind s, x) h in
+            let l = met_labels old states start p a distinct tidy (suc i) (labels_behind s, x) h in
             ⊎_elim
             (λ k. absurd (odd_never l.0 (l.1 ++ x ∷ []) k.0 (omega (arith, l.3, k.1, length-append l.1 (x ∷ []))) l.4))
             (λ k. even l.0 l.2 l.1 k.0 (l.3 ∙ k.1) l.4)

@@ -4,7 +4,7 @@ use Rattle.nk_field.specs.Packet.{FieldTable}
 use Rattle.nk_topo.specs.Topology.{Topology}
 use Rattle.nk_policy.specs.Policy.{Policy}
 use Rattle.nk_policy.specs.Labels.{IsTagSet, AtMost}
-use Rattle.nk_names.specs.Accepted.{IsStart, IsCompilable, most_tags}
+use Rattle.nk_names.specs.Accepted.{IsStartPacket, IsCompilable, most_tags}
 use Rattle.nk_compile.specs.declared.refusal.Refusal.{Refusal}
 use Rattle.nk_compile.specs.declared.refusal.Refusal.TheVariants.{NoPolicy, NoTag, TagUsed, LooseDup, SwitchSet, NoSuchLink, OffEdge, TooManyTags}
 use Rattle.nk_compile.specs.PairAnswers.{FitTogether, IsUnopposed, IsPairReason}
@@ -71,8 +71,8 @@ one_pair_reason fields topo p q r s h k = by (pair_kind fields topo p q r h) (pa
     by (inr (inr a)) (inr (inr b)) = a.1 ∙ ap TooManyTags (a.2.2 ∙ sym b.2.2) ∙ sym b.1
 
 -- two accepted policies whose tags fit together have none
-pub no_pair_reason : (fields : FieldTable) (topo : Topology) (p q : Policy) (r : Refusal) → IsCompilable fields topo p → AtMost (most_tags fields fields.tag) (IsTagSet p (IsStart fields topo))
-    → IsCompilable fields topo q → AtMost (most_tags fields fields.tag) (IsTagSet q (IsStart fields topo)) → FitTogether fields topo p q → IsPairReason fields topo p q r → ⊥
+pub no_pair_reason : (fields : FieldTable) (topo : Topology) (p q : Policy) (r : Refusal) → IsCompilable fields topo p → AtMost (most_tags fields fields.tag) (IsTagSet p (IsStartPacket fields topo))
+    → IsCompilable fields topo q → AtMost (most_tags fields fields.tag) (IsTagSet q (IsStartPacket fields topo)) → FitTogether fields topo p q → IsPairReason fields topo p q r → ⊥
 no_pair_reason fields topo p q r p_ok p_few q_ok q_few fit h =
     ⊎_elim
     (λ a. no_reason fields topo p r p_ok p_few a.0)
@@ -80,8 +80,8 @@ no_pair_reason fields topo p q r p_ok p_few q_ok q_few fit h =
     ⊎_elim
     (λ b. no_reason fields topo q r q_ok q_few b.1)
     (λ c.
-    let old = least_fits_most (IsTagSet p (IsStart fields topo)) fit.0 c.2.3.0 (at_most_these fields topo p fit.0 fit.2) c.2.3.2 in
-    let new = least_fits_most (IsTagSet q (IsStart fields topo)) fit.1 c.2.3.1 (at_most_these fields topo q fit.1 fit.3) c.2.3.3 in
+    let old = least_fits_most (IsTagSet p (IsStartPacket fields topo)) fit.0 c.2.3.0 (at_most_these fields topo p fit.0 fit.2) c.2.3.2 in
+    let new = least_fits_most (IsTagSet q (IsStartPacket fields topo)) fit.1 c.2.3.1 (at_most_these fields topo q fit.1 fit.3) c.2.3.3 in
     let sum = c.2.3.4 in
     let found = c.2.2 in
     let le = fit.4 in

@@ -9,7 +9,7 @@ use Rattle.nk_field.proofs.Ascending.{all_from_members, members_from_all}
 use Rattle.nk_prefix.specs.Prefix.{digits_of}
 use Rattle.nk_topo.specs.Topology.{Topology, numbers_of}
 use Rattle.nk_policy.specs.Policy.{Policy}
-use Rattle.nk_names.specs.Accepted.{IsStart}
+use Rattle.nk_names.specs.Accepted.{IsStartPacket}
 use Rattle.nk_table.specs.declared.Group.{Group}
 use Rattle.nk_table.specs.declared.Row.{Row}
 use Rattle.nk_table.specs.declared.Table.{Table}
@@ -20,7 +20,7 @@ use Rattle.nk_group.specs.Groups as grouping
 use Rattle.nk_update.specs.Plans.{pair_of, place_of, tag_digits, asked_of, HasOldTag, HasNewTag, NamesOneOf, AreNumberedFrom, NumbersInOrder, HasRowsWhereDeclared, IsPlannable}
 use Rattle.nk_compile.specs.Counted.{HasTagSets}
 use Rattle.nk_compile.specs.NumberedBehind.{tags_behind, IsTableBehind}
-use Rattle.nk_compile.specs.PrintedTable.{IsTreeOf}
+use Rattle.nk_compile.specs.PrintedTable.{IsTreeOfTag}
 use Rattle.nk_compile.specs.WholeTable.{HasRowsAt, TagTree, rows_of_trees, IsSwitchTable, IsTableOf}
 use Rattle.nk_compile.proofs.Behind.{from_behind, behind_none}
 use Rattle.nk_compile.proofs.FewTags.{tags_fit}
@@ -85,7 +85,7 @@ module _ (first : ℕ) (fields : FieldTable) (topo : Topology) (Start : List ℕ
       let ps = rows_of_trees fields.maxima table.tag st.trees in
       let k = plain_of [] ps r (subst (λ l. In l r) st.rows i) in
       let e = from_joined (λ (q : TagTree). rows_for fields.maxima table.tag q.tag q.tree) st.trees k.0 k.1 in
-      let tree : IsTreeOf fields table.tag p tags e.0.tag u.switch e.0.tree = members_from_all (λ (q : TagTree). IsTreeOf fields table.tag p tags q.tag u.switch q.tree) st.trees st.each e.0 e.1 in
+      let tree : IsTreeOfTag fields table.tag p tags e.0.tag u.switch e.0.tree = members_from_all (λ (q : TagTree). IsTreeOfTag fields table.tag p tags q.tag u.switch q.tree) st.trees st.each e.0 e.1 in
       let at : HasRowsAt p tags u.switch e.0.tag = (st.exactly e.0.tag).0 (contains_from_in (map (λ (q : TagTree). q.tag) st.trees) e.0.tag (in_mapped (λ (q : TagTree). q.tag) st.trees e.0 e.1)) in (
         e.0.tag,
         ap (λ ms. asked_of (digits_of (slice_index fields.maxima table.tag)) table.tag ms) k.2 ∙ plain_asks fields.maxima table.tag e.0.tag e.0.tree tree.tag_free k.0 e.2,
@@ -126,29 +126,29 @@ module _ (first : ℕ) (fields : FieldTable) (topo : Topology) (Start : List ℕ
 pub pair_plannable :
     (fields : FieldTable) (topo : Topology) (p q : Policy) (o n : Tables) (k : ℕ)
     → HasTagSets fields topo p k
-    → IsTableOf fields topo (IsStart fields topo) p o → IsTableBehind k fields topo (IsStart fields topo) q n
+    → IsTableOf fields topo (IsStartPacket fields topo) p o → IsTableBehind k fields topo (IsStartPacket fields topo) q n
     → IsPlannable (pair_of o n k)
 pair_plannable fields topo p q o n k counted old new = record {
   fields = new.same_fields ∙ sym old.same_fields;
   topo = new.same_topology ∙ sym old.same_topology;
   tag = ap (λ (i : FieldTable). i.tag) old.same_fields ∙ old.tag_declared ∙ ap (λ m. Some m) (sym (declared_place fields o old.tag old.same_fields old.tag_declared));
   old_rows = λ sw. all_from_members (HasOldTag (pair_of o n k)) (rows_of o.tables sw) (λ r i.
-      let a = rows_ask 0 fields topo (IsStart fields topo) p o old_behind sw r i in
+      let a = rows_ask 0 fields topo (IsStartPacket fields topo) p o old_behind sw r i in
       (a.0, asks old_behind.tag (declared_place fields o old_behind.tag old.same_fields old_behind.tag_declared) r a.0 a.1, ⊎_elim (λ e. omega (arith, e)) (λ h. let high = h.1 in let le = fit in omega (arith, high, le)) a.2));
   new_rows = λ sw. all_from_members (HasNewTag (pair_of o n k)) (rows_of n.tables sw) (λ r i.
-      let a = rows_ask k fields topo (IsStart fields topo) q n new sw r i in
+      let a = rows_ask k fields topo (IsStartPacket fields topo) q n new sw r i in
       (a.0, asks new.tag (declared_place fields o new.tag old.same_fields new.tag_declared) r a.0 a.1, ⊎_elim (λ e. inl e) (λ h. inr h.0) a.2));
-  old_numbers = numbers_in_order 0 fields topo (IsStart fields topo) p o old_behind;
-  new_numbers = numbers_in_order k fields topo (IsStart fields topo) q n new;
-  old_switches = rows_where_declared 0 fields topo (IsStart fields topo) p o old_behind;
-  new_switches = rows_where_declared k fields topo (IsStart fields topo) q n new;
+  old_numbers = numbers_in_order 0 fields topo (IsStartPacket fields topo) p o old_behind;
+  new_numbers = numbers_in_order k fields topo (IsStartPacket fields topo) q n new;
+  old_switches = rows_where_declared 0 fields topo (IsStartPacket fields topo) p o old_behind;
+  new_switches = rows_where_declared k fields topo (IsStartPacket fields topo) q n new;
 }
   where
-    old_behind : IsTableBehind 0 fields topo (IsStart fields topo) p o
-    old_behind = behind_none fields topo (IsStart fields topo) p o old
+    old_behind : IsTableBehind 0 fields topo (IsStartPacket fields topo) p o
+    old_behind = behind_none fields topo (IsStartPacket fields topo) p o old
 
     fit : length old_behind.tags ≤ k
-    fit = tags_fit p (IsStart fields topo) old_behind.tags k old_behind.in_order (at_most_these fields topo p k counted)
+    fit = tags_fit p (IsStartPacket fields topo) old_behind.tags k old_behind.in_order (at_most_these fields topo p k counted)
 
     -- in the words of plans
     asks :

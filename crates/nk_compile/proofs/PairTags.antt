@@ -9,7 +9,7 @@ use Rattle.nk_policy.specs.Policy.{Policy}
 use Rattle.nk_policy.specs.Distinct.{HasDistinct}
 use Rattle.nk_policy.specs.Ranges.{IsInRange}
 use Rattle.nk_policy.specs.Labels.{IsTagSet, AtMost}
-use Rattle.nk_names.specs.Accepted.{IsStart, IsCompilable}
+use Rattle.nk_names.specs.Accepted.{IsStartPacket, IsCompilable}
 use Rattle.nk_table.specs.declared.Tables.{Tables}
 use Rattle.nk_table.specs.Hops.{Copy, waiting}
 use Rattle.nk_update.specs.Plans.{pair_of, place_of}
@@ -21,11 +21,11 @@ use Rattle.nk_compile.proofs.Behind.{behind_none}
 use Rattle.nk_compile.proofs.Printed.{Asked, crossing_tags}
 
 -- a policy has at most as many tag sets as there are
-pub at_most_these : (fields : FieldTable) (topo : Topology) (p : Policy) (k : ℕ) → HasTagSets fields topo p k → AtMost k (IsTagSet p (IsStart fields topo))
+pub at_most_these : (fields : FieldTable) (topo : Topology) (p : Policy) (k : ℕ) → HasTagSets fields topo p k → AtMost k (IsTagSet p (IsStartPacket fields topo))
 at_most_these fields topo p k h = let many : k ≡ length h.0 = h.2 in (h.0, omega (arith, many), λ s i. (h.1.exactly s).1 i)
 
 -- where packets enter the tables they start
-entering_starts : (fields : FieldTable) (topo : Topology) (t : Tables) → t.fields ≡ fields → t.topo ≡ topo → (pk : List ℕ) → IsEntering t pk → IsStart fields topo pk
+entering_starts : (fields : FieldTable) (topo : Topology) (t : Tables) → t.fields ≡ fields → t.topo ≡ topo → (pk : List ℕ) → IsEntering t pk → IsStartPacket fields topo pk
 entering_starts fields topo t e f pk h = record {
   packet = subst (λ i. IsPacket i pk) e h.packet;
   located = subst (λ o. IsLocated o pk) f h.located;
@@ -45,7 +45,7 @@ pub pair_tags :
     → HasDistinct p → IsInRange p fields → IsCompilable fields topo p
     → HasDistinct q → IsInRange q fields → IsCompilable fields topo q
     → HasTagSets fields topo p k
-    → IsTableOf fields topo (IsStart fields topo) p o → IsTableBehind k fields topo (IsStart fields topo) q n
+    → IsTableOf fields topo (IsStartPacket fields topo) p o → IsTableBehind k fields topo (IsStartPacket fields topo) q n
     → HaveTheirTags (pair_of o n k)
 pair_tags fields topo p q o n k fields_ok links_ok p_distinct p_range p_compilable q_distinct q_range q_compilable counted old new = record {
   old = λ j pk enters.
@@ -70,14 +70,14 @@ pair_tags fields topo p q o n k fields_ok links_ok p_distinct p_range p_compilab
     declared : fields.tag ≡ Some tag
     declared = old.tag_declared ∙ ap (λ m. Some m) (sym (declared_place fields o old.tag old.same_fields old.tag_declared))
 
-    starts : (pk : List ℕ) → IsEntering o pk → IsStart fields topo pk
+    starts : (pk : List ℕ) → IsEntering o pk → IsStartPacket fields topo pk
     starts pk h = entering_starts fields topo o old.same_fields old.same_topology pk h
 
     old_asked : Asked 0 p o fields topo
-    old_asked = (fields_ok, links_ok, p_distinct, p_range, p_compilable, behind_none fields topo (IsStart fields topo) p o old)
+    old_asked = (fields_ok, links_ok, p_distinct, p_range, p_compilable, behind_none fields topo (IsStartPacket fields topo) p o old)
 
     new_asked : Asked k q n fields topo
     new_asked = (fields_ok, links_ok, q_distinct, q_range, q_compilable, new)
 
-    new_sets : AtMost (length new.tags) (IsTagSet q (IsStart fields topo))
+    new_sets : AtMost (length new.tags) (IsTagSet q (IsStartPacket fields topo))
     new_sets = (new.tags, omega arith, λ s i. (new.in_order.exactly s).1 i)

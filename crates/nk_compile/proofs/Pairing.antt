@@ -7,7 +7,7 @@ use Rattle.nk_policy.specs.Policy.{Policy}
 use Rattle.nk_policy.specs.Labels.{IsTagSet, AtLeast}
 use Rattle.nk_policy.proofs.Numbering.{numbered_distinct}
 use Rattle.nk_names.specs.declared.Program.{Program}
-use Rattle.nk_names.specs.Accepted.{IsStart, IsAccepted, most_tags}
+use Rattle.nk_names.specs.Accepted.{IsStartPacket, IsAccepted, most_tags}
 use Rattle.nk_names.specs.Named.{policy_named}
 use Rattle.nk_names.specs.ProgramValue.{IsProgram, IsLet}
 use Rattle.nk_tag.specs.Numbers.{AreNumbers}
@@ -75,7 +75,7 @@ module _ (fields : FieldTable) (topo : Topology) (old_tag new_tag : ℕ) (p q : 
       h.1.0,
       0,
       prepared_many fields topo old_tag p a k h.1.0 h.1.1,
-      at_least_none (IsTagSet q (IsStart fields topo)),
+      at_least_none (IsTagSet q (IsStartPacket fields topo)),
       let e = h.1.2 in omega (arith, e),
     ),
   )
@@ -98,7 +98,7 @@ module _ (fields : FieldTable) (topo : Topology) (old_tag new_tag : ℕ) (p q : 
       (
         first,
         h.1.0,
-        subst (λ n. AtLeast n (IsTagSet p (IsStart fields topo))) (sym is) (prepared_least fields topo old_tag p a k r numbers),
+        subst (λ n. AtLeast n (IsTagSet p (IsStartPacket fields topo))) (sym is) (prepared_least fields topo old_tag p a k r numbers),
         prepared_many fields topo new_tag q b l h.1.0 h.1.1,
         h.1.2,
       ),
@@ -113,7 +113,7 @@ module _ (fields : FieldTable) (topo : Topology) (old_tag new_tag : ℕ) (p q : 
 
     -- where they fit, the tables are those of both
     pub pair_made : (s : List ℕ) → AreNumbers b.sets b.levels.levels s → max ≡ slice_index fields.maxima new_tag → first + length s ≤ max → (t : TablePair) → t.old_tags ≡ first →
-        IsTableBehind 0 fields topo (IsStart fields topo) p t.old → IsTableBehind first fields topo (IsStart fields topo) q t.new → IsMadePair fields topo p q t
+        IsTableBehind 0 fields topo (IsStartPacket fields topo) p t.old → IsTableBehind first fields topo (IsStartPacket fields topo) q t.new → IsMadePair fields topo p q t
     pair_made s more same few t count old new = record {
       compilable_old = prepared_compilable fields topo old_tag p a k;
       compilable_new = prepared_compilable fields topo new_tag q b l;
@@ -127,8 +127,8 @@ module _ (fields : FieldTable) (topo : Topology) (old_tag new_tag : ℕ) (p q : 
         subst (λ n. length r + length s ≤ n) most_is (omega (arith, few, is)),
       );
       old_tags = subst (λ n. HasTagSets fields topo p n) (sym (count ∙ is)) (prepared_counted fields topo old_tag p a k r numbers);
-      printed_old = table_alone fields topo (IsStart fields topo) p t.old old;
-      printed_new = subst (λ n. IsTableBehind n fields topo (IsStart fields topo) q t.new) (sym count) new;
+      printed_old = table_alone fields topo (IsStartPacket fields topo) p t.old old;
+      printed_new = subst (λ n. IsTableBehind n fields topo (IsStartPacket fields topo) q t.new) (sym count) new;
     }
 
 -- the reason for two policies is that for their names

@@ -11,7 +11,7 @@ use Rattle.nk_policy.specs.Ranges.{IsInRange}
 use Rattle.nk_policy.specs.Labels.{IsTagSet, AtMost}
 use Rattle.nk_policy.proofs.Numbering.{numbered_distinct}
 use Rattle.nk_names.specs.declared.Program.{Program}
-use Rattle.nk_names.specs.Accepted.{IsStart, IsCompilable, IsAccepted}
+use Rattle.nk_names.specs.Accepted.{IsStartPacket, IsCompilable, IsAccepted}
 use Rattle.nk_names.specs.Named.{policy_named}
 use Rattle.nk_names.specs.ProgramValue.{IsLet, IsProgram}
 use Rattle.nk_names.proofs.Named.{let_named}
@@ -36,18 +36,18 @@ Asked first p t fields topo =
     × HasDistinct p
     × IsInRange p fields
     × IsCompilable fields topo p
-    × IsTableBehind first fields topo (IsStart fields topo) p t
+    × IsTableBehind first fields topo (IsStartPacket fields topo) p t
 
 -- from each start, after each number of crossings
 record Facts (first : ℕ) (p : Policy) (t : Tables) (fields : FieldTable) (topo : Topology) : Type 0 where
   leave : Leaving p t fields topo
   cross_tagged :
-      (tag most : ℕ) → fields.tag ≡ Some tag → AtMost most (IsTagSet p (IsStart fields topo)) → (k : ℕ) (pk : List ℕ)
-      → IsStart fields topo pk
+      (tag most : ℕ) → fields.tag ≡ Some tag → AtMost most (IsTagSet p (IsStartPacket fields topo)) → (k : ℕ) (pk : List ℕ)
+      → IsStartPacket fields topo pk
       → All (λ (c : Copy). (first < slice_index c.packet tag) × (slice_index c.packet tag ≤ first + most)) (waiting t (suc k) pk)
 
 module _ (first : ℕ) (p : Policy) (t : Tables) (a : Asked first p t t.fields t.topo) where
-  table : IsTableBehind first t.fields t.topo (IsStart t.fields t.topo) p t
+  table : IsTableBehind first t.fields t.topo (IsStartPacket t.fields t.topo) p t
   table = a.5
 
   setting : Setting t p table.tag (tags_behind first table.tags)
@@ -58,7 +58,7 @@ module _ (first : ℕ) (p : Policy) (t : Tables) (a : Asked first p t t.fields t
     in_range = a.3;
     compilable = a.4;
     tag_is = table.tag_declared;
-    stand = stand_behind first p (IsStart t.fields t.topo) table.tags (tags_stand p (IsStart t.fields t.topo) table.tags table.in_order);
+    stand = stand_behind first p (IsStartPacket t.fields t.topo) table.tags (tags_stand p (IsStartPacket t.fields t.topo) table.tags table.in_order);
   }
 
   -- over the tables' own fields and topology
@@ -73,7 +73,7 @@ module _ (first : ℕ) (p : Policy) (t : Tables) (a : Asked first p t t.fields t
             all_from_members (λ (c : Copy). (first < slice_index c.packet tag) × (slice_index c.packet tag ≤ first + most)) (waiting t (suc k) pk) (λ c i.
             let d = crossed_number t p table.tag tags g (λ n. n) num pk start k c i in
             let b = from_behind first table.tags d.0 d.1 d.3 d.2 in
-            let fit = tags_fit p (IsStart t.fields t.topo) table.tags most table.in_order few in
+            let fit = tags_fit p (IsStartPacket t.fields t.topo) table.tags most table.in_order few in
             let inside : b.0 < length table.tags = slice_get_within table.tags b.0 d.1 b.2 in
             let same : tag ≡ table.tag = same_some tag table.tag (sym declared ∙ table.tag_declared) in
             let value : slice_index c.packet table.tag ≡ suc d.0 = d.4 in
@@ -95,18 +95,18 @@ facts first p t fields topo e f =
 -- the copies that have crossed a link have the policy's own tags
 pub crossing_tags :
     (first : ℕ) (p : Policy) (t : Tables) (fields : FieldTable) (topo : Topology) → Asked first p t fields topo
-    → (tag most : ℕ) → fields.tag ≡ Some tag → AtMost most (IsTagSet p (IsStart fields topo)) → (k : ℕ) (pk : List ℕ)
-    → IsStart fields topo pk
+    → (tag most : ℕ) → fields.tag ≡ Some tag → AtMost most (IsTagSet p (IsStartPacket fields topo)) → (k : ℕ) (pk : List ℕ)
+    → IsStartPacket fields topo pk
     → All (λ (c : Copy). (first < slice_index c.packet tag) × (slice_index c.packet tag ≤ first + most)) (waiting t (suc k) pk)
 crossing_tags first p t fields topo a =
-    let printed : IsTableBehind first fields topo (IsStart fields topo) p t = a.5 in
+    let printed : IsTableBehind first fields topo (IsStartPacket fields topo) p t = a.5 in
     (facts first p t fields topo printed.same_fields printed.same_topology a).cross_tagged
 
 -- over a program
 pub behind_carries :
     (program : Program) (first : ℕ) (p : Policy) (t : Tables) → IsFieldTable program.fields → AreLinks program.topo
     → HasDistinct p → IsInRange p program.fields → IsCompilable program.fields program.topo p
-    → IsTableBehind first program.fields program.topo (IsStart program.fields program.topo) p t → Carries program p t
+    → IsTableBehind first program.fields program.topo (IsStartPacket program.fields program.topo) p t → Carries program p t
 behind_carries program first p t fields_ok links_ok distinct in_range compilable table =
     let h = (facts first p t program.fields program.topo table.same_fields table.same_topology (fields_ok, links_ok, distinct, in_range, compilable, table)).leave in
     record {
@@ -121,16 +121,16 @@ behind_carries program first p t fields_ok links_ok distinct in_range compilable
 pub printed_carries :
     (program : Program) (p : Policy) (t : Tables) → IsFieldTable program.fields → AreLinks program.topo
     → HasDistinct p → IsInRange p program.fields → IsCompilable program.fields program.topo p
-    → IsTableOf program.fields program.topo (IsStart program.fields program.topo) p t → Carries program p t
+    → IsTableOf program.fields program.topo (IsStartPacket program.fields program.topo) p t → Carries program p t
 printed_carries program p t fields_ok links_ok distinct in_range compilable table =
     behind_carries program 0 p t fields_ok links_ok distinct in_range compilable
-    (behind_none program.fields program.topo (IsStart program.fields program.topo) p t table)
+    (behind_none program.fields program.topo (IsStartPacket program.fields program.topo) p t table)
 
 -- of a program's policy that is accepted
 pub accepted_behind_carries :
     (program : Program) (name : List ℕ) (first : ℕ) (p : Policy) (t : Tables)
     → IsProgram program.fields program.topo program.lets → policy_named program name ≡ Some p → IsAccepted program p
-    → IsTableBehind first program.fields program.topo (IsStart program.fields program.topo) p t → Carries program p t
+    → IsTableBehind first program.fields program.topo (IsStartPacket program.fields program.topo) p t → Carries program p t
 accepted_behind_carries program name first p t ok named accepted table =
     let is : IsLet program.fields p = let_named program name p ok named in
     behind_carries program first p t ok.table ok.topology.links (numbered_distinct p 1 is.numbered) is.in_range accepted.0 table
@@ -138,7 +138,7 @@ accepted_behind_carries program name first p t ok named accepted table =
 pub accepted_carries :
     (program : Program) (name : List ℕ) (p : Policy) (t : Tables)
     → IsProgram program.fields program.topo program.lets → policy_named program name ≡ Some p → IsAccepted program p
-    → IsTableOf program.fields program.topo (IsStart program.fields program.topo) p t → Carries program p t
+    → IsTableOf program.fields program.topo (IsStartPacket program.fields program.topo) p t → Carries program p t
 accepted_carries program name p t ok named accepted table =
     accepted_behind_carries program name 0 p t ok named accepted
-    (behind_none program.fields program.topo (IsStart program.fields program.topo) p t table)
+    (behind_none program.fields program.topo (IsStartPacket program.fields program.topo) p t table)

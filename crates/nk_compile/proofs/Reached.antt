@@ -23,7 +23,7 @@ use Rattle.nk_policy.proofs.LabelSteps.{packet_of, gives_is_runs, at_first, at_n
 use Rattle.nk_policy.proofs.ListParts.{last_is, last_of_list}
 use Rattle.nk_policy.proofs.LinkStructure.{between, on_link, off_link}
 use Rattle.nk_policy.proofs.Parity.{no_records, odd_at}
-use Rattle.nk_names.specs.Accepted.{IsStart, IsCompilable}
+use Rattle.nk_names.specs.Accepted.{IsStartPacket, IsCompilable}
 use Rattle.nk_names.proofs.Declared.{link_of, literal_declared, link_at_source}
 use Rattle.nk_table.specs.declared.Tables.{Tables}
 use Rattle.nk_table.specs.Rules.{sent_for}
@@ -46,7 +46,7 @@ pub record Setting (t : Tables) (p : Policy) (tag : ℕ) (tags : List (List ℕ)
   pub in_range : IsInRange p t.fields
   pub compilable : IsCompilable t.fields t.topo p
   pub tag_is : t.fields.tag ≡ Some tag
-  pub stand : StandOnce p (IsStart t.fields t.topo) tags
+  pub stand : StandOnce p (IsStartPacket t.fields t.topo) tags
 
 -- a policy that is left between two crossings, with what its runs keep
 pub record IsRest (t : Tables) (p : Policy) (tag : ℕ) (s : Policy) : Type 0 where
@@ -174,7 +174,7 @@ module _ (t : Tables) (p : Policy) (tag : ℕ) (tags : List (List ℕ)) (g : Set
       let r = (a.rests c.0 c.1).between.records x z l c.2 in
       (r.0, r.1, r.3, link_at_source t.topo g.links_ok p g.compilable.links_declared r.0 r.1 z r.2)
 
-  module _ (pk : Packet) (start : IsStart t.fields t.topo pk) where
+  module _ (pk : Packet) (start : IsStartPacket t.fields t.topo pk) where
     -- at first
     pub reached_first : Reached t p tag tags pk 0 [] 0 pk
     reached_first = record {
@@ -325,13 +325,13 @@ module _ (t : Tables) (p : Policy) (tag : ℕ) (tags : List (List ℕ)) (g : Set
 
 -- a packet is met under the tag: it starts, under tag 0, or it stands behind records with the tag's set
 abbrev pub Under : Tables → Policy → List (List ℕ) → ℕ → Packet → Type 0
-Under t p tags zero x = IsStart t.fields t.topo x
-Under t p tags (suc i) x = (labels : List ℕ) × (slice_get tags i ≡ Some labels) × IsMetUnder p (IsStart t.fields t.topo) labels x
+Under t p tags zero x = IsStartPacket t.fields t.topo x
+Under t p tags (suc i) x = (labels : List ℕ) × (slice_get tags i ≡ Some labels) × IsMetUnder p (IsStartPacket t.fields t.topo) labels x
 
 -- so from some start a run has come there
 pub record Come (t : Tables) (p : Policy) (tag : ℕ) (tags : List (List ℕ)) (tg : ℕ) (x : Packet) : Type 0 where
   pub from : Packet
-  pub start : IsStart t.fields t.topo from
+  pub start : IsStartPacket t.fields t.topo from
   pub crossings : ℕ
   pub records : List Packet
   pub reached : Reached t p tag tags from crossings records tg x

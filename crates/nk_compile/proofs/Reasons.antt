@@ -11,7 +11,7 @@ use Rattle.nk_policy.specs.Leaves.{has_leaf, is_on_field, is_dup, is_switch_assi
 use Rattle.nk_policy.specs.Labels.{IsTagSet, AtMost}
 use Rattle.nk_names.specs.declared.Program.{Program}
 use Rattle.nk_names.specs.Named.{policy_named}
-use Rattle.nk_names.specs.Accepted.{IsStart, IsCompilable, is_link_outside, most_tags}
+use Rattle.nk_names.specs.Accepted.{IsStartPacket, IsCompilable, is_link_outside, most_tags}
 use Rattle.nk_compile.specs.declared.refusal.Refusal.{Refusal}
 use Rattle.nk_compile.specs.declared.refusal.Refusal.TheVariants.{NoPolicy, NoTag, TagUsed, LooseDup, SwitchSet, NoSuchLink, OffEdge, TooManyTags}
 use Rattle.nk_compile.specs.OffEdge.{EndsOffEdge, EndsOnEdges}
@@ -62,14 +62,14 @@ module _ (fields : FieldTable) (topo : Topology) (p : Policy) where
   kind_of (TooManyTags found) h = inr (inr (found, refl, h))
 
   -- an accepted policy has none
-  pub no_reason : (r : Refusal) → IsCompilable fields topo p → AtMost (most_tags fields fields.tag) (IsTagSet p (IsStart fields topo)) → IsReason fields topo p r → ⊥
+  pub no_reason : (r : Refusal) → IsCompilable fields topo p → AtMost (most_tags fields fields.tag) (IsTagSet p (IsStartPacket fields topo)) → IsReason fields topo p r → ⊥
   no_reason r c few h =
       ⊎_elim
       (λ s. none_some r (sym (unseen fields topo p c) ∙ s))
       (λ o.
       ⊎_elim
       (λ off. let w = off.4.0 in w.off (c.ends_on_edges off.0 off.1.records off.1.last w.starts w.gives))
-      (λ many. never_more (IsTagSet p (IsStart fields topo)) (most_tags fields fields.tag) many.0 few many.2.2 many.2.3)
+      (λ many. never_more (IsTagSet p (IsStartPacket fields topo)) (most_tags fields fields.tag) many.0 few many.2.2 many.2.3)
       o)
       (kind_of r h)
 

@@ -26,9 +26,9 @@ use Rattle.nk_extract.specs.Buckets.{AreBuckets}
 use Rattle.nk_group.specs.Groups.{groups_of, rows_after}
 use Rattle.nk_table.specs.declared.Table.{Table}
 use Rattle.nk_switches.specs.declared.stop.Stop.{Stop}
-use Rattle.nk_switches.specs.Tagged.{set_of, members_of, LeadsWith}
+use Rattle.nk_switches.specs.Tagged.{set_of_tag, members_of, LeadsWith}
 use Rattle.nk_switches.specs.Made.{TagTree, rows_of_trees, IsTagTree, IsTableAt, IsTagAt}
-use Rattle.nk_compile.specs.PrintedTable.{IsOfTag, StateRecords, IsResult, IsTreeOf}
+use Rattle.nk_compile.specs.PrintedTable.{IsOfTag, StateRecords, IsResult, IsTreeOfTag}
 use Rattle.nk_compile.specs.WholeTable.{HasRowsAt, IsSwitchTable}
 use Rattle.nk_compile.specs.Ready.{sets_of, IsClear, IsReady}
 use Rattle.nk_compile.proofs.Fitting.{set_up}
@@ -36,19 +36,19 @@ use Rattle.nk_compile.proofs.Reached.{same_some}
 use Rattle.nk_compile.proofs.Standing.{at_later, position_state, IsTagged, members_off, states_stay}
 
 -- the set at a place
-pub set_there : (ss : List (List ℕ)) (tags : List ℕ) (t : ℕ) → t < length tags → slice_get (sets_of ss tags) t ≡ Some (set_of ss tags t)
+pub set_there : (ss : List (List ℕ)) (tags : List ℕ) (t : ℕ) → t < length tags → slice_get (sets_of ss tags) t ≡ Some (set_of_tag ss tags t)
 set_there ss [] t lt = absurd (omega (arith, lt))
 set_there ss (s ∷ tags) zero lt = refl
 set_there ss (s ∷ tags) (suc t) lt = set_there ss tags t (omega (arith, lt))
 
 -- a place with a set is one of them
-pub set_within : (ss : List (List ℕ)) (tags : List ℕ) (t : ℕ) (labels : List ℕ) → slice_get (sets_of ss tags) t ≡ Some labels → (t < length tags) × (set_of ss tags t ≡ labels)
+pub set_within : (ss : List (List ℕ)) (tags : List ℕ) (t : ℕ) (labels : List ℕ) → slice_get (sets_of ss tags) t ≡ Some labels → (t < length tags) × (set_of_tag ss tags t ≡ labels)
 set_within ss [] t labels e = absurd cc
 set_within ss (s ∷ tags) zero labels e = (omega arith, same_some (get_or ss s []) labels e)
 set_within ss (s ∷ tags) (suc t) labels e = let r = set_within ss tags t labels e in (omega (arith, r.0), r.1)
 
 -- a place's set is one of the sets
-pub set_contained : (ss : List (List ℕ)) (tags : List ℕ) (t : ℕ) → t < length tags → Contains (sets_of ss tags) (set_of ss tags t)
+pub set_contained : (ss : List (List ℕ)) (tags : List ℕ) (t : ℕ) → t < length tags → Contains (sets_of ss tags) (set_of_tag ss tags t)
 set_contained ss tags t lt = contains_from_in _ _ (there tags t lt)
   where
     there : (is : List ℕ) (i : ℕ) → i < length is → In (sets_of ss is) (get_or ss (get_or is i 0) [])
@@ -79,7 +79,7 @@ module _ (first : ℕ) (fields : FieldTable) (topo : Topology) (tag : ℕ) (p : 
   member_place zero le l c =
       ⊎_elim (λ e. let n = ready.automaton.count in omega (arith, e, n)) (λ i. absurd i) (in_from_contains (0 ∷ []) l c)
   member_place (suc i) le l c =
-      let m = from_mapped (λ n. n + 1) (set_of ss tags i) l (in_from_contains _ l c) in
+      let m = from_mapped (λ n. n + 1) (set_of_tag ss tags i) l (in_from_contains _ l c) in
       let k = (tagged i (omega (arith, le))).literal m.0 (contains_from_in _ _ m.1) in
       let w = dup_place (k.0.mark + 1) (holds_second p k.0 k.1) in
       let e : k.0.mark ≡ m.0 = k.2 in
@@ -101,16 +101,16 @@ module _ (first : ℕ) (fields : FieldTable) (topo : Topology) (tag : ℕ) (p : 
   state_of_member zero le l c =
       ⊎_elim (λ e. ap (at_position p) e) (λ i. absurd i) (in_from_contains (0 ∷ []) l c)
   state_of_member (suc i) le l c =
-      let m = from_mapped (λ n. n + 1) (set_of ss tags i) l (in_from_contains _ l c) in
-      (set_of ss tags i, m.0, set_there ss tags i (omega (arith, le)), contains_from_in _ _ m.1, ap (at_position p) m.2 ∙ at_later p m.0)
+      let m = from_mapped (λ n. n + 1) (set_of_tag ss tags i) l (in_from_contains _ l c) in
+      (set_of_tag ss tags i, m.0, set_there ss tags i (omega (arith, le)), contains_from_in _ _ m.1, ap (at_position p) m.2 ∙ at_later p m.0)
 
   -- and each state is that of a member
   member_of_state : (t : ℕ) (s : Policy) → IsOfTag p (sets_of ss tags) t s → (l : ℕ) × Contains (members_of ss tags t) l × (at_position p l ≡ s)
   member_of_state zero s e = (0, contains_from_in (0 ∷ []) 0 (inl refl), sym e)
   member_of_state (suc i) s h =
       let w = set_within ss tags i h.0 h.2 in
-      let c : Contains (set_of ss tags i) h.1 = subst (λ x. Contains x h.1) (sym w.1) h.3 in
-      (h.1 + 1, contains_from_in _ _ (in_mapped (λ n. n + 1) (set_of ss tags i) h.1 (in_from_contains _ _ c)), at_later p h.1 ∙ sym h.4)
+      let c : Contains (set_of_tag ss tags i) h.1 = subst (λ x. Contains x h.1) (sym w.1) h.3 in
+      (h.1 + 1, contains_from_in _ _ (in_mapped (λ n. n + 1) (set_of_tag ss tags i) h.1 (in_from_contains _ _ c)), at_later p h.1 ∙ sym h.4)
 
   module _ (t : ℕ) (le : t ≤ length tags) (pk : Packet) (r : IsPacketOf st pk) where
     -- they end where a policy of the tag does
@@ -146,7 +146,7 @@ module _ (first : ℕ) (fields : FieldTable) (topo : Topology) (tag : ℕ) (p : 
     results_are y zero = ends_are y
     results_are y (suc i) = (
       λ h. (
-        set_of ss tags i,
+        set_of_tag ss tags i,
         set_there ss tags i h.0,
         h.1,
         (
@@ -179,7 +179,7 @@ module _ (first : ℕ) (fields : FieldTable) (topo : Topology) (tag : ℕ) (p : 
   declared_are = ap (λ n. take n st.maxes) ready.over.width ∙ (set_up fields st tag clear.table ready.over clear.tag_is).front
 
   -- the tree of a tag is that of its states
-  tree_is : (sw : ℕ) (e : TagTree) → e.tag ≤ length tags → IsTagTree st ss states tags tag sw e → IsTreeOf fields tag p (sets_of ss tags) e.tag sw e.tree
+  tree_is : (sw : ℕ) (e : TagTree) → e.tag ≤ length tags → IsTagTree st ss states tags tag sw e → IsTreeOfTag fields tag p (sets_of ss tags) e.tag sw e.tree
   tree_is sw e le k = record {
     reduced = subst (λ m. IsReduced e.tree m 1) declared_are k.reduced;
     tag_free = k.tag_free;
@@ -204,9 +204,9 @@ module _ (first : ℕ) (fields : FieldTable) (topo : Topology) (tag : ℕ) (p : 
     ascending = subst IsStrictlyIncreasing (sym k.tags_are) ascend;
     exactly = λ n. subst (λ sw. Contains (map (λ (e : TagTree). e.tag) k.trees) n ↔ HasRowsAt p (sets_of ss tags) sw n) (sym k.switch)
         (subst (λ l. Contains l n ↔ HasRowsAt p (sets_of ss tags) s.switch n) (sym k.tags_are) (exactly n));
-    each = all_from_members (λ (e : TagTree). IsTreeOf fields tag p (sets_of ss tags) e.tag t.switch e.tree) k.trees (λ e i.
+    each = all_from_members (λ (e : TagTree). IsTreeOfTag fields tag p (sets_of ss tags) e.tag t.switch e.tree) k.trees (λ e i.
         let le = members_from_all (λ n. n ≤ length tags) s.tags within e.tag (subst (λ l. In l e.tag) k.tags_are (in_mapped (λ (x : TagTree). x.tag) k.trees e i)) in
-        subst (λ sw. IsTreeOf fields tag p (sets_of ss tags) e.tag sw e.tree) (sym k.switch) (tree_is s.switch e le (members_from_all (IsTagTree st ss states tags tag s.switch) k.trees k.each e i)));
+        subst (λ sw. IsTreeOfTag fields tag p (sets_of ss tags) e.tag sw e.tree) (sym k.switch) (tree_is s.switch e le (members_from_all (IsTagTree st ss states tags tag s.switch) k.trees k.each e i)));
     groups = k.groups ∙ ap (λ m. groups_of (rows_of_trees m tag k.trees)) declared_are;
     rows = k.rows ∙ ap (λ m. rows_after [] (rows_of_trees m tag k.trees)) declared_are;
   }

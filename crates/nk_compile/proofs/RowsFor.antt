@@ -22,7 +22,7 @@ use Rattle.nk_extract.proofs.PlainRows.{put_all, exactly_differs, rows_give_leav
 use Rattle.nk_group.specs.Groups.{rows_after, groups_of as all_groups}
 use Rattle.nk_group.proofs.Choice.{groups_keep_the_choice}
 use Rattle.nk_compile.specs.MergedTable.{IsNumberedList}
-use Rattle.nk_compile.specs.PrintedTable.{IsTreeOf, IsBucketList}
+use Rattle.nk_compile.specs.PrintedTable.{IsTreeOfTag, IsBucketList}
 use Rattle.nk_compile.specs.WholeTable.{HasRowsAt, TagTree, rows_of_trees, IsSwitchTable}
 use Rattle.nk_compile.proofs.Sent.{same_number, other_number}
 use Rattle.nk_compile.proofs.Acting.{GivesAs, Numbering}
@@ -156,7 +156,7 @@ module _ (t : Tables) (p : Policy) (tag : ℕ) (tags : List (List ℕ)) (g : Set
       let has_rows : HasRowsAt p tags table.switch tg = subst (λ w. HasRowsAt p tags w tg) (sym f.2) a.rows in
       let found = from_mapped (λ (e : TagTree). e.tag) st.trees tg (in_from_contains (map (λ (e : TagTree). e.tag) st.trees) tg ((st.exactly tg).1 has_rows)) in
       let e : TagTree = found.0 in
-      let is_tree : IsTreeOf t.fields tag p tags e.tag table.switch e.tree = members_from_all (λ (q : TagTree). IsTreeOf t.fields tag p tags q.tag table.switch q.tree) st.trees st.each e found.1 in
+      let is_tree : IsTreeOfTag t.fields tag p tags e.tag table.switch e.tree = members_from_all (λ (q : TagTree). IsTreeOfTag t.fields tag p tags q.tag table.switch q.tree) st.trees st.each e found.1 in
       let list = subst (λ n. IsBucketList (length t.fields.maxima) tag p tags n x (leaf_at e.tree [] x)) (sym found.2) (is_tree.leaves x a.packet (sym f.2)) in
       record {
         buckets = leaf_at e.tree [] x;

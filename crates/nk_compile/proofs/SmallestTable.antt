@@ -9,13 +9,13 @@ use Rattle.nk_topo.specs.Topology.{AreLinks, is_port, is_edge}
 use Rattle.nk_policy.specs.After.{id_policy}
 use Rattle.nk_policy.specs.Labels.{IsTagSet}
 use Rattle.nk_policy.specs.Meaning.{Gives}
-use Rattle.nk_names.specs.Accepted.{IsStart, IsCompilable}
+use Rattle.nk_names.specs.Accepted.{IsStartPacket, IsCompilable}
 use Rattle.nk_store.specs.Diagram.{leaf}
 use Rattle.nk_table.specs.declared.Exit.TheVariants.{Back, Port}
 use Rattle.nk_extract.specs.Buckets.{bucket_of}
-use Rattle.nk_compile.specs.PrintedTable.{IsResult, IsBucketList, IsTreeOf}
+use Rattle.nk_compile.specs.PrintedTable.{IsResult, IsBucketList, IsTreeOfTag}
 use Rattle.nk_compile.specs.WholeTable.{HasRowsAt, TagTree, IsSwitchTable}
-use Rattle.nk_compile.specs.Smallest.{tag_alone, one_port, straight_back, one_table, one_row, MeetsAll}
+use Rattle.nk_compile.specs.Smallest.{tag_alone, one_port, straight_back, smallest_table, one_row, MeetsAll}
 
 -- a test and true
 and_true : (b : Bool) → b ≡ true → b && true ≡ true
@@ -42,7 +42,7 @@ compilable = record {
 }
 
 -- nothing is recorded, so there is no tag set
-no_tags : (s : List ℕ) → IsTagSet id_policy (λ pk. IsStart tag_alone one_port pk) s → ⊥
+no_tags : (s : List ℕ) → IsTagSet id_policy (λ pk. IsStartPacket tag_alone one_port pk) s → ⊥
 no_tags [] h = h.5.0 refl
 no_tags (l ∷ ls) h = ((h.5.1.1 l).0 (contains_from_in (l ∷ ls) l (inl refl))).3
 
@@ -76,14 +76,14 @@ rows_at_zero (suc t) = (
 )
 
 -- the table of the switch
-switch_table : IsSwitchTable tag_alone 2 id_policy [] one_table
+switch_table : IsSwitchTable tag_alone 2 id_policy [] smallest_table
 switch_table = record {
   trees = record { tag = 0; tree = leaf (straight_back ∷ []) } ∷ [];
   ascending = λ k lt. absurd (omega (arith, lt));
   exactly = rows_at_zero;
-  each = all_from_members (λ (e : TagTree). IsTreeOf tag_alone 2 id_policy [] e.tag 1 e.tree) (record { tag = 0; tree = leaf (straight_back ∷ []) } ∷ []) (λ e i.
+  each = all_from_members (λ (e : TagTree). IsTreeOfTag tag_alone 2 id_policy [] e.tag 1 e.tree) (record { tag = 0; tree = leaf (straight_back ∷ []) } ∷ []) (λ e i.
       ⊎_elim
-      (λ s. subst (λ (q : TagTree). IsTreeOf tag_alone 2 id_policy [] q.tag 1 q.tree) (sym s) record { reduced = tt; tag_free = tt; leaves = λ pk ok sw. buckets pk })
+      (λ s. subst (λ (q : TagTree). IsTreeOfTag tag_alone 2 id_policy [] q.tag 1 q.tree) (sym s) record { reduced = tt; tag_free = tt; leaves = λ pk ok sw. buckets pk })
       (λ n. absurd n)
       i);
   groups = refl;

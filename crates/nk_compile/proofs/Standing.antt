@@ -24,7 +24,7 @@ use Rattle.nk_algebra.specs.Unions.{AreIds}
 use Rattle.nk_determ.specs.States.{StateLeads}
 use Rattle.nk_auto.specs.Automaton.{IsState, IsAutomaton}
 use Rattle.nk_switches.specs.States.{StayAt}
-use Rattle.nk_switches.specs.Tagged.{set_of, members_of}
+use Rattle.nk_switches.specs.Tagged.{set_of_tag, members_of}
 use Rattle.nk_compile.proofs.TagFree.{uses_others, assigns_only, keeps_field, records_field, ends_stay, first_records_stay}
 
 -- what is left at a position behind a dup
@@ -45,7 +45,7 @@ module _ (st : Held) (states : List ℕ) (p : Policy) (auto : IsAutomaton st sta
 
 -- a tag's positions: behind the second dups of literals of the policy
 pub record IsTagged (p : Policy) (ss : List (List ℕ)) (tags : List ℕ) (t : ℕ) : Type 0 where
-  pub literal : (l : ℕ) → Contains (set_of ss tags t) l → (k : Literal) × HoldsLiteral p k × (k.mark ≡ l)
+  pub literal : (l : ℕ) → Contains (set_of_tag ss tags t) l → (k : Literal) × HoldsLiteral p k × (k.mark ≡ l)
 
 -- a position at which a packet can be off links
 pub record IsOffLink (p : Policy) (tag : ℕ) (q : Policy) : Type 0 where
@@ -71,7 +71,7 @@ module _ (p : Policy) (tag : ℕ) (past : 2 ≤ tag) (distinct : HasDistinct p) 
   members_off ss tags zero h l c =
       ⊎_elim (λ e. subst (λ n. IsOffLink p tag (at_position p n)) (sym e) start_off) (λ i. absurd i) (in_from_contains (0 ∷ []) l c)
   members_off ss tags (suc i) h l c =
-      let m = from_mapped (λ n. n + 1) (set_of ss tags i) l (in_from_contains _ l c) in
+      let m = from_mapped (λ n. n + 1) (set_of_tag ss tags i) l (in_from_contains _ l c) in
       let k = (h i refl).literal m.0 (contains_from_in _ _ m.1) in
       subst (λ n. IsOffLink p tag (at_position p n)) (ap (λ n. n + 1) k.2 ∙ sym m.2)
       (subst (IsOffLink p tag) (sym (at_later p k.0.mark)) (later_off k.0 k.1))

@@ -12,13 +12,13 @@ use Rattle.nk_policy.specs.Labels.{IsTagSet}
 use Rattle.nk_policy.specs.Tags.{IsTagBefore}
 use Rattle.nk_policy.proofs.Numbering.{numbered_distinct}
 use Rattle.nk_policy.proofs.LinkStructure.{holds_first}
-use Rattle.nk_names.specs.Accepted.{IsStart}
+use Rattle.nk_names.specs.Accepted.{IsStartPacket}
 use Rattle.nk_store.specs.Held.{Held}
 use Rattle.nk_table.specs.declared.Table.{Table}
 use Rattle.nk_table.specs.declared.Tables.{Tables}
 use Rattle.nk_switches.specs.declared.stop.Stop.{Stop}
 use Rattle.nk_switches.specs.Matched.{Matched}
-use Rattle.nk_switches.specs.Tagged.{set_of, AreOnce}
+use Rattle.nk_switches.specs.Tagged.{set_of_tag, AreOnce}
 use Rattle.nk_switches.specs.Made.{IsTableAt, IsStop}
 use Rattle.nk_switches.proofs.Matching.{of_second, matched_maps}
 use Rattle.nk_compile.specs.NumberedBehind.{tags_behind, IsTableBehind}
@@ -50,31 +50,31 @@ module _ (first : ℕ) (fields : FieldTable) (topo : Topology) (tag : ℕ) (p : 
   distinct = numbered_distinct p 1 clear.numbered
 
   -- each tag's set with labels is a tag set
-  tag_set : (i : ℕ) → i < length tags → (set_of ss tags i ≡ [] → ⊥) → IsTagSet p (IsStart fields topo) (set_of ss tags i)
+  tag_set : (i : ℕ) → i < length tags → (set_of_tag ss tags i ≡ [] → ⊥) → IsTagSet p (IsStartPacket fields topo) (set_of_tag ss tags i)
   tag_set i lt some =
-      let s = set_of ss tags i in
+      let s = set_of_tag ss tags i in
       let among : In (tags_behind first ready.sets) s = in_from_contains _ s (subst (λ l. Contains l s) ready.numbered (set_contained ss tags i lt)) in
       (ready.in_order.exactly s).0 (contains_from_in ready.sets s (behind_in first ready.sets s some among))
 
   -- so it has first dups of literals
   pub tagged : (i : ℕ) → i < length tags → IsTagged p ss tags i
   tagged i lt = record {
-    literal = λ l c. literal_of topo clear.topology.links p distinct clear.dups_in_links clear.links_declared (IsStart fields topo) (set_of ss tags i) (tag_set i lt (some_labels (set_of ss tags i) l c)) l c;
+    literal = λ l c. literal_of topo clear.topology.links p distinct clear.dups_in_links clear.links_declared (IsStartPacket fields topo) (set_of_tag ss tags i) (tag_set i lt (some_labels (set_of_tag ss tags i) l c)) l c;
   }
 
   -- the set at a place
-  set_at : (i : ℕ) → i < length tags → slice_get (tags_behind first ready.sets) i ≡ Some (set_of ss tags i)
-  set_at i lt = subst (λ l. slice_get l i ≡ Some (set_of ss tags i)) ready.numbered (set_there ss tags i lt)
+  set_at : (i : ℕ) → i < length tags → slice_get (tags_behind first ready.sets) i ≡ Some (set_of_tag ss tags i)
+  set_at i lt = subst (λ l. slice_get l i ≡ Some (set_of_tag ss tags i)) ready.numbered (set_there ss tags i lt)
 
   -- no two tags have one set with labels
   pub tags_once : AreOnce ss tags
   tags_once i j a b some e =
-      behind_once (IsTagBefore p (IsStart fields topo)) (never_itself p (IsStart fields topo)) first ready.sets ready.in_order.in_order i j (set_of ss tags i) some
+      behind_once (IsTagBefore p (IsStartPacket fields topo)) (never_itself p (IsStartPacket fields topo)) first ready.sets ready.in_order.in_order i j (set_of_tag ss tags i) some
       (set_at i a) (set_at j b ∙ ap (λ n. Some (get_or ss n [])) (sym e))
 
   module _ (ends : List (Option ℕ)) (each : (l : ℕ) → l < length states → get_or ends l None ≡ link_end p l) where
     -- a member's place in the list of ends
-    member_end : (i : ℕ) → i < length tags → (l : ℕ) → Contains (set_of ss tags i) l → get_or ends l None ≡ link_end p l
+    member_end : (i : ℕ) → i < length tags → (l : ℕ) → Contains (set_of_tag ss tags i) l → get_or ends l None ≡ link_end p l
     member_end i lt l c =
         let k = (tagged i lt).literal l c in
         each l (dup_place first fields topo tag p st ss states tags clear ready tagged l (subst (λ n. has_dup p n ≡ true) k.2 (holds_first p k.0 k.1))).1
@@ -84,16 +84,16 @@ module _ (first : ℕ) (fields : FieldTable) (topo : Topology) (tag : ℕ) (p : 
     comes_rows sw zero = (λ u. tt, λ u. tt)
     comes_rows sw (suc i) = (
       λ h.
-          let f = first_of ends (set_of ss tags i) (some_end ends (set_of ss tags i) sw h.1) in
-          (set_of ss tags i, f.0, set_there ss tags i h.0, f.1, sym (member_end i h.0 f.0 f.1) ∙ sym f.2 ∙ h.1),
+          let f = first_of ends (set_of_tag ss tags i) (some_end ends (set_of_tag ss tags i) sw h.1) in
+          (set_of_tag ss tags i, f.0, set_there ss tags i h.0, f.1, sym (member_end i h.0 f.0 f.1) ∙ sym f.2 ∙ h.1),
       λ h.
           let w = set_within ss tags i h.0 h.2 in
-          let c : Contains (set_of ss tags i) h.1 = subst (λ s. Contains s h.1) (sym w.1) h.3 in
-          let some = some_labels (set_of ss tags i) h.1 c in
-          let f = first_of ends (set_of ss tags i) some in (
+          let c : Contains (set_of_tag ss tags i) h.1 = subst (λ s. Contains s h.1) (sym w.1) h.3 in
+          let some = some_labels (set_of_tag ss tags i) h.1 c in
+          let f = first_of ends (set_of_tag ss tags i) some in (
             w.0,
             f.2 ∙ member_end i w.0 f.0 f.1
-                ∙ one_end topo clear.topology.links p distinct clear.dups_in_links clear.links_declared (IsStart fields topo) (set_of ss tags i) (tag_set i w.0 some) f.0 h.1 f.1 c
+                ∙ one_end topo clear.topology.links p distinct clear.dups_in_links clear.links_declared (IsStartPacket fields topo) (set_of_tag ss tags i) (tag_set i w.0 some) f.0 h.1 f.1 c
                 ∙ h.4,
           ),
     )
@@ -110,7 +110,7 @@ module _ (first : ℕ) (fields : FieldTable) (topo : Topology) (tag : ℕ) (p : 
 
     -- the tables of all switches
     pub tables_are : (stops : List Stop) (ts : List Table) → map (λ (s : Stop). s.switch) stops ≡ numbers_of topo → All (HasComing ends ss tags (length tags)) stops →
-        Matched (IsTableAt st ss states tags tag) stops ts → (t : Tables) → t.fields ≡ fields → t.topo ≡ topo → t.tables ≡ ts → IsTableBehind first fields topo (IsStart fields topo) p t
+        Matched (IsTableAt st ss states tags tag) stops ts → (t : Tables) → t.fields ≡ fields → t.topo ≡ topo → t.tables ≡ ts → IsTableBehind first fields topo (IsStartPacket fields topo) p t
     tables_are stops ts switches coming m t same_fields same_topology are = record {
       tag = tag;
       tags = ready.sets;

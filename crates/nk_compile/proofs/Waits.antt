@@ -20,7 +20,7 @@ use Rattle.nk_policy.proofs.Splitting.{holds_dup}
 use Rattle.nk_policy.proofs.LabelSteps.{at_next, rest_gives_from}
 use Rattle.nk_policy.proofs.LinkStructure.{on_link}
 use Rattle.nk_policy.proofs.Parity.{bound_of, dups_below}
-use Rattle.nk_names.specs.Accepted.{IsStart}
+use Rattle.nk_names.specs.Accepted.{IsStartPacket}
 use Rattle.nk_table.specs.declared.Tables.{Tables}
 use Rattle.nk_table.specs.Rules.{sent_for}
 use Rattle.nk_table.specs.Hops.{Copy, crossing, across, leaving, next_of, left_of, waiting, left_after, moved_to}
@@ -317,7 +317,7 @@ module _ (t : Tables) (p : Policy) (tag : ℕ) (tags : List (List ℕ)) (g : Set
       let places = g.stand.once c.labels c.next c'.next c.any c.get (c'.get ∙ ap Some (sym labels)) in
       c.sent_is ∙ ap (λ z. slice_set z tag (number (suc c.next))) e ∙ ap (λ n. slice_set c'.source tag (number (suc n))) places ∙ sym c'.sent_is
 
-  module _ (pk : Packet) (start : IsStart t.fields t.topo pk) where
+  module _ (pk : Packet) (start : IsStartPacket t.fields t.topo pk) where
     -- a copy that waits after k crossings
     pub record Waits (k : ℕ) (c : Copy) : Type 0 where
       pub state : ℕ

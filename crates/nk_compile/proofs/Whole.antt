@@ -5,7 +5,7 @@ use Rattle.std.proofs.lemmas.List.{set-get_or}
 use Rattle.std.proofs.lemmas.Bool.Decides.{nat_tests}
 use Rattle.nk_field.specs.Packet.{FieldTable, IsFieldTable, IsPacket, without}
 use Rattle.nk_topo.specs.Topology.{Topology, is_port}
-use Rattle.nk_names.specs.Accepted.{IsStart}
+use Rattle.nk_names.specs.Accepted.{IsStartPacket}
 use Rattle.nk_store.specs.Nodes.{InRange}
 use Rattle.nk_places.specs.Edges.{is_start}
 
@@ -32,7 +32,7 @@ module _ (fields : FieldTable) (topo : Topology) (tag : ℕ) (maxes : List ℕ) 
   packet_of pk r = record { places = r.0; within = λ f. subst (λ n. slice_index pk f ≤ n) (setup.same f) (r.1 f) }
 
   -- where packets start, as a test
-  pub start_of : (pk : List ℕ) → InRange maxes pk → is_start topo tag pk ≡ true → IsStart fields topo pk
+  pub start_of : (pk : List ℕ) → InRange maxes pk → is_start topo tag pk ≡ true → IsStartPacket fields topo pk
   start_of pk r e =
       let both = both_hold (slice_index pk tag == 0) (is_port topo (slice_index pk 0) (slice_index pk 1)) e in
       let zero : slice_index pk tag ≡ 0 = grind (arith, nat_tests, both.0) in
@@ -42,7 +42,7 @@ module _ (fields : FieldTable) (topo : Topology) (tag : ℕ) (maxes : List ℕ) 
         untagged = subst (λ o. without o pk ≡ pk) (sym setup.tag_is) (ap (λ n. slice_set pk tag n) (sym zero) ∙ set-get_or pk tag 0);
       }
 
-  pub test_of : (pk : List ℕ) → IsStart fields topo pk → is_start topo tag pk ≡ true
+  pub test_of : (pk : List ℕ) → IsStartPacket fields topo pk → is_start topo tag pk ≡ true
   test_of pk s =
       let place = setup.table.tag_past_port tag setup.tag_is in
       let long : tag < length pk = omega (arith, place.1, setup.table.few, s.packet.places) in

@@ -5,7 +5,7 @@ use Rattle.nk_field.specs.Packet.{FieldTable}
 use Rattle.nk_policy.specs.Policy.{Policy}
 use Rattle.nk_policy.specs.Labels.{IsTagSet, AtMost}
 use Rattle.nk_names.specs.declared.Program.{Program}
-use Rattle.nk_names.specs.Accepted.{IsStart, IsCompilable, most_tags}
+use Rattle.nk_names.specs.Accepted.{IsStartPacket, IsCompilable, most_tags}
 use Rattle.nk_table.specs.declared.Tables.{Tables}
 use Rattle.nk_compile.specs.Refusals.{IsReason, IsRefused}
 use Rattle.nk_compile.specs.WholeTable.{IsTableOf}
@@ -16,8 +16,8 @@ use Rattle.nk_compile.specs.declared.refusal.CompileError.TheVariants.{NoMemory,
 -- the printed tables of a policy that is compiled
 pub record IsMade (fields : FieldTable) (topo : Topology) (p : Policy) (t : Tables) : Type 0 where
   pub compilable : IsCompilable fields topo p
-  pub few : AtMost (most_tags fields fields.tag) (IsTagSet p (IsStart fields topo))
-  pub printed : IsTableOf fields topo (IsStart fields topo) p t
+  pub few : AtMost (most_tags fields fields.tag) (IsTagSet p (IsStartPacket fields topo))
+  pub printed : IsTableOf fields topo (IsStartPacket fields topo) p t
 
 -- the reason for which a policy is refused; want of memory says nothing
 abbrev pub IsError : FieldTable → Topology → Policy → CompileError → Type 0

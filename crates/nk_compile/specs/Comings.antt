@@ -3,7 +3,7 @@ use Rattle.std.specs.Prelude.{◌≡◌, ◌↔◌, ◌==◌, ◌++◌, if◌the
 use Rattle.std.specs.List.Sorted.{IsStrictlyIncreasing}
 use Rattle.nk_policy.specs.Policy.{Policy, Policies}
 use Rattle.nk_switches.specs.declared.stop.Stop.{Stop}
-use Rattle.nk_switches.specs.Tagged.{set_of}
+use Rattle.nk_switches.specs.Tagged.{set_of_tag}
 use Rattle.nk_compile.specs.WholeTable.{first_number, link_end, link_end_among}
 
 -- where nothing stood at a mark, there is now the end of the policy's literal with that mark
@@ -24,7 +24,7 @@ first_end ends (l ∷ ls) = slice_index_or ends l None
 -- of tag 0 and the first so many others, the tag comes to the switch: tag 0 to each one, another where its first link ends
 abbrev pub ComesTo : List (Option ℕ) → List (List ℕ) → List ℕ → ℕ → ℕ → ℕ → Type 0
 ComesTo ends ss tags count sw zero = Unit {0}
-ComesTo ends ss tags count sw (suc t) = (t < count) × (first_end ends (set_of ss tags t) ≡ Some sw)
+ComesTo ends ss tags count sw (suc t) = (t < count) × (first_end ends (set_of_tag ss tags t) ≡ Some sw)
 
 -- the switch's tags ascend and are those that come there, of tag 0 and the first so many others
 pub record HasComing (ends : List (Option ℕ)) (ss : List (List ℕ)) (tags : List ℕ) (count : ℕ) (s : Stop) : Type 0 where

@@ -6,7 +6,7 @@ use Rattle.nk_topo.specs.Topology.{Topology}
 use Rattle.nk_policy.specs.Policy.{Policy}
 use Rattle.nk_policy.specs.Tags.{AreTags}
 use Rattle.nk_names.specs.declared.Program.{Program}
-use Rattle.nk_names.specs.Accepted.{IsStart, IsCompilable, most_tags}
+use Rattle.nk_names.specs.Accepted.{IsStartPacket, IsCompilable, most_tags}
 use Rattle.nk_names.specs.Named.{policy_named}
 use Rattle.nk_compile.specs.declared.compact.Apart.{Apart}
 use Rattle.nk_compile.specs.declared.compact.Compact.{Compact}
@@ -15,27 +15,27 @@ use Rattle.nk_compile.specs.declared.refusal.CompileError.TheVariants.{NoMemory,
 use Rattle.nk_compile.specs.declared.refusal.Refusal.{Refusal}
 use Rattle.nk_compile.specs.declared.refusal.Refusal.TheVariants.{NoPolicy, TooManyTags}
 use Rattle.nk_compile.specs.Carries.{Carries}
-use Rattle.nk_compile.specs.MergedTable.{GivesBehind, AreTagClasses, IsMember, IsFirstPlace, IsMergedTable}
+use Rattle.nk_compile.specs.MergedTable.{GivesBehind, AreTagClasses, IsOfClass, IsFirstPlace, IsMergedTable}
 use Rattle.nk_compile.specs.OffEdge.{EndsOnEdges}
 use Rattle.nk_compile.specs.Refusals.{seen, found_from, IsReason}
 
 -- from a packet in range the state of the first tag set gives the history, and that of the second one doesn't
-abbrev pub IsOfOneAlone : FieldTable → Policy → List ℕ → List ℕ → Found → Type 0
-IsOfOneAlone fields p s t f =
+abbrev pub IsOfFirstSetAlone : FieldTable → Policy → List ℕ → List ℕ → Found → Type 0
+IsOfFirstSetAlone fields p s t f =
     IsPacket fields f.start × GivesBehind p s f.start f.records f.last × (GivesBehind p t f.start f.records f.last → ⊥)
 
 -- so it is, and it is the least of all histories that the state of one of both gives alone
 abbrev pub IsLeastAlone : FieldTable → Policy → List ℕ → List ℕ → Found → Type 0
 IsLeastAlone fields p s t f =
-    IsOfOneAlone fields p s t f × IsLeast (λ g. IsOfOneAlone fields p s t g ⊎ IsOfOneAlone fields p t s g) f
+    IsOfFirstSetAlone fields p s t f × IsLeast (λ g. IsOfFirstSetAlone fields p s t g ⊎ IsOfFirstSetAlone fields p t s g) f
 
 -- some tag set is of the class
 abbrev pub IsClass : List ℕ → ℕ → Type 0
-IsClass classes c = (i : ℕ) × IsMember classes c i
+IsClass classes c = (i : ℕ) × IsOfClass classes c i
 
 -- the first tag set of a class
 abbrev pub IsFirstSet : List (List ℕ) → List ℕ → ℕ → List ℕ → Type 0
-IsFirstSet tags classes c s = (i : ℕ) × IsFirstPlace (IsMember classes c) i × (slice_get tags i ≡ Some s)
+IsFirstSet tags classes c s = (i : ℕ) × IsFirstPlace (IsOfClass classes c) i × (slice_get tags i ≡ Some s)
 
 -- what tells two classes apart: the least history that the state of one of both gives alone, and which of both
 pub record IsApartIn (fields : FieldTable) (p : Policy) (tags : List (List ℕ)) (classes : List ℕ) (a : Apart) : Type 0 where
@@ -61,19 +61,19 @@ pub record IsCompactOf (fields : FieldTable) (topo : Topology) (p : Policy) (c :
   pub tags : List (List ℕ)
   pub classes : List ℕ
   pub compilable : IsCompilable fields topo p
-  pub merged : IsMergedTable fields topo (IsStart fields topo) p tags classes c.tables
+  pub merged : IsMergedTable fields topo (IsStartPacket fields topo) p tags classes c.tables
   pub few : (i : ℕ) → slice_index classes i ≤ most_tags fields fields.tag
   pub apart : AreAparts fields p tags classes c.aparts
 
 -- the tag sets have so many classes, or more
-abbrev pub HaveClasses : FieldTable → Topology → Policy → ℕ → Type 0
-HaveClasses fields topo p n =
-    (tags : List (List ℕ)) × (classes : List ℕ) × AreTags p (IsStart fields topo) tags × AreTagClasses fields p tags classes × IsClass classes n
+abbrev pub HaveTagClasses : FieldTable → Topology → Policy → ℕ → Type 0
+HaveTagClasses fields topo p n =
+    (tags : List (List ℕ)) × (classes : List ℕ) × AreTags p (IsStartPacket fields topo) tags × AreTagClasses fields p tags classes × IsClass classes n
 
 -- why a policy is refused: as where nothing is merged, but for the number of tags, which are those of classes
 abbrev pub IsCompactReason : FieldTable → Topology → Policy → Refusal → Type 0
 IsCompactReason fields topo p (TooManyTags found) =
-    (seen fields topo p ≡ None) × EndsOnEdges fields topo p × (found ≡ most_tags fields fields.tag + 1) × HaveClasses fields topo p found
+    (seen fields topo p ≡ None) × EndsOnEdges fields topo p × (found ≡ most_tags fields fields.tag + 1) × HaveTagClasses fields topo p found
 IsCompactReason fields topo p r = IsReason fields topo p r
 
 -- the reason for which a policy is refused; want of memory says nothing
@@ -92,15 +92,15 @@ IsCompacted program name c =
     (p : Policy) × (policy_named program name ≡ Some p) × IsCompactOf program.fields program.topo p c × Carries program p c.tables
 
 -- these, or why there are none; want of memory may come at any point
-abbrev pub IsCompactAnswer : Program → List ℕ → Result Compact CompileError → Type 0
-IsCompactAnswer program name (Ok c) = IsCompacted program name c
-IsCompactAnswer program name (Err NoMemory) = ⊤
-IsCompactAnswer program name (Err (Refused r)) = IsCompactRefused program name r
+abbrev pub AnswersCompact : Program → List ℕ → Result Compact CompileError → Type 0
+AnswersCompact program name (Ok c) = IsCompacted program name c
+AnswersCompact program name (Err NoMemory) = ⊤
+AnswersCompact program name (Err (Refused r)) = IsCompactRefused program name r
 
 -- the tag sets have no more classes than the tag has values above 0
 abbrev pub HasFewClasses : FieldTable → Topology → Policy → Type 0
 HasFewClasses fields topo p =
-    (tags : List (List ℕ)) × (classes : List ℕ) × AreTags p (IsStart fields topo) tags × AreTagClasses fields p tags classes
+    (tags : List (List ℕ)) × (classes : List ℕ) × AreTags p (IsStartPacket fields topo) tags × AreTagClasses fields p tags classes
     × ((i : ℕ) → slice_index classes i ≤ most_tags fields fields.tag)
 
 -- the name's policy can be compiled with these tags

@@ -5,7 +5,7 @@ use Rattle.nk_field.specs.Packet.{FieldTable}
 use Rattle.nk_policy.specs.Policy.{Policy}
 use Rattle.nk_policy.specs.Tags.{AreTags}
 use Rattle.nk_names.specs.declared.Program.{Program}
-use Rattle.nk_names.specs.Accepted.{IsStart, IsAccepted}
+use Rattle.nk_names.specs.Accepted.{IsStartPacket, IsAccepted}
 use Rattle.nk_names.specs.Named.{policy_named}
 use Rattle.nk_compile.specs.declared.refusal.CompileError.{CompileError}
 use Rattle.nk_compile.specs.declared.counted.Counted.{Counted}
@@ -14,7 +14,7 @@ use Rattle.nk_compile.specs.Headline.{IsCompiled}
 
 -- there are so many tag sets: the list of all of them in order, each once, is so long
 abbrev pub HasTagSets : FieldTable → Topology → Policy → ℕ → Type 0
-HasTagSets fields topo p n = (tags : List (List ℕ)) × AreTags p (IsStart fields topo) tags × (n ≡ length tags)
+HasTagSets fields topo p n = (tags : List (List ℕ)) × AreTags p (IsStartPacket fields topo) tags × (n ≡ length tags)
 
 -- the name is an accepted policy's, and that has so many tag sets
 abbrev pub HasTagCount : Program → List ℕ → ℕ → Type 0

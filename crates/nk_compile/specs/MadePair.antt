@@ -4,7 +4,7 @@ use Rattle.nk_field.specs.Packet.{FieldTable}
 use Rattle.nk_topo.specs.Topology.{Topology}
 use Rattle.nk_policy.specs.Policy.{Policy}
 use Rattle.nk_policy.specs.Labels.{IsTagSet, AtMost}
-use Rattle.nk_names.specs.Accepted.{IsStart, IsCompilable, most_tags}
+use Rattle.nk_names.specs.Accepted.{IsStartPacket, IsCompilable, most_tags}
 use Rattle.nk_compile.specs.declared.pair.TablePair.{TablePair}
 use Rattle.nk_compile.specs.declared.refusal.CompileError.{CompileError}
 use Rattle.nk_compile.specs.declared.refusal.CompileError.TheVariants.{NoMemory, Refused}
@@ -17,12 +17,12 @@ use Rattle.nk_compile.specs.WholeTable.{IsTableOf}
 pub record IsMadePair (fields : FieldTable) (topo : Topology) (p q : Policy) (r : TablePair) : Type 0 where
   pub compilable_old : IsCompilable fields topo p
   pub compilable_new : IsCompilable fields topo q
-  pub few_old : AtMost (most_tags fields fields.tag) (IsTagSet p (IsStart fields topo))
-  pub few_new : AtMost (most_tags fields fields.tag) (IsTagSet q (IsStart fields topo))
+  pub few_old : AtMost (most_tags fields fields.tag) (IsTagSet p (IsStartPacket fields topo))
+  pub few_new : AtMost (most_tags fields fields.tag) (IsTagSet q (IsStartPacket fields topo))
   pub fit : FitTogether fields topo p q
   pub old_tags : HasTagSets fields topo p r.old_tags
-  pub printed_old : IsTableOf fields topo (IsStart fields topo) p r.old
-  pub printed_new : IsTableBehind r.old_tags fields topo (IsStart fields topo) q r.new
+  pub printed_old : IsTableOf fields topo (IsStartPacket fields topo) p r.old
+  pub printed_new : IsTableBehind r.old_tags fields topo (IsStartPacket fields topo) q r.new
 
 -- the reason for which two policies are refused; want of memory says nothing
 abbrev pub IsPairError : FieldTable → Topology → Policy → Policy → CompileError → Type 0

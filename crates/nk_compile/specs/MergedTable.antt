@@ -50,13 +50,13 @@ IsMetUnder p Start labels x =
     × (l : ℕ) × IsAt p pk (u ++ x ∷ []) l
 
 -- the tag set at this place is of the class
-abbrev pub IsMember : List ℕ → ℕ → ℕ → Type 0
-IsMember classes c i = slice_get classes i ≡ Some c
+abbrev pub IsOfClass : List ℕ → ℕ → ℕ → Type 0
+IsOfClass classes c i = slice_get classes i ≡ Some c
 
 -- it is, and the packet is met under it
 abbrev pub IsMetMember : Policy → (Packet → Type 0) → List (List ℕ) → List ℕ → ℕ → Packet → ℕ → Type 0
 IsMetMember p Start tags classes c x i =
-    IsMember classes c i × (labels : List ℕ) × (slice_get tags i ≡ Some labels) × IsMetUnder p Start labels x
+    IsOfClass classes c i × (labels : List ℕ) × (slice_get tags i ≡ Some labels) × IsMetUnder p Start labels x
 
 -- the first place with the property
 abbrev pub IsFirstPlace : (ℕ → Type 0) → ℕ → Type 0
@@ -66,7 +66,7 @@ IsFirstPlace P i = P i × ((j : ℕ) → j < i → P j → ⊥)
 abbrev pub IsActingMember : Policy → (Packet → Type 0) → List (List ℕ) → List ℕ → ℕ → Packet → ℕ → Type 0
 IsActingMember p Start tags classes c x i =
     IsFirstPlace (IsMetMember p Start tags classes c x) i
-    ⊎ (((j : ℕ) → IsMetMember p Start tags classes c x j → ⊥) × IsFirstPlace (IsMember classes c) i)
+    ⊎ (((j : ℕ) → IsMetMember p Start tags classes c x j → ⊥) × IsFirstPlace (IsOfClass classes c) i)
 
 -- the tag whose states act for a class at a packet, before anything is merged: tag 0 for 0, else that of the acting member
 abbrev pub ActsFor : Policy → (Packet → Type 0) → List (List ℕ) → List ℕ → ℕ → Packet → ℕ → Type 0
@@ -90,7 +90,7 @@ pub record IsClassTree (fields : FieldTable) (tag : ℕ) (Start : Packet → Typ
 -- class 0 has rows at each switch, another class where a link of a member ends
 abbrev pub HasClassRowsAt : Policy → List (List ℕ) → List ℕ → ℕ → ℕ → Type 0
 HasClassRowsAt p tags classes sw zero = Unit {0}
-HasClassRowsAt p tags classes sw (suc c) = (i : ℕ) × IsMember classes (suc c) i × HasRowsAt p tags sw (suc i)
+HasClassRowsAt p tags classes sw (suc c) = (i : ℕ) × IsOfClass classes (suc c) i × HasRowsAt p tags sw (suc i)
 
 -- the table of a switch: the rows of its classes' trees, ascending, and the groups of these rows
 pub record IsClassTable (fields : FieldTable) (tag : ℕ) (Start : Packet → Type 0) (p : Policy) (tags : List (List ℕ)) (classes : List ℕ) (table : Table) : Type 0 where

@@ -5,7 +5,7 @@ use Rattle.nk_topo.specs.Topology.{Topology}
 use Rattle.nk_policy.specs.Policy.{Policy}
 use Rattle.nk_policy.specs.Labels.{IsTagSet, AtLeast}
 use Rattle.nk_names.specs.declared.Program.{Program}
-use Rattle.nk_names.specs.Accepted.{IsStart, IsAccepted, most_tags}
+use Rattle.nk_names.specs.Accepted.{IsStartPacket, IsAccepted, most_tags}
 use Rattle.nk_names.specs.Named.{policy_named}
 use Rattle.nk_update.specs.Plans.{IsPlannable, pair_of}
 use Rattle.nk_update.specs.Tags.{HaveTheirTags}
@@ -37,8 +37,8 @@ pub record IsCompiledPair (program : Program) (old new : List ℕ) (r : TablePai
   pub accepted_new : IsAccepted program q
   pub fit : FitTogether program.fields program.topo p q
   pub old_tags : HasTagSets program.fields program.topo p r.old_tags
-  pub printed_old : IsTableOf program.fields program.topo (IsStart program.fields program.topo) p r.old
-  pub printed_new : IsTableBehind r.old_tags program.fields program.topo (IsStart program.fields program.topo) q r.new
+  pub printed_old : IsTableOf program.fields program.topo (IsStartPacket program.fields program.topo) p r.old
+  pub printed_new : IsTableBehind r.old_tags program.fields program.topo (IsStartPacket program.fields program.topo) q r.new
   pub carries_old : Carries program p r.old
   pub carries_new : Carries program q r.new
   pub plannable : IsPlannable (pair_of r.old r.new r.old_tags)
@@ -57,7 +57,7 @@ IsPairReason fields topo p q (TooManyTags found) =
     IsUnopposed fields topo p
     × IsUnopposed fields topo q
     × (found ≡ most_tags fields fields.tag + 1)
-    × ((m : ℕ) × (n : ℕ) × AtLeast m (IsTagSet p (IsStart fields topo)) × AtLeast n (IsTagSet q (IsStart fields topo)) × (m + n ≡ found))
+    × ((m : ℕ) × (n : ℕ) × AtLeast m (IsTagSet p (IsStartPacket fields topo)) × AtLeast n (IsTagSet q (IsStartPacket fields topo)) × (m + n ≡ found))
 IsPairReason fields topo p q r = IsReason fields topo p r ⊎ (IsUnopposed fields topo p × IsReason fields topo q r)
 
 -- why two names are refused: one is no policy's, or their policies are refused

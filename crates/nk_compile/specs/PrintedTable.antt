@@ -32,7 +32,7 @@ pub record IsBucketList (width tag : ℕ) (p : Policy) (tags : List (List ℕ)) 
   pub in_order : AllPairs (IsBucketBefore tag) buckets
 
 -- the reduced tree of a tag at a switch, over the port and the declared fields but the tag
-pub record IsTreeOf (fields : FieldTable) (tag : ℕ) (p : Policy) (tags : List (List ℕ)) (t sw : ℕ) (d : Diagram (List Bucket)) : Type 0 where
+pub record IsTreeOfTag (fields : FieldTable) (tag : ℕ) (p : Policy) (tags : List (List ℕ)) (t sw : ℕ) (d : Diagram (List Bucket)) : Type 0 where
   pub reduced : IsReduced d fields.maxima 1
   pub tag_free : IsFreeOf tag d
   pub leaves : (pk : List ℕ) → IsPacket fields pk → slice_index pk 0 ≡ sw → IsBucketList (length fields.maxima) tag p tags t pk (leaf_at d [] pk)

@@ -5,7 +5,7 @@ use Rattle.nk_topo.specs.Topology.{Topology, IsTopology}
 use Rattle.nk_policy.specs.Policy.{Policy, marked_from}
 use Rattle.nk_policy.specs.Leaves.{has_leaf, is_on_field, is_dup, is_switch_assignment}
 use Rattle.nk_policy.specs.Tags.{AreTags}
-use Rattle.nk_names.specs.Accepted.{IsStart, is_link_outside}
+use Rattle.nk_names.specs.Accepted.{IsStartPacket, is_link_outside}
 use Rattle.nk_store.specs.Held.{Held, IsOver, HasFields}
 use Rattle.nk_determ.specs.Sets.{Ascend}
 use Rattle.nk_auto.specs.Automaton.{IsAutomaton}
@@ -37,7 +37,7 @@ pub record IsReady (first : ℕ) (fields : FieldTable) (topo : Topology) (p : Po
   pub known : All (λ s. s < length ss) tags
   pub sets : List (List ℕ)
   pub numbered : sets_of ss tags ≡ tags_behind first sets
-  pub in_order : AreTags p (IsStart fields topo) sets
+  pub in_order : AreTags p (IsStartPacket fields topo) sets
 
 -- a clear policy of which nothing is seen, with its automaton's states in a store over the fields
 pub record IsBegun (fields : FieldTable) (topo : Topology) (tag : ℕ) (p : Policy) (st : Held) (states : List ℕ) : Type 0 where

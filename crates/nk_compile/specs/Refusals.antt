@@ -11,7 +11,7 @@ use Rattle.nk_policy.specs.Leaves.{has_leaf, is_on_field, is_dup, is_switch_assi
 use Rattle.nk_names.specs.declared.Program.{Program}
 use Rattle.nk_names.specs.Named.{policy_named}
 use Rattle.nk_policy.specs.Labels.{IsTagSet, AtLeast}
-use Rattle.nk_names.specs.Accepted.{IsStart, is_link_outside, most_tags}
+use Rattle.nk_names.specs.Accepted.{IsStartPacket, is_link_outside, most_tags}
 use Rattle.nk_compile.specs.declared.refusal.Refusal.{Refusal}
 use Rattle.nk_compile.specs.declared.refusal.Refusal.TheVariants.{NoPolicy, NoTag, TagUsed, LooseDup, SwitchSet, NoSuchLink, OffEdge, TooManyTags}
 use Rattle.nk_compile.specs.OffEdge.{EndsOffEdge, EndsOnEdges}
@@ -46,7 +46,7 @@ IsReason fields topo p (TooManyTags found) =
     (seen fields topo p ≡ None)
     × EndsOnEdges fields topo p
     × (found ≡ most_tags fields fields.tag + 1)
-    × AtLeast found (IsTagSet p (IsStart fields topo))
+    × AtLeast found (IsTagSet p (IsStartPacket fields topo))
 IsReason fields topo p r = seen fields topo p ≡ Some r
 
 -- why the name is refused: it is no policy's, or its policy is refused

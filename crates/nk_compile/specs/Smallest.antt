@@ -5,7 +5,7 @@ use Rattle.nk_topo.specs.Topology.{Topology, AreLinks}
 use Rattle.nk_policy.specs.After.{id_policy}
 use Rattle.nk_policy.specs.Distinct.{HasDistinct}
 use Rattle.nk_policy.specs.Ranges.{IsInRange}
-use Rattle.nk_names.specs.Accepted.{IsStart, IsCompilable}
+use Rattle.nk_names.specs.Accepted.{IsStartPacket, IsCompilable}
 use Rattle.nk_table.specs.declared.Tables.{Tables}
 use Rattle.nk_table.specs.declared.Table.{Table}
 use Rattle.nk_table.specs.declared.Bucket.{Bucket}
@@ -29,15 +29,15 @@ one_port = record { switches = record { switch = 1; ports = 1 ∷ [] } ∷ []; l
 abbrev pub straight_back : Bucket
 straight_back = record { sets = (2, 0) ∷ []; exit = Back }
 
-abbrev pub one_table : Table
-one_table = record {
+abbrev pub smallest_table : Table
+smallest_table = record {
   switch = 1;
   groups = [];
   rows = record { priority = 0; matches = (2, 0, 3) ∷ []; target = target.Bucket straight_back } ∷ [];
 }
 
 abbrev pub one_row : Tables
-one_row = record { fields = tag_alone; topo = one_port; tables = one_table ∷ [] }
+one_row = record { fields = tag_alone; topo = one_port; tables = smallest_table ∷ [] }
 
 -- all that is asked of it by the law on printed tables
 abbrev pub MeetsAll : Type 0
@@ -47,4 +47,4 @@ MeetsAll =
     × HasDistinct id_policy
     × IsInRange id_policy tag_alone
     × IsCompilable tag_alone one_port id_policy
-    × IsTableOf tag_alone one_port (IsStart tag_alone one_port) id_policy one_row
+    × IsTableOf tag_alone one_port (IsStartPacket tag_alone one_port) id_policy one_row

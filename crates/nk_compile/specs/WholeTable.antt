@@ -8,7 +8,7 @@ use Rattle.nk_table.specs.declared.Table.{Table}
 use Rattle.nk_table.specs.declared.Tables.{Tables}
 use Rattle.nk_group.specs.Groups.{groups_of, rows_after}
 use Rattle.nk_policy.specs.Tags.{AreTags}
-use Rattle.nk_compile.specs.PrintedTable.{IsTreeOf}
+use Rattle.nk_compile.specs.PrintedTable.{IsTreeOfTag}
 pub use Rattle.nk_switches.specs.Made.{TagTree, rows_of_trees}
 
 abbrev pub first_number : Option ℕ → Option ℕ → Option ℕ
@@ -43,7 +43,7 @@ pub record IsSwitchTable (fields : FieldTable) (tag : ℕ) (p : Policy) (tags : 
   pub trees : List TagTree
   pub ascending : IsStrictlyIncreasing (map (λ e. e.tag) trees)
   pub exactly : (t : ℕ) → Contains (map (λ e. e.tag) trees) t ↔ HasRowsAt p tags table.switch t
-  pub each : All (λ e. IsTreeOf fields tag p tags e.tag table.switch e.tree) trees
+  pub each : All (λ e. IsTreeOfTag fields tag p tags e.tag table.switch e.tree) trees
   pub groups : table.groups ≡ groups_of (rows_of_trees fields.maxima tag trees)
   pub rows : table.rows ≡ rows_after [] (rows_of_trees fields.maxima tag trees)
 

@@ -1,11 +1,10 @@
 //! What tells classes of tag sets apart.
-ghost use Rattle.std.specs.Prelude.{◌≡◌, ℕ, ◌<◌, ◌++◌, List as Items, All, IfOk, OnOk, length, slice_index, slice_index_or};
+ghost use Rattle.std.specs.Prelude.{◌≡◌, ℕ, ◌<◌, ◌++◌, List as Items, All, IfOk, OnOk, length, slice_index};
 ghost use Rattle.nk_store.specs.Held.{Held, Grows};
 ghost use Rattle.nk_determ.specs.Sets.{SetsGrow};
-ghost use Rattle.nk_determ.specs.Pairs.{AreStates, HavePlaces};
-ghost use Rattle.nk_merge.specs.Alike.{AreAlike, behind};
+ghost use Rattle.nk_merge.specs.Alike.{AreAlike};
 ghost use Rattle.nk_merge.specs.Twice.{IsTwice};
-ghost use Rattle.nk_compile.specs.Told.{number_of, first_set, IsTold, AreTold, IsBase, row, rows};
+ghost use Rattle.nk_compile.specs.Told.{number_on_side, first_member_set, IsToldApart, AreToldApart, IsBase, pairs_behind, first_pairs};
 
 use crate::compact::Apart;
 use nk_determ::{SetId, Sets};
@@ -28,10 +27,10 @@ pub fn aparts(
     requires twice { IsTwice st.old states.now twice.old }
     requires base { IsBase st.old ss.old st.old ss.old states.now tags.now firsts.now }
     requires different { (i j : ℕ) → i < j → j < length firsts.now
-        → AreAlike st.old states.now (first_set ss.old tags.now firsts.now i) (first_set ss.old tags.now firsts.now j) → ⊥ }
+        → AreAlike st.old states.now (first_member_set ss.old tags.now firsts.now i) (first_member_set ss.old tags.now firsts.now j) → ⊥ }
     ensures grows { Grows st.old st.new }
     ensures sets { SetsGrow ss.old ss.new }
-    ensures told { IfOk result (λ r. AreTold st.old states.now ss.old tags.now firsts.now (rows (length firsts.now) (length firsts.now)) r) }
+    ensures told { IfOk result (λ r. AreToldApart st.old states.now ss.old tags.now firsts.now (first_pairs (length firsts.now) (length firsts.now)) r) }
 {
     let mut all = List::new(st.alloc());
     for i in 0..firsts.len() {
@@ -55,13 +54,13 @@ fn apart_row(
     requires base { IsBase st.old ss.old st.old ss.old states.now tags.now firsts.now }
     requires within { i < length firsts.now }
     requires different { (j : ℕ) → i < j → j < length firsts.now
-        → AreAlike st.old states.now (first_set ss.old tags.now firsts.now i) (first_set ss.old tags.now firsts.now j) → ⊥ }
+        → AreAlike st.old states.now (first_member_set ss.old tags.now firsts.now i) (first_member_set ss.old tags.now firsts.now j) → ⊥ }
     ensures grows { Grows st.old st.new }
     ensures sets { SetsGrow ss.old ss.new }
     ensures twice { OnOk result (IsTwice st.new states.now twice.new) }
     ensures told { OnOk result ((base : Held) (first : Items (Items ℕ)) (pairs : Items (ℕ × ℕ)) → IsBase base first st.old ss.old states.now tags.now firsts.now
-        → AreTold base states.now first tags.now firsts.now pairs all.old
-        → AreTold base states.now first tags.now firsts.now (pairs ++ row i (length firsts.now)) all.new) }
+        → AreToldApart base states.now first tags.now firsts.now pairs all.old
+        → AreToldApart base states.now first tags.now firsts.now (pairs ++ pairs_behind i (length firsts.now)) all.new) }
 {
     for j in i + 1..firsts.len() {
         let a = apart_of(st, ss, states, twice, tags, firsts, i, j)?;
@@ -85,11 +84,11 @@ fn apart_of(
     requires base { IsBase st.old ss.old st.old ss.old states.now tags.now firsts.now }
     requires first { i < length firsts.now }
     requires second { j < length firsts.now }
-    requires different { AreAlike st.old states.now (first_set ss.old tags.now firsts.now i) (first_set ss.old tags.now firsts.now j) → ⊥ }
+    requires different { AreAlike st.old states.now (first_member_set ss.old tags.now firsts.now i) (first_member_set ss.old tags.now firsts.now j) → ⊥ }
     ensures grows { Grows st.old st.new }
     ensures sets { SetsGrow ss.old ss.new }
     ensures twice { OnOk result (IsTwice st.new states.now twice.new) }
-    ensures told { IfOk result (λ a. IsTold st.old states.now ss.old tags.now firsts.now i j a) }
+    ensures told { IfOk result (λ a. IsToldApart st.old states.now ss.old tags.now firsts.now i j a) }
 {
     let s = set_of_first(tags, firsts, i);
     let t = set_of_first(tags, firsts, j);
@@ -110,7 +109,7 @@ fn set_of_first(tags: &[SetId], firsts: &[usize], c: usize) -> SetId
 
 /// The history that tells two classes apart, with their numbers.
 fn told(found: Found, first: u64, second: u64) -> Apart
-    ensures { result ≡ record { first = first; second = second; alone = number_of found.side first second; start = found.start; history = found.history } }
+    ensures { result ≡ record { first = first; second = second; alone = number_on_side found.side first second; start = found.start; history = found.history } }
 {
     let alone = match found.side {
         Side::Left => first,

@@ -4,7 +4,7 @@ ghost use Rattle.nk_policy.specs.Policy.{dups_of};
 ghost use Rattle.nk_policy.specs.Tree.{tree_of};
 ghost use Rattle.nk_names.specs.ProgramValue.{IsLet};
 ghost use Rattle.nk_tag.specs.Numbers.{AreNumbers};
-ghost use Rattle.nk_compile.specs.Compacted.{IsCompactOf, IsCompactError, IsCompactAnswer};
+ghost use Rattle.nk_compile.specs.Compacted.{IsCompactOf, IsCompactError, AnswersCompact};
 ghost use Rattle.nk_compile.specs.Preparing.{IsPrepared};
 
 use crate::aparts::aparts;
@@ -15,13 +15,13 @@ use crate::refusal::{CompileError, Refusal};
 use crate::tables::{all_numbers, prepare};
 use nk_determ::{Levels, SetId, Sets};
 use nk_field::{Fields, History, List, Packet};
-use nk_merge::{Classes, Twice, classes_of};
+use nk_merge::{Twice, classes_of};
 use nk_names::Program;
 use nk_policy::Pol;
 use nk_store::{Id, Store};
 use nk_table::Tables;
 use nk_topo::Topo;
-use std::alloc::{AllocError, Global};
+use std::alloc::Global;
 
 /// Why two classes of tag sets are no single one: a packet from which the states of one of them give a history that those of the
 /// other don't.
@@ -58,7 +58,7 @@ pub fn compile_compact(
     program: &Program,
     name: &str,
 ) -> Result<Compact, CompileError>
-    ensures { IsCompactAnswer program.now name.now result }
+    ensures { AnswersCompact program.now name.now result }
 {
     let Some(named) = program.find(name) else {
         return Err(CompileError::Refused(Refusal::NoPolicy));

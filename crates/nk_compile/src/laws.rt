@@ -6,7 +6,7 @@ ghost use Rattle.nk_policy.specs.Policy.{Policy};
 ghost use Rattle.nk_policy.specs.Distinct.{HasDistinct};
 ghost use Rattle.nk_policy.specs.Ranges.{IsInRange};
 ghost use Rattle.nk_names.specs.declared.Program.{Program};
-ghost use Rattle.nk_names.specs.Accepted.{IsStart, IsCompilable, IsAccepted};
+ghost use Rattle.nk_names.specs.Accepted.{IsStartPacket, IsCompilable, IsAccepted};
 ghost use Rattle.nk_names.specs.Named.{policy_named};
 ghost use Rattle.nk_names.specs.ProgramOf.{said_by};
 ghost use Rattle.nk_names.specs.ProgramValue.{IsProgram};
@@ -27,12 +27,12 @@ pub fn the_printed_table_carries()
     ensures compilable { (program : Program) (p : Policy) (t : Tables)
         → IsFieldTable program.fields → AreLinks program.topo
         → HasDistinct p → IsInRange p program.fields → IsCompilable program.fields program.topo p
-        → IsTableOf program.fields program.topo (IsStart program.fields program.topo) p t
+        → IsTableOf program.fields program.topo (IsStartPacket program.fields program.topo) p t
         → Carries program p t }
     ensures accepted { (program : Program) (name : List ℕ) (p : Policy) (t : Tables)
         → IsProgram program.fields program.topo program.lets
         → policy_named program name ≡ Some p → IsAccepted program p
-        → IsTableOf program.fields program.topo (IsStart program.fields program.topo) p t
+        → IsTableOf program.fields program.topo (IsStartPacket program.fields program.topo) p t
         → Carries program p t }
 {}
 
@@ -46,12 +46,12 @@ pub fn the_tables_behind_carry()
     ensures compilable { (program : Program) (first : ℕ) (p : Policy) (t : Tables)
         → IsFieldTable program.fields → AreLinks program.topo
         → HasDistinct p → IsInRange p program.fields → IsCompilable program.fields program.topo p
-        → IsTableBehind first program.fields program.topo (IsStart program.fields program.topo) p t
+        → IsTableBehind first program.fields program.topo (IsStartPacket program.fields program.topo) p t
         → Carries program p t }
     ensures accepted { (program : Program) (name : List ℕ) (first : ℕ) (p : Policy) (t : Tables)
         → IsProgram program.fields program.topo program.lets
         → policy_named program name ≡ Some p → IsAccepted program p
-        → IsTableBehind first program.fields program.topo (IsStart program.fields program.topo) p t
+        → IsTableBehind first program.fields program.topo (IsStartPacket program.fields program.topo) p t
         → Carries program p t }
 {}
 
@@ -60,12 +60,12 @@ pub fn the_merged_table_carries()
     ensures compilable { (program : Program) (p : Policy) (tags : List (List ℕ)) (classes : List ℕ) (t : Tables)
         → IsFieldTable program.fields → AreLinks program.topo
         → HasDistinct p → IsInRange p program.fields → IsCompilable program.fields program.topo p
-        → IsMergedTable program.fields program.topo (IsStart program.fields program.topo) p tags classes t
+        → IsMergedTable program.fields program.topo (IsStartPacket program.fields program.topo) p tags classes t
         → Carries program p t }
     ensures named { (program : Program) (name : List ℕ) (p : Policy) (tags : List (List ℕ)) (classes : List ℕ) (t : Tables)
         → IsProgram program.fields program.topo program.lets
         → policy_named program name ≡ Some p → IsCompilable program.fields program.topo p
-        → IsMergedTable program.fields program.topo (IsStart program.fields program.topo) p tags classes t
+        → IsMergedTable program.fields program.topo (IsStartPacket program.fields program.topo) p tags classes t
         → Carries program p t }
 {}
 
@@ -74,14 +74,14 @@ pub fn the_merged_table_carries()
 pub fn the_numbered_pair_can_be_planned()
     ensures plannable { (fields : FieldTable) (topo : Topology) (p q : Policy) (old new : Tables) (old_tags : ℕ)
         → HasTagSets fields topo p old_tags
-        → IsTableOf fields topo (IsStart fields topo) p old → IsTableBehind old_tags fields topo (IsStart fields topo) q new
+        → IsTableOf fields topo (IsStartPacket fields topo) p old → IsTableBehind old_tags fields topo (IsStartPacket fields topo) q new
         → IsPlannable (pair_of old new old_tags) }
     ensures tags { (fields : FieldTable) (topo : Topology) (p q : Policy) (old new : Tables) (old_tags : ℕ)
         → IsFieldTable fields → AreLinks topo
         → HasDistinct p → IsInRange p fields → IsCompilable fields topo p
         → HasDistinct q → IsInRange q fields → IsCompilable fields topo q
         → HasTagSets fields topo p old_tags
-        → IsTableOf fields topo (IsStart fields topo) p old → IsTableBehind old_tags fields topo (IsStart fields topo) q new
+        → IsTableOf fields topo (IsStartPacket fields topo) p old → IsTableBehind old_tags fields topo (IsStartPacket fields topo) q new
         → HaveTheirTags (pair_of old new old_tags) }
 {}
 

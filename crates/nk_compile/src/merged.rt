@@ -3,7 +3,7 @@ ghost use Rattle.std.specs.Prelude.{◌≡◌, ℕ, IfOk};
 ghost use Rattle.nk_field.specs.Packet.{FieldTable};
 ghost use Rattle.nk_policy.specs.Tree.{tree_of};
 ghost use Rattle.nk_table.specs.declared.Tables.{Tables};
-ghost use Rattle.nk_names.specs.Accepted.{IsStart};
+ghost use Rattle.nk_names.specs.Accepted.{IsStartPacket};
 ghost use Rattle.nk_compile.specs.Mergeable.{IsMergeable};
 ghost use Rattle.nk_compile.specs.MergedTable.{IsMergedTable};
 ghost use Rattle.nk_compile.specs.Ready.{sets_of};
@@ -38,7 +38,7 @@ pub fn merged_tables(
     ensures { IfOk result (λ ts. (fields : FieldTable) (tag : ℕ)
         → IsMergeable fields topo.now tag (tree_of p.now) st.old ss.old states.now tags.now classes.now.numbers classes.now.firsts met.now
         → (t : Tables) → t.fields ≡ fields → t.topo ≡ topo.now → t.tables ≡ ts
-        → IsMergedTable fields topo.now (IsStart fields topo.now) (tree_of p.now) (sets_of ss.old tags.now) classes.now.numbers t) }
+        → IsMergedTable fields topo.now (IsStartPacket fields topo.now) (tree_of p.now) (sets_of ss.old tags.now) classes.now.numbers t) }
 {
     let ends = link_ends(st.alloc(), p, states.len())?;
     let stops = stops(st.alloc(), topo, ends.as_slice(), ss, tags)?;

@@ -2,8 +2,8 @@
 ghost use Rattle.std.specs.Prelude.{◌≡◌, ℕ, ◌<◌, ◌+◌, ◌^◌, List as Items, [], ◌∷◌, ◌++◌, All, IfOk, OnOk, length, map, slice_index, slice_index_or};
 ghost use Rattle.nk_store.specs.Held.{Held, IsId, Grows};
 ghost use Rattle.nk_determ.specs.Sets.{IsSetOf, SetsGrow};
-ghost use Rattle.nk_switches.specs.Tagged.{set_of};
-ghost use Rattle.nk_merge.specs.Alike.{behind};
+ghost use Rattle.nk_switches.specs.Tagged.{set_of_tag};
+ghost use Rattle.nk_merge.specs.Alike.{labels_behind};
 ghost use Rattle.nk_compile.specs.MetPackets.{entries_of, HaveIds, AreUnder, AreMet};
 
 use nk_algebra::{empty, union};
@@ -27,7 +27,7 @@ pub fn met_packets(
     ensures sets { SetsGrow ss.old ss.new }
     ensures len { IfOk result (λ r. length r ≡ length tags.now) }
     ensures met { IfOk result (λ r. (i : ℕ) → i < length tags.now →
-        AreMet st.old ss.old lv.now.levels (behind (set_of ss.old tags.now i)) st.new (slice_index r i)) }
+        AreMet st.old ss.old lv.now.levels (labels_behind (set_of_tag ss.old tags.now i)) st.new (slice_index r i)) }
 {
     let sets = sets_behind(st.alloc(), ss, tags)?;
     ss.differ();
@@ -41,7 +41,7 @@ fn sets_behind(alloc: Global, ss: &mut Sets, tags: &[SetId]) -> Result<List<SetI
     requires room { All (λ s. All (λ l. l + 1 < 2 ^ 64) (slice_index_or ss.old s [])) tags.now }
     ensures sets { SetsGrow ss.old ss.new }
     ensures len { IfOk result (λ r. length r ≡ length tags.now) }
-    ensures behind { IfOk result (λ r. (i : ℕ) → i < length tags.now → IsSetOf ss.new (slice_index r i) (behind (set_of ss.old tags.now i))) }
+    ensures behind { IfOk result (λ r. (i : ℕ) → i < length tags.now → IsSetOf ss.new (slice_index r i) (labels_behind (set_of_tag ss.old tags.now i))) }
 {
     let mut all = List::new(alloc);
     for s in tags {
@@ -56,7 +56,7 @@ fn set_behind(alloc: Global, ss: &mut Sets, s: SetId) -> Result<SetId, AllocErro
     requires known { s < length ss.old }
     requires room { All (λ l. l + 1 < 2 ^ 64) (slice_index_or ss.old s []) }
     ensures sets { SetsGrow ss.old ss.new }
-    ensures behind { IfOk result (λ b. IsSetOf ss.new b (behind (slice_index_or ss.old s []))) }
+    ensures behind { IfOk result (λ b. IsSetOf ss.new b (labels_behind (slice_index_or ss.old s []))) }
 {
     let labels = labels_behind(alloc, ss.members(s))?;
     ss.intern(labels)
@@ -65,7 +65,7 @@ fn set_behind(alloc: Global, ss: &mut Sets, s: SetId) -> Result<SetId, AllocErro
 /// Each label and one more.
 fn labels_behind(alloc: Global, labels: &[u64]) -> Result<List<u64>, AllocError>
     requires { All (λ l. l + 1 < 2 ^ 64) labels.now }
-    ensures { IfOk result (λ r. r ≡ behind labels.now) }
+    ensures { IfOk result (λ r. r ≡ labels_behind labels.now) }
 {
     let mut all = List::new(alloc);
     for l in labels {

@@ -3,7 +3,7 @@ ghost use Rattle.std.specs.Prelude.{◌≡◌, ◌<◌, ℕ, All, IfOk, length, 
 ghost use Rattle.nk_field.specs.Packet.{FieldTable};
 ghost use Rattle.nk_policy.specs.Tree.{tree_of};
 ghost use Rattle.nk_table.specs.declared.Tables.{Tables};
-ghost use Rattle.nk_names.specs.Accepted.{IsStart};
+ghost use Rattle.nk_names.specs.Accepted.{IsStartPacket};
 ghost use Rattle.nk_determ.specs.Sets.{SetsGrow};
 ghost use Rattle.nk_tag.specs.Numbers.{AreNumbers};
 ghost use Rattle.nk_compile.specs.NumberedBehind.{tags_behind, IsTableBehind};
@@ -37,7 +37,7 @@ fn tag_tables(
     ensures { IfOk result (λ ts. (first : ℕ) (fields : FieldTable) (tag : ℕ) → IsClear fields topo.now tag (tree_of p.now)
         → IsReady first fields topo.now (tree_of p.now) st.old ss.old states.now tags.now
         → (t : Tables) → t.fields ≡ fields → t.topo ≡ topo.now → t.tables ≡ ts
-        → IsTableBehind first fields topo.now (IsStart fields topo.now) (tree_of p.now) t) }
+        → IsTableBehind first fields topo.now (IsStartPacket fields topo.now) (tree_of p.now) t) }
 {
     let ends = link_ends(st.alloc(), p, states.len())?;
     let stops = stops(st.alloc(), topo, ends.as_slice(), ss, tags)?;
@@ -85,7 +85,7 @@ pub fn printed(
 ) -> Result<Tables, AllocError>
     requires prepared { (tag : ℕ) × IsPrepared fields.now topo.now tag (tree_of p.now) prepared }
     requires numbers { AreNumbers prepared.sets prepared.levels.levels tags.now }
-    ensures { IfOk result (IsTableBehind first fields.now topo.now (IsStart fields.now topo.now) (tree_of p.now)) }
+    ensures { IfOk result (IsTableBehind first fields.now topo.now (IsStartPacket fields.now topo.now) (tree_of p.now)) }
 {
     let mut st = prepared.store;
     let mut ss = prepared.sets;

@@ -11,7 +11,7 @@ use Rattle.nk_declare.specs.declared.fault.DeclareFault.{DeclareFault}
 use Rattle.nk_declare.specs.declared.fault.DeclareFault.TheVariants as fault
 use Rattle.nk_declare.specs.declared.fault.DeclareError.{DeclareError}
 use Rattle.nk_declare.specs.declared.fault.DeclareError.TheVariants.{Fault, NoMemory}
-use Rattle.nk_declare.specs.Declarations.{MaybeFault, fault_if, above, port_fault, ports_fault, IsFirst}
+use Rattle.nk_declare.specs.Declarations.{MaybeFault, fault_if, above, port_fault, ports_fault, IsFirstFault}
 
 -- of faults that have no first there is none
 pub none_both : {E : Type 0} (a b : Option E) → first_of a b ≡ None → (a ≡ None) × (b ≡ None)
@@ -31,7 +31,7 @@ in_bound most n h = at_most most n.value (not_wrong (nat_lt most n.value) fault.
     at_most m k h = grind (arith, h)
 
 -- the fault that is there is the first one
-pub is_first : (e : DeclareError) (o : MaybeFault) → o ≡ Some e → IsFirst e o
+pub is_first : (e : DeclareError) (o : MaybeFault) → o ≡ Some e → IsFirstFault e o
 is_first NoMemory o h = tt
 is_first (Fault k line) o h = h
 

@@ -19,7 +19,7 @@ use Rattle.nk_lex.specs.declared.word.Word.{Word}
 use Rattle.nk_lex.specs.declared.word.Number.{Number}
 use Rattle.nk_lex.specs.Faults.{and_then, unless}
 use Rattle.nk_declare.specs.declared.fault.DeclareFault.TheVariants as fault
-use Rattle.nk_declare.specs.Declarations.{Declaration, field, tag, switch, link, DeclaredValue, is_from, field_fault, tag_fault, ports_fault, links_ends, link_with, values_of, declared_with, declared_after}
+use Rattle.nk_declare.specs.Declarations.{NetworkDeclaration, field, tag, switch, link, DeclaredValue, is_from, field_fault, tag_fault, ports_fault, links_ends, link_with, values_of, declared_with, declared_after}
 use Rattle.nk_declare.specs.Kept.{IsWritable, IsDeclarable, HasFieldOfText, HasPort}
 use Rattle.nk_declare.proofs.Checks.{none_both, not_wrong, in_bound, once_more}
 
@@ -138,7 +138,7 @@ tag_more t w h none = record {
 }
 
 -- one more declaration keeps fields that a text can write
-pub fields_kept : (s s' : DeclaredValue) (d : Declaration) → IsWritable s.fields → HasFieldOfText d → declared_with s d ≡ Ok s'
+pub fields_kept : (s s' : DeclaredValue) (d : NetworkDeclaration) → IsWritable s.fields → HasFieldOfText d → declared_with s d ≡ Ok s'
     → IsWritable s'.fields
 fields_kept s s' (field w n) h is e =
     let r = unless_ok _ _ s' e in
@@ -179,7 +179,7 @@ nothing_is_topology = record {
 }
 
 -- one more declaration keeps a topology
-pub topology_kept : (s s' : DeclaredValue) (d : Declaration) → IsTopology s.topo → declared_with s d ≡ Ok s' → IsTopology s'.topo
+pub topology_kept : (s s' : DeclaredValue) (d : NetworkDeclaration) → IsTopology s.topo → declared_with s d ≡ Ok s' → IsTopology s'.topo
 topology_kept s s' (field w n) h e = let r = unless_ok _ _ s' e in subst (λ x. IsTopology x.topo) r.1 h
 topology_kept s s' (tag w) h e = let r = unless_ok _ _ s' e in subst (λ x. IsTopology x.topo) r.1 h
 topology_kept s s' (switch n ps) h e =
@@ -263,7 +263,7 @@ values_many [] h = h
 values_many (p ∷ ps) h = omega arith
 
 -- one more declaration keeps such numbers, each switch with a port
-pub numbers_kept : (s s' : DeclaredValue) (d : Declaration) → AreFit s.topo → HasPort d → declared_with s d ≡ Ok s' → AreFit s'.topo
+pub numbers_kept : (s s' : DeclaredValue) (d : NetworkDeclaration) → AreFit s.topo → HasPort d → declared_with s d ≡ Ok s' → AreFit s'.topo
 numbers_kept s s' (field w n) h has e = let r = unless_ok _ _ s' e in subst (λ x. AreFit x.topo) r.1 h
 numbers_kept s s' (tag w) h has e = let r = unless_ok _ _ s' e in subst (λ x. AreFit x.topo) r.1 h
 numbers_kept s s' (switch n ps) h has e =
@@ -277,9 +277,9 @@ numbers_kept s s' (link a m b n) h has e = let r = unless_ok _ _ s' e in subst (
 -- ---- all declarations
 
 -- what each declaration keeps, all of them keep
-pub all_kept : (P : DeclaredValue → Type 0) (Q : Declaration → Type 0)
-    → ((s s' : DeclaredValue) (d : Declaration) → P s → Q d → declared_with s d ≡ Ok s' → P s')
-    → (ds : List Declaration) (s s' : DeclaredValue) → P s → AllByRecursion Q ds → declared_after ds s ≡ Ok s' → P s'
+pub all_kept : (P : DeclaredValue → Type 0) (Q : NetworkDeclaration → Type 0)
+    → ((s s' : DeclaredValue) (d : NetworkDeclaration) → P s → Q d → declared_with s d ≡ Ok s' → P s')
+    → (ds : List NetworkDeclaration) (s s' : DeclaredValue) → P s → AllByRecursion Q ds → declared_after ds s ≡ Ok s' → P s'
 all_kept P Q one [] s s' h are e = subst P (ok_is s s' e) h
 all_kept P Q one (d ∷ ds) s s' h are e =
     let r = both_ok (declared_with s d) (declared_after ds) s' e in

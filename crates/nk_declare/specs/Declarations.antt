@@ -15,11 +15,11 @@ use Rattle.nk_declare.specs.declared.fault.DeclareError.TheVariants.{Fault, NoMe
 
 -- a declaration: a field's name and its largest value, the tag, a switch and its ports, or a link from a switch and a port to
 -- a switch and a port
-pub data Declaration : Type 0 where
-  field : Word → Number → Declaration
-  tag : Word → Declaration
-  switch : Number → (ports : List Number) → Declaration
-  link : Number → Number → Number → Number → Declaration
+pub data NetworkDeclaration : Type 0 where
+  field : Word → Number → NetworkDeclaration
+  tag : Word → NetworkDeclaration
+  switch : Number → (ports : List Number) → NetworkDeclaration
+  link : Number → Number → Number → Number → NetworkDeclaration
 
 -- what is declared
 pub record DeclaredValue : Type 0 where
@@ -49,11 +49,11 @@ abbrev pub links_ends : Number → Number → Number → Number → MaybeFault
 links_ends a m b n = first_of (first_of (first_of (above 65535 a) (above 65535 m)) (above 65535 b)) (above 65535 n)
 
 -- the place of a field, and its largest value
-abbrev pub place_in : FieldTable → Word → ℕ
-place_in fields w = unwrap_or (field_named fields w.text) 0
+abbrev pub place_of_field : FieldTable → Word → ℕ
+place_of_field fields w = unwrap_or (field_named fields w.text) 0
 
 abbrev pub most_in : FieldTable → Word → ℕ
-most_in fields w = slice_index fields.maxima (place_in fields w)
+most_in fields w = slice_index fields.maxima (place_of_field fields w)
 
 -- a place that is there, from `low` on
 abbrev pub is_from : (low : ℕ) → Option ℕ → Bool
@@ -121,7 +121,7 @@ abbrev pub link_with : Number → Number → Number → Number → Link
 link_with a m b n = record { from_switch = a.value; from_port = m.value; to_switch = b.value; to_port = n.value }
 
 -- what is declared after one more declaration
-abbrev pub declared_with : DeclaredValue → Declaration → Result DeclaredValue DeclareError
+abbrev pub declared_with : DeclaredValue → NetworkDeclaration → Result DeclaredValue DeclareError
 declared_with s (field w n) = unless (field_fault s.fields w) (record s { fields = with_field s.fields w.text n.value })
 declared_with s (tag w) =
     unless (tag_fault s.fields w) (record s { fields = record s.fields { tag = field_named s.fields w.text } })
@@ -130,20 +130,20 @@ declared_with s (switch n ps) =
 declared_with s (link a m b n) = unless (link_fault s.topo a m b n) (record s { topo = with_link s.topo (link_with a m b n) })
 
 -- what is declared after these declarations
-abbrev pub declared_after : List Declaration → DeclaredValue → Result DeclaredValue DeclareError
+abbrev pub declared_after : List NetworkDeclaration → DeclaredValue → Result DeclaredValue DeclareError
 declared_after [] s = Ok s
 declared_after (d ∷ ds) s = and_then (declared_with s d) (declared_after ds)
 
 -- what these declarations declare
-abbrev pub declared_by : List Declaration → Result DeclaredValue DeclareError
+abbrev pub declared_by : List NetworkDeclaration → Result DeclaredValue DeclareError
 declared_by ds = declared_after ds nothing_declared
 
 -- ---- what a call answers
 
 -- this is the first fault; want of memory may come at any
-abbrev pub IsFirst : DeclareError → MaybeFault → Type 0
-IsFirst NoMemory first = ⊤
-IsFirst (Fault k line) first = first ≡ Some (Fault k line)
+abbrev pub IsFirstFault : DeclareError → MaybeFault → Type 0
+IsFirstFault NoMemory first = ⊤
+IsFirstFault (Fault k line) first = first ≡ Some (Fault k line)
 
 -- this is the answer's fault; want of memory may come at any
 abbrev pub IsFault : {X : Type 0} → DeclareError → Result X DeclareError → Type 0

@@ -1,7 +1,7 @@
 //! Numbers of switches and ports, and what may be wrong with them.
 ghost use Rattle.std.specs.Prelude.{◌≡◌, ◌++◌, ◌∷◌, false, [], None, Some, MatchResult, IfOk, OnErr, OnOk, map};
 ghost use Rattle.nk_topo.specs.Topology.{has_double};
-ghost use Rattle.nk_declare.specs.Declarations.{IsFirst, fault_if, above, links_ends, port_fault, ports_fault};
+ghost use Rattle.nk_declare.specs.Declarations.{IsFirstFault, fault_if, above, links_ends, port_fault, ports_fault};
 
 use crate::fault::{DeclareError, DeclareFault};
 use nk_lex::Number;
@@ -81,7 +81,7 @@ impl Ports {
     /// One more port: it is in range and new. An `Err` leaves the ports as they were.
     pub fn add(&mut self, p: Number) -> Result<(), DeclareError>
         ensures ok { OnOk result (self.new ≡ self.old ++ p.value ∷ []) }
-        ensures fault { MatchResult result (λ _. port_fault self.old p ≡ None) (λ e. IsFirst e (port_fault self.old p)) }
+        ensures fault { MatchResult result (λ _. port_fault self.old p ≡ None) (λ e. IsFirstFault e (port_fault self.old p)) }
         ensures kept { OnErr result (self.new ≡ self.old) }
     {
         let number = place_of(p)?;
@@ -104,7 +104,7 @@ impl Ports {
 /// The numbers of ports, each in range and none twice.
 pub(crate) fn ports_of(alloc: Global, ports: &[Number]) -> Result<Ports, DeclareError>
     ensures numbers { IfOk result (λ v. v ≡ map (λ p. p.value) ports.now) }
-    ensures fault { MatchResult result (λ _. ports_fault [] ports.now ≡ None) (λ e. IsFirst e (ports_fault [] ports.now)) }
+    ensures fault { MatchResult result (λ _. ports_fault [] ports.now ≡ None) (λ e. IsFirstFault e (ports_fault [] ports.now)) }
 {
     let mut all = Ports::new(alloc);
     for p in ports {

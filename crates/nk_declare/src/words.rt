@@ -1,13 +1,13 @@
 //! The words for what is wrong with a declaration.
 ghost use Rattle.std.specs.Prelude.{◌≡◌};
-ghost use Rattle.nk_declare.specs.Words.{fault_words};
+ghost use Rattle.nk_declare.specs.Words.{declaration_fault_words};
 
 use crate::fault::DeclareFault;
 
 impl DeclareFault {
     /// The words for it.
     pub fn words(self) -> &'static str
-        ensures { result.now ≡ fault_words self }
+        ensures { result.now ≡ declaration_fault_words self }
     {
         match self {
             DeclareFault::FieldTwice => "field twice",

@@ -6,8 +6,8 @@ use Rattle.nk_field.proofs.Lists.{in_from_contains, contains_from_in}
 use Rattle.nk_policy.specs.Policy.{is_predicate}
 use Rattle.nk_policy.specs.Tree.{tree_of}
 use Rattle.nk_cert.specs.declared.certificate.Certificate.{Certificate}
-use Rattle.nk_cert.specs.Certificates.{RowValue, CertRow, rows_of, later_row}
-use Rattle.nk_cert.specs.Values.{row_value, row_values, certificate_value}
+use Rattle.nk_cert.specs.Certificates.{RowValue, CertRow, certificate_rows, later_row}
+use Rattle.nk_cert.specs.Values.{held_row_value, row_values, certificate_value}
 use Rattle.nk_cert.specs.Verdicts.{HasPredicates}
 
 -- a certificate that is held has predicates where its start row has one and each later row has one
@@ -20,6 +20,6 @@ has_predicates c start later row k =
     (λ i.
     All-contains (λ (r : CertRow). is_predicate r.predicate ≡ true) (map as_row (row_values c.rows)) row
     (All-map (λ (r : CertRow). is_predicate r.predicate ≡ true) as_row (row_values c.rows)
-    (All-map (λ (v : RowValue). is_predicate v.predicate ≡ true) row_value c.rows later))
+    (All-map (λ (v : RowValue). is_predicate v.predicate ≡ true) held_row_value c.rows later))
     (contains_from_in (map as_row (row_values c.rows)) row i))
-    (in_from_contains (rows_of (certificate_value c)) row k)
+    (in_from_contains (certificate_rows (certificate_value c)) row k)

@@ -1,7 +1,5 @@
 //! Random queries of policies of a small network, against all histories of up to four records.
-ghost use Rattle.std.specs.Prelude.{◌≡◌, true};
-ghost use Rattle.nk_cert.specs.Values.{certificate_value};
-ghost use Rattle.nk_cert.specs.Verdicts.{HasPredicates};
+ghost use Rattle.std.specs.Prelude.{true};
 
 use crate::certificates::is_over_predicates;
 use crate::programs::declared;

@@ -8,9 +8,9 @@ use Rattle.nk_grammar.specs.declared.place.QuadNext.{QuadNext}
 use Rattle.nk_grammar.specs.declared.place.QuadNext.TheVariants as next
 use Rattle.nk_grammar.specs.declared.decl.GrammarError.{GrammarError}
 use Rattle.nk_grammar.specs.declared.decl.GrammarError.TheVariants as error
-use Rattle.nk_grammar.specs.Terminal.{Terminal, name, number, tilde, opening, closing, plus_sign, semicolon, star_sign, equal, becomes, colon, fat_arrow, id_word, drop_word, dup_word, in_word, dots, outside, field_word, tag_word, switch_word, ports_word, link_word, let_word, arrow, comma, certificate_word, row_word, start_word, no_terminal, is_equal, is_colon}
+use Rattle.nk_grammar.specs.Terminal.{Terminal, name, number, tilde, opening, closing, plus_sign, semicolon, star_sign, equal, becomes, colon, fat_arrow, id_word, drop_word, dup_word, in_word, dots, outside, field_word, tag_word, switch_word, ports_word, link_word, let_word, arrow, comma, certificate_word, row_word, start_word, no_terminal, is_equal, is_colon_terminal}
 use Rattle.nk_grammar.specs.Tree.{Tree}
-use Rattle.nk_grammar.specs.Machine.{State, start, step, ended, in_option, number_in, quad_step}
+use Rattle.nk_grammar.specs.Machine.{State, first_state, step, policy_ended, in_option, number_in, quad_step}
 use Rattle.nk_grammar.specs.File.{Declaration, field, tag, switch, declared_link, definition}
 use Rattle.nk_grammar.specs.FileMachine.{Phase, between, field_read, field_named, tag_read, switch_read, switch_numbered, port_wanted, port_read, link_read, let_read, let_named, in_policy, Reading, reading, name_in, is_ports, is_comma, by_name, begin_declaration, one_more, link_on, policy_on, next_reading, read_one, text_ended, open_count, judged}
 use Rattle.nk_grammar.specs.Certified.{Row, row}
@@ -113,8 +113,8 @@ read_behind ds es (port_read n ps) t =
 read_behind ds es (link_read q) t = linked ds es (quad_step false q t)
 read_behind ds es (let_read line) t = by_word ds (name_in t) (λ w. reading (let_named w line) (ds ++ es)) (λ w. reading (let_named w line) es) (λ w. refl)
 read_behind ds es (let_named w line) t =
-    by_test ds (is_equal t) (Some (reading (in_policy w line start) (ds ++ es))) (Some (reading (in_policy w line start) es)) None None refl refl
-read_behind ds es (in_policy w line s) t = policy ds es w line (step s t) (ended s) t
+    by_test ds (is_equal t) (Some (reading (in_policy w line first_state) (ds ++ es))) (Some (reading (in_policy w line first_state) es)) None None refl refl
+read_behind ds es (in_policy w line s) t = policy ds es w line (step s t) (policy_ended s) t
 
 -- the end
 pub ended_behind : (ds es : List Declaration) (p : Phase) → text_ended p (ds ++ es) ≡ option_map (λ l. ds ++ l) (text_ended p es)
@@ -129,7 +129,7 @@ ended_behind ds es (port_read n ps) = ap (λ l. Some l) (more ds es (switch n ps
 ended_behind ds es (link_read q) = refl
 ended_behind ds es (let_read line) = refl
 ended_behind ds es (let_named w line) = refl
-ended_behind ds es (in_policy w line s) = by_end (ended s)
+ended_behind ds es (in_policy w line s) = by_end (policy_ended s)
   where
     by_end : (o : Option Tree) → option_map (λ p. one_more (ds ++ es) (definition w p line)) o
         ≡ option_map (λ l. ds ++ l) (option_map (λ p. one_more es (definition w p line)) o)
@@ -238,14 +238,14 @@ certify_behind ds es rs qs row_wanted t =
 certify_behind ds es rs qs (start_wanted line) t =
     test_behind ds rs (is_start_word t) (Some (certifying (start_read line) (ds ++ es) (rs ++ qs))) (Some (certifying (start_read line) es qs)) None None refl refl
 certify_behind ds es rs qs (start_read line) t =
-    test_behind ds rs (is_colon t) (Some (certifying (in_row line [] start) (ds ++ es) (rs ++ qs))) (Some (certifying (in_row line [] start) es qs)) None None refl refl
+    test_behind ds rs (is_colon_terminal t) (Some (certifying (in_row line [] first_state) (ds ++ es) (rs ++ qs))) (Some (certifying (in_row line [] first_state) es qs)) None None refl refl
 certify_behind ds es rs qs (number_wanted line) t =
     number_behind ds rs (number_in t) (λ n. certifying (numbers_read line (n.value ∷ [])) (ds ++ es) (rs ++ qs))
     (λ n. certifying (numbers_read line (n.value ∷ [])) es qs) (λ n. refl)
 certify_behind ds es rs qs (numbers_read line ns) t =
-    test_behind ds rs (is_colon t) (Some (certifying (in_row line ns start) (ds ++ es) (rs ++ qs))) (Some (certifying (in_row line ns start) es qs))
+    test_behind ds rs (is_colon_terminal t) (Some (certifying (in_row line ns first_state) (ds ++ es) (rs ++ qs))) (Some (certifying (in_row line ns first_state) es qs))
     (in_option (number_in t) None (λ m. Some (certifying (numbers_read line (ns ++ m.value ∷ [])) (ds ++ es) (rs ++ qs))))
     (in_option (number_in t) None (λ m. Some (certifying (numbers_read line (ns ++ m.value ∷ [])) es qs))) refl
     (number_behind ds rs (number_in t) (λ m. certifying (numbers_read line (ns ++ m.value ∷ [])) (ds ++ es) (rs ++ qs))
     (λ m. certifying (numbers_read line (ns ++ m.value ∷ [])) es qs) (λ m. refl))
-certify_behind ds es rs qs (in_row line ns s) t = row_behind ds es rs qs ns line (step s t) (ended s) t
+certify_behind ds es rs qs (in_row line ns s) t = row_behind ds es rs qs ns line (step s t) (policy_ended s) t

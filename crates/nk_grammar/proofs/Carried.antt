@@ -9,9 +9,9 @@ use Rattle.nk_lex.specs.declared.word.Number.{Number}
 use Rattle.nk_lex.specs.Faults.{and_then}
 use Rattle.nk_grammar.specs.declared.decl.GrammarError.{GrammarError}
 use Rattle.nk_grammar.specs.declared.decl.GrammarError.TheVariants as error
-use Rattle.nk_grammar.specs.Terminal.{Terminal, name, number, tilde, opening, closing, plus_sign, semicolon, star_sign, equal, becomes, colon, fat_arrow, id_word, drop_word, dup_word, in_word, dots, outside, field_word, tag_word, switch_word, ports_word, link_word, let_word, arrow, comma, certificate_word, row_word, start_word, no_terminal, is_colon, terminal_of}
+use Rattle.nk_grammar.specs.Terminal.{Terminal, name, number, tilde, opening, closing, plus_sign, semicolon, star_sign, equal, becomes, colon, fat_arrow, id_word, drop_word, dup_word, in_word, dots, outside, field_word, tag_word, switch_word, ports_word, link_word, let_word, arrow, comma, certificate_word, row_word, start_word, no_terminal, is_colon_terminal, terminal_of}
 use Rattle.nk_grammar.specs.Tree.{Tree}
-use Rattle.nk_grammar.specs.Machine.{State, start, in_option, number_in, with_number, step, ended}
+use Rattle.nk_grammar.specs.Machine.{State, first_state, in_option, number_in, with_number, step, policy_ended}
 use Rattle.nk_grammar.specs.File.{Declaration}
 use Rattle.nk_grammar.specs.Certified.{Row, row, Certified, certified}
 use Rattle.nk_grammar.specs.CertifiedMachine.{CertifiedPhase, declaring, row_wanted, start_wanted, start_read, number_wanted, numbers_read, in_row, Certifying, certifying, is_start_word, row_in, in_line, row_on, next_certifying, certify_one, certificate_ends, certified_ended, certified_at_end, open_certified, judged_certified, certified_end_at, rest_of_certified}
@@ -56,13 +56,13 @@ stays_in_rows : (p : CertifiedPhase) (ds : List Declaration) (rs : List Row) (t 
 stays_in_rows (declaring r) ds rs t h = absurd h
 stays_in_rows row_wanted ds rs t h = line_in_rows (row_in t) (λ line. certifying (start_wanted line) ds rs) (λ l. tt)
 stays_in_rows (start_wanted line) ds rs t h = test_in_rows (is_start_word t) (Some (certifying (start_read line) ds rs)) None tt tt
-stays_in_rows (start_read line) ds rs t h = test_in_rows (is_colon t) (Some (certifying (in_row line [] start) ds rs)) None tt tt
+stays_in_rows (start_read line) ds rs t h = test_in_rows (is_colon_terminal t) (Some (certifying (in_row line [] first_state) ds rs)) None tt tt
 stays_in_rows (number_wanted line) ds rs t h =
     number_in_rows (number_in t) (λ n. certifying (numbers_read line (n.value ∷ [])) ds rs) (λ n. tt)
 stays_in_rows (numbers_read line ns) ds rs t h =
-    test_in_rows (is_colon t) (Some (certifying (in_row line ns start) ds rs)) (with_number t None (λ m. Some (certifying (numbers_read line (ns ++ m.value ∷ [])) ds rs))) tt
+    test_in_rows (is_colon_terminal t) (Some (certifying (in_row line ns first_state) ds rs)) (with_number t None (λ m. Some (certifying (numbers_read line (ns ++ m.value ∷ [])) ds rs))) tt
     (number_in_rows (number_in t) (λ m. certifying (numbers_read line (ns ++ m.value ∷ [])) ds rs) (λ n. tt))
-stays_in_rows (in_row line ns s) ds rs t h = policy_in_rows ds rs ns line (step s t) (ended s) t
+stays_in_rows (in_row line ns s) ds rs t h = policy_in_rows ds rs ns line (step s t) (policy_ended s) t
 
 -- ---- what is read otherwise, token by token
 
@@ -155,14 +155,14 @@ module _ (ds : List Declaration) where
   next_behind (start_wanted line) es rs t h =
       test_carried behind (is_start_word t) (Some (certifying (start_read line) es rs)) None (Some (certifying (start_read line) ds rs)) None refl refl
   next_behind (start_read line) es rs t h =
-      test_carried behind (is_colon t) (Some (certifying (in_row line [] start) es rs)) None (Some (certifying (in_row line [] start) ds rs)) None refl refl
+      test_carried behind (is_colon_terminal t) (Some (certifying (in_row line [] first_state) es rs)) None (Some (certifying (in_row line [] first_state) ds rs)) None refl refl
   next_behind (number_wanted line) es rs t h =
       same_number (number_in t) (λ n. certifying (numbers_read line (n.value ∷ [])) es rs) (λ n. certifying (numbers_read line (n.value ∷ [])) ds rs) (λ n. refl)
   next_behind (numbers_read line ns) es rs t h =
-      test_carried behind (is_colon t) (Some (certifying (in_row line ns start) es rs)) (with_number t None (λ m. Some (certifying (numbers_read line (ns ++ m.value ∷ [])) es rs)))
-      (Some (certifying (in_row line ns start) ds rs)) (with_number t None (λ m. Some (certifying (numbers_read line (ns ++ m.value ∷ [])) ds rs))) refl
+      test_carried behind (is_colon_terminal t) (Some (certifying (in_row line ns first_state) es rs)) (with_number t None (λ m. Some (certifying (numbers_read line (ns ++ m.value ∷ [])) es rs)))
+      (Some (certifying (in_row line ns first_state) ds rs)) (with_number t None (λ m. Some (certifying (numbers_read line (ns ++ m.value ∷ [])) ds rs))) refl
       (same_number (number_in t) (λ m. certifying (numbers_read line (ns ++ m.value ∷ [])) es rs) (λ m. certifying (numbers_read line (ns ++ m.value ∷ [])) ds rs) (λ n. refl))
-  next_behind (in_row line ns s) es rs t h = policy_behind es rs ns line (step s t) (ended s) t
+  next_behind (in_row line ns s) es rs t h = policy_behind es rs ns line (step s t) (policy_ended s) t
 
   last_behind : (es : List Declaration) (rs : List Row) (ns : List ℕ) (line : ℕ) (o : Option Tree)
       → certificate_ends ds rs ns line o ≡ option_map certified_behind (certificate_ends es rs ns line o)
@@ -177,7 +177,7 @@ module _ (ds : List Declaration) where
   end_behind (start_read line) es rs h = refl
   end_behind (number_wanted line) es rs h = refl
   end_behind (numbers_read line ns) es rs h = refl
-  end_behind (in_row line ns s) es rs h = last_behind es rs ns line (ended s)
+  end_behind (in_row line ns s) es rs h = last_behind es rs ns line (policy_ended s)
 
   all_tokens : (us : List Token) → map (λ t. t) us ≡ us
   all_tokens [] = refl
@@ -314,21 +314,21 @@ module _ (lines places : ℕ) where
       test_further (is_start_word (terminal_moved lines t)) (is_start_word t) (Some (certifying (start_read line) ds rs)) None
       (Some (certifying (start_read (line + lines)) ds (map (row_moved lines) rs))) None (start_moves t) refl refl
   next_further (start_read line) ds rs t h =
-      test_further (is_colon (terminal_moved lines t)) (is_colon t) (Some (certifying (in_row line [] start) ds rs)) None
-      (Some (certifying (in_row (line + lines) [] start) ds (map (row_moved lines) rs))) None (colon_moves lines t) refl refl
+      test_further (is_colon_terminal (terminal_moved lines t)) (is_colon_terminal t) (Some (certifying (in_row line [] first_state) ds rs)) None
+      (Some (certifying (in_row (line + lines) [] first_state) ds (map (row_moved lines) rs))) None (colon_moves lines t) refl refl
   next_further (number_wanted line) ds rs t h =
       number_further t (λ n. certifying (numbers_read line (n.value ∷ [])) ds rs) (λ n. certifying (numbers_read (line + lines) (n.value ∷ [])) ds (map (row_moved lines) rs)) (λ n. refl)
   next_further (numbers_read line ns) ds rs t h =
-      test_further (is_colon (terminal_moved lines t)) (is_colon t) (Some (certifying (in_row line ns start) ds rs))
+      test_further (is_colon_terminal (terminal_moved lines t)) (is_colon_terminal t) (Some (certifying (in_row line ns first_state) ds rs))
       (with_number t None (λ m. Some (certifying (numbers_read line (ns ++ m.value ∷ [])) ds rs)))
-      (Some (certifying (in_row (line + lines) ns start) ds (map (row_moved lines) rs)))
+      (Some (certifying (in_row (line + lines) ns first_state) ds (map (row_moved lines) rs)))
       (with_number (terminal_moved lines t) None (λ m. Some (certifying (numbers_read (line + lines) (ns ++ m.value ∷ [])) ds (map (row_moved lines) rs))))
       (colon_moves lines t) refl
       (number_further t (λ m. certifying (numbers_read line (ns ++ m.value ∷ [])) ds rs) (λ m. certifying (numbers_read (line + lines) (ns ++ m.value ∷ [])) ds (map (row_moved lines) rs)) (λ n. refl))
   next_further (in_row line ns s) ds rs t h =
-      ap (λ o. row_on ds (map (row_moved lines) rs) ns (line + lines) o (ended (state_moved lines s)) (terminal_moved lines t)) (step_moves lines s t)
+      ap (λ o. row_on ds (map (row_moved lines) rs) ns (line + lines) o (policy_ended (state_moved lines s)) (terminal_moved lines t)) (step_moves lines s t)
       ∙ ap (λ e. row_on ds (map (row_moved lines) rs) ns (line + lines) (option_map (state_moved lines) (step s t)) e (terminal_moved lines t)) (end_moves lines s)
-      ∙ policy_further ds rs ns line (step s t) (ended s) t
+      ∙ policy_further ds rs ns line (step s t) (policy_ended s) t
 
   one_further : (c : Certifying) (t : Token) → IsInRows c.phase
       → certify_one (further c) (terminal_of (token_moved lines places t)) ≡ option_map further (certify_one c (terminal_of t))
@@ -359,7 +359,7 @@ module _ (lines places : ℕ) where
   end_further (number_wanted line) ds rs h = refl
   end_further (numbers_read line ns) ds rs h = refl
   end_further (in_row line ns s) ds rs h =
-      ap (certificate_ends ds (map (row_moved lines) rs) ns (line + lines)) (end_moves lines s) ∙ last_further ds rs ns line (ended s)
+      ap (certificate_ends ds (map (row_moved lines) rs) ns (line + lines)) (end_moves lines s) ∙ last_further ds rs ns line (policy_ended s)
 
   -- the rows that are read of tokens further on
   pub rows_further : (us : List Token) (rs : List Row) (line : ℕ)

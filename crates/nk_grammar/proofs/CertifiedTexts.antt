@@ -4,13 +4,13 @@ use Rattle.std.specs.Prelude.{Some, None, option_and_then, if◌then◌else◌, 
 use Rattle.nk_lex.specs.declared.word.Word.{Word}
 use Rattle.nk_lex.specs.declared.word.Number.{Number}
 use Rattle.nk_grammar.specs.declared.place.Quad.TheVariants as quad
-use Rattle.nk_grammar.specs.Terminal.{Terminal, name, number, tilde, opening, closing, plus_sign, semicolon, star_sign, equal, becomes, colon, fat_arrow, id_word, drop_word, dup_word, in_word, dots, outside, is_colon, field_word, tag_word, switch_word, ports_word, link_word, let_word, arrow, comma, certificate_word, row_word, start_word, no_terminal}
+use Rattle.nk_grammar.specs.Terminal.{Terminal, name, number, tilde, opening, closing, plus_sign, semicolon, star_sign, equal, becomes, colon, fat_arrow, id_word, drop_word, dup_word, in_word, dots, outside, is_colon_terminal, field_word, tag_word, switch_word, ports_word, link_word, let_word, arrow, comma, certificate_word, row_word, start_word, no_terminal}
 use Rattle.nk_grammar.specs.Tree.{Tree}
 use Rattle.nk_grammar.specs.Grammar.{Pol, spell_pol, pol_tree, HasTree, one_term, one_factor, plain, written_id}
-use Rattle.nk_grammar.specs.Machine.{State, start, with_number, step, run, ended}
+use Rattle.nk_grammar.specs.Machine.{State, first_state, with_number, step, run, policy_ended}
 use Rattle.nk_grammar.specs.File.{Declaration, declared, spell_file, HasDeclarations}
 use Rattle.nk_grammar.specs.FileMachine.{Phase, between, field_read, field_named, tag_read, switch_read, switch_numbered, port_wanted, port_read, link_read, let_read, let_named, in_policy, Reading, policy_on, policy_done, next_reading, read_one, read_all, first_reading, declarations_at_end}
-use Rattle.nk_grammar.specs.Certified.{Row, row, WrittenRow, written_row, spell_numbers, spell_row, spell_rows, number_value, row_of, spell_certificate, rows_of, Certified, certified, HasCertificate, CertifiedGoesOn}
+use Rattle.nk_grammar.specs.Certified.{Row, row, WrittenRow, written_row, spell_numbers, spell_row, spell_rows, number_value, row_of, spell_certificate, rows_said, Certified, certified, HasCertificate, CertifiedGoesOn}
 use Rattle.nk_grammar.specs.CertifiedMachine.{CertifiedPhase, declaring, row_wanted, start_wanted, start_read, number_wanted, numbers_read, in_row, Certifying, certifying, is_certificate, is_start_word, with_row, certificate_begins, still_declaring, row_done, row_on, next_certifying, certify_one, certify_all, first_certifying, certificate_ends, certified_ended, certified_at_end}
 use Rattle.nk_grammar.proofs.Fronts.{reads_only, goes_on, run_append, none_some}
 use Rattle.nk_grammar.proofs.Texts.{outside_refused, left_by, reads_file, ends_file, file_goes_on, read_append, a_number}
@@ -44,7 +44,7 @@ certificate_refused (link_read (quad.ToColon a m b)) ds = refl
 certificate_refused (let_read line) ds = refl
 certificate_refused (let_named w line) ds = refl
 certificate_refused (in_policy w line s) ds =
-    ap (λ o. policy_on w line ds o (ended s) (outside certificate_word)) (outside_refused s.place s.frames s.terms s.factors certificate_word) ∙ policy_certificate w line ds (ended s)
+    ap (λ o. policy_on w line ds o (policy_ended s) (outside certificate_word)) (outside_refused s.place s.frames s.terms s.factors certificate_word) ∙ policy_certificate w line ds (policy_ended s)
 
 -- a token that declarations take is not that word
 pub not_certificate : (r s : Reading) (t : Terminal) → read_one r t ≡ Some s → is_certificate t ≡ false
@@ -103,7 +103,7 @@ inside_row line ns ds rs [] r s s' e = ap (λ x. certify_all r (certifying (in_r
   where
     same : (x y : State) → ◌≡◌ {A = Option State} (Some x) (Some y) → x ≡ y
     same x y e = cc
-inside_row line ns ds rs (x ∷ xs) r s s' e = by_step (step s x) (ended s) e (inside_row line ns ds rs xs r)
+inside_row line ns ds rs (x ∷ xs) r s s' e = by_step (step s x) (policy_ended s) e (inside_row line ns ds rs xs r)
   where
     by_step : (o : Option State) (t : Option Tree) → option_and_then (run xs) o ≡ Some s'
         → ((s s' : State) → run xs s ≡ Some s' → certify_all (xs ++ r) (certifying (in_row line ns s) ds rs) ≡ certify_all r (certifying (in_row line ns s') ds rs))
@@ -120,18 +120,18 @@ numbers_pass line ns (m ∷ ms) ds rs r =
     ∙ ap (λ x. certify_all r (certifying (numbers_read line x) ds rs)) (append_assoc ns (m.value ∷ []) (map number_value ms))
 
 -- behind a row's policy the other rows are read, and the end
-rows_pass : (ws : List WrittenRow) (line : ℕ) (ns : List ℕ) (s : State) (p : Tree) (ds : List Declaration) (rs : List Row) → ended s ≡ Some p
+rows_pass : (ws : List WrittenRow) (line : ℕ) (ns : List ℕ) (s : State) (p : Tree) (ds : List Declaration) (rs : List Row) → policy_ended s ≡ Some p
     → finish (certify_all (spell_rows ws) (certifying (in_row line ns s) ds rs)) ≡ Some (certified ds ((rs ++ row ns p line ∷ []) ++ map row_of ws))
 rows_pass [] line ns s p ds rs e = ap (certificate_ends ds rs ns line) e ∙ ap (λ x. Some (certified ds x)) (sym (append-nil (rs ++ row ns p line ∷ [])))
 rows_pass (written_row l n ms q ∷ ws) line ns s p ds rs e =
     let more : List Terminal = number n ∷ ((spell_numbers ms ++ colon ∷ spell_pol q) ++ spell_rows ws) in
     let rs' : List Row = rs ++ row ns p line ∷ [] in
     let left = left_by q in
-    ap (λ o. finish (option_and_then (certify_all more) (row_on ds rs ns line o (ended s) (outside (row_word l))))) (outside_refused s.place s.frames s.terms s.factors (row_word l))
+    ap (λ o. finish (option_and_then (certify_all more) (row_on ds rs ns line o (policy_ended s) (outside (row_word l))))) (outside_refused s.place s.frames s.terms s.factors (row_word l))
     ∙ ap (λ o. finish (option_and_then (certify_all more) (row_done ds rs ns line o (outside (row_word l))))) e
     ∙ ap (λ x. finish (certify_all x (certifying (numbers_read l (n.value ∷ [])) ds rs'))) (append_assoc (spell_numbers ms) (colon ∷ spell_pol q) (spell_rows ws))
     ∙ ap finish (numbers_pass l (n.value ∷ []) ms ds rs' (colon ∷ (spell_pol q ++ spell_rows ws)))
-    ∙ ap finish (inside_row l (n.value ∷ map number_value ms) ds rs' (spell_pol q) (spell_rows ws) start left.0 left.1)
+    ∙ ap finish (inside_row l (n.value ∷ map number_value ms) ds rs' (spell_pol q) (spell_rows ws) first_state left.0 left.1)
     ∙ rows_pass ws l (n.value ∷ map number_value ms) left.0 (pol_tree q) ds rs' left.2
     ∙ ap (λ x. Some (certified ds x)) (append_assoc rs' (row (n.value ∷ map number_value ms) (pol_tree q) l ∷ []) (map row_of ws))
 
@@ -148,13 +148,13 @@ reads_certified ts c h = by_state (read_all (spell_file h.decls) first_reading) 
         ap (λ x. finish (certify_all x first_certifying)) h.tokens
         ∙ ap finish (declaring_inside (spell_file h.decls) (outside certificate_word ∷ spell_certificate h.line h.pred h.others) first_reading r [] f)
         ∙ ap (λ o. finish (option_and_then (certify_all (spell_certificate h.line h.pred h.others)) (certificate_begins [] o))) e
-        ∙ ap finish (inside_row h.line [] (map declared h.decls) [] (spell_pol h.pred) (spell_rows h.others) start left.0 left.1)
+        ∙ ap finish (inside_row h.line [] (map declared h.decls) [] (spell_pol h.pred) (spell_rows h.others) first_state left.0 left.1)
         ∙ rows_pass h.others h.line [] left.0 (pol_tree h.pred) (map declared h.decls) [] left.2
         ∙ ap (λ x. Some x) (sym h.value)
 
 -- the rows that are done, behind the word `certificate`
 abbrev AreRows : List Terminal → List Row → Type 0
-AreRows vs rows = (line : ℕ) × (p : Pol) × (ws : List WrittenRow) × (vs ≡ spell_certificate line p ws) × (rows ≡ rows_of line p ws)
+AreRows vs rows = (line : ℕ) × (p : Pol) × (ws : List WrittenRow) × (vs ≡ spell_certificate line p ws) × (rows ≡ rows_said line p ws)
 
 -- the tokens of a row up to the colon, behind the rows that are done
 abbrev IsStartHead : ℕ → List ℕ → List Row → List Terminal → Type 0
@@ -179,7 +179,7 @@ IsCertifiedSpelled (start_read line) rows us = (rows ≡ []) × (us ≡ outside 
 IsCertifiedSpelled (number_wanted line) rows us = (vs : List Terminal) × AreRows vs rows × (us ≡ vs ++ outside (row_word line) ∷ [])
 IsCertifiedSpelled (numbers_read line ns) rows us =
     (vs : List Terminal) × AreRows vs rows × (n : Number) × (ms : List Number) × (ns ≡ n.value ∷ map number_value ms) × (us ≡ vs ++ outside (row_word line) ∷ number n ∷ spell_numbers ms)
-IsCertifiedSpelled (in_row line ns s) rows us = (xs : List Terminal) × (ps : List Terminal) × (us ≡ xs ++ ps) × (run ps start ≡ Some s) × IsHead line ns rows xs
+IsCertifiedSpelled (in_row line ns s) rows us = (xs : List Terminal) × (ps : List Terminal) × (us ≡ xs ++ ps) × (run ps first_state ≡ Some s) × IsHead line ns rows xs
 
 -- the tokens so far are declarations, the word, and the tokens behind it
 abbrev IsBehindWord : List Terminal → CertifiedPhase → List Declaration → List Row → Type 0
@@ -302,7 +302,7 @@ row_leads (outside (row_word l)) ts f e = e l refl
 row_leads (outside start_word) ts f e = tt
 row_leads (outside no_terminal) ts f e = tt
 
--- where the word `start` is wanted
+-- where the word `first_state` is wanted
 start_leads : (t : Terminal) (ts : List Terminal) (c : Certifying) → (t ≡ outside start_word → CertifiedLeads (Some c) ts) → CertifiedLeads (if is_start_word t then Some c else None) ts
 start_leads (name x) ts c e = tt
 start_leads (number x) ts c e = tt
@@ -335,7 +335,7 @@ start_leads (outside start_word) ts c e = e refl
 start_leads (outside no_terminal) ts c e = tt
 
 -- where a colon may come
-colon_leads : (t : Terminal) (ts : List Terminal) (c : Certifying) (o : Option Certifying) → (t ≡ colon → CertifiedLeads (Some c) ts) → CertifiedLeads o ts → CertifiedLeads (if is_colon t then Some c else o) ts
+colon_leads : (t : Terminal) (ts : List Terminal) (c : Certifying) (o : Option Certifying) → (t ≡ colon → CertifiedLeads (Some c) ts) → CertifiedLeads o ts → CertifiedLeads (if is_colon_terminal t then Some c else o) ts
 colon_leads (name x) ts c o e f = f
 colon_leads (number x) ts c o e f = f
 colon_leads (tilde l) ts c o e f = f
@@ -431,18 +431,18 @@ declaring_leads r (Some s) rows ts t e h k =
 
 -- a row's policy goes on, or another row begins
 policy_leads : (ds : List Declaration) (rows : List Row) (line : ℕ) (ns : List ℕ) (s : State) (xs us vs ps ts : List Terminal) (t : Terminal)
-    → HasDeclarations xs ds → ts ≡ xs ++ outside certificate_word ∷ us → us ≡ vs ++ ps → run ps start ≡ Some s → IsHead line ns rows vs
-    → CertifiedLeads (row_on ds rows ns line (step s t) (ended s) t) (ts ++ t ∷ [])
+    → HasDeclarations xs ds → ts ≡ xs ++ outside certificate_word ∷ us → us ≡ vs ++ ps → run ps first_state ≡ Some s → IsHead line ns rows vs
+    → CertifiedLeads (row_on ds rows ns line (step s t) (policy_ended s) t) (ts ++ t ∷ [])
 policy_leads ds rows line ns s xs us vs ps ts t d e f g h = by_step (step s t) refl
   where
-    by_end : (o : Option Tree) → ended s ≡ o → CertifiedLeads (row_done ds rows ns line o t) (ts ++ t ∷ [])
+    by_end : (o : Option Tree) → policy_ended s ≡ o → CertifiedLeads (row_done ds rows ns line o t) (ts ++ t ∷ [])
     by_end None k = tt
     by_end (Some p) k =
-        let done = row_complete line ns rows vs ps p h (reads_only ps p (ap (option_and_then ended) g ∙ k)) in
+        let done = row_complete line ns rows vs ps p h (reads_only ps p (ap (option_and_then policy_ended) g ∙ k)) in
         row_leads t (ts ++ t ∷ []) (λ l. certifying (number_wanted l) ds (rows ++ row ns p line ∷ []))
         (λ l k. (xs, us ++ t ∷ [], d, same_text xs ts us (us ++ t ∷ []) t e refl, (vs ++ ps, done, behind us (vs ++ ps) t (outside (row_word l)) f k)))
 
-    by_step : (o : Option State) → step s t ≡ o → CertifiedLeads (row_on ds rows ns line o (ended s) t) (ts ++ t ∷ [])
+    by_step : (o : Option State) → step s t ≡ o → CertifiedLeads (row_on ds rows ns line o (policy_ended s) t) (ts ++ t ∷ [])
     by_step (Some s') k = (
       xs,
       us ++ t ∷ [],
@@ -452,11 +452,11 @@ policy_leads ds rows line ns s xs us vs ps ts t d e f g h = by_step (step s t) r
         vs,
         ps ++ t ∷ [],
         ap (λ x. x ++ t ∷ []) f ∙ append_assoc vs ps (t ∷ []),
-        run_append ps (t ∷ []) start ∙ ap (option_and_then (run (t ∷ []))) g ∙ ap (option_and_then (run [])) k,
+        run_append ps (t ∷ []) first_state ∙ ap (option_and_then (run (t ∷ []))) g ∙ ap (option_and_then (run [])) k,
         h,
       ),
     )
-    by_step None k = by_end (ended s) refl
+    by_step None k = by_end (policy_ended s) refl
 
 -- the tokens so far stay a front
 front_leads : (p : CertifiedPhase) (ds : List Declaration) (rows : List Row) (ts : List Terminal) (t : Terminal) → IsCertifiedFront ts p ds rows → CertifiedLeads (next_certifying p ds rows t) (ts ++ t ∷ [])
@@ -470,7 +470,7 @@ front_leads (start_wanted line) ds rows ts t h =
     start_leads t (ts ++ t ∷ []) (certifying (start_read line) ds rows)
     (λ e. (h.0, h.1 ++ t ∷ [], h.2, same_text h.0 ts h.1 (h.1 ++ t ∷ []) t h.3 refl, (h.4.0, behind h.1 (outside (row_word line) ∷ []) t (outside start_word) h.4.1 e)))
 front_leads (start_read line) ds rows ts t h =
-    colon_leads t (ts ++ t ∷ []) (certifying (in_row line [] start) ds rows) None
+    colon_leads t (ts ++ t ∷ []) (certifying (in_row line [] first_state) ds rows) None
     (λ e. (
       h.0,
       h.1 ++ t ∷ [],
@@ -489,7 +489,7 @@ front_leads (number_wanted line) ds rows ts t h =
     ))
 front_leads (numbers_read line ns) ds rows ts t h =
     let k : IsCertifiedSpelled (numbers_read line ns) rows h.1 = h.4 in
-    colon_leads t (ts ++ t ∷ []) (certifying (in_row line ns start) ds rows) (with_number t None (λ m. Some (certifying (numbers_read line (ns ++ m.value ∷ [])) ds rows)))
+    colon_leads t (ts ++ t ∷ []) (certifying (in_row line ns first_state) ds rows) (with_number t None (λ m. Some (certifying (numbers_read line (ns ++ m.value ∷ [])) ds rows)))
     (λ e. (
       h.0,
       h.1 ++ t ∷ [],
@@ -564,7 +564,7 @@ abbrev id_pol : Pol
 id_pol = one_term (one_factor (plain written_id))
 
 -- a start row of the shortest policy
-first_row : (line : ℕ) (us more : List Terminal) → us ++ more ≡ spell_certificate line id_pol [] → AreRows (us ++ more) (rows_of line id_pol [])
+first_row : (line : ℕ) (us more : List Terminal) → us ++ more ≡ spell_certificate line id_pol [] → AreRows (us ++ more) (rows_said line id_pol [])
 first_row line us more e = (line, id_pol, [], e, refl)
 
 -- equal tokens, and the same behind them
@@ -577,19 +577,19 @@ phase_completes (declaring r) ds rows ts h =
     let g = file_goes_on ts r h.0 in
     let tail : List Terminal = outside certificate_word ∷ spell_certificate 0 id_pol [] in (
       g.0 ++ tail,
-      certified (map declared g.1) (rows_of 0 id_pol []),
-      all_of (spell_file g.1) (ts ++ (g.0 ++ tail)) (spell_certificate 0 id_pol []) (map declared g.1) (rows_of 0 id_pol []) (g.1, refl, refl)
+      certified (map declared g.1) (rows_said 0 id_pol []),
+      all_of (spell_file g.1) (ts ++ (g.0 ++ tail)) (spell_certificate 0 id_pol []) (map declared g.1) (rows_said 0 id_pol []) (g.1, refl, refl)
           (sym (append_assoc ts g.0 tail) ∙ ap (λ x. x ++ tail) g.2) (0, id_pol, [], refl, refl),
     )
 phase_completes row_wanted ds rows ts h =
     let more : List Terminal = outside (row_word 0) ∷ outside start_word ∷ colon ∷ id_word ∷ [] in
-    completed h.0 ts h.1 more ds (rows_of 0 id_pol []) h.2 h.3 (first_row 0 h.1 more (goes_on_with h.1 [] more h.4.1))
+    completed h.0 ts h.1 more ds (rows_said 0 id_pol []) h.2 h.3 (first_row 0 h.1 more (goes_on_with h.1 [] more h.4.1))
 phase_completes (start_wanted line) ds rows ts h =
     let more : List Terminal = outside start_word ∷ colon ∷ id_word ∷ [] in
-    completed h.0 ts h.1 more ds (rows_of line id_pol []) h.2 h.3 (first_row line h.1 more (goes_on_with h.1 (outside (row_word line) ∷ []) more h.4.1))
+    completed h.0 ts h.1 more ds (rows_said line id_pol []) h.2 h.3 (first_row line h.1 more (goes_on_with h.1 (outside (row_word line) ∷ []) more h.4.1))
 phase_completes (start_read line) ds rows ts h =
     let more : List Terminal = colon ∷ id_word ∷ [] in
-    completed h.0 ts h.1 more ds (rows_of line id_pol []) h.2 h.3 (first_row line h.1 more (goes_on_with h.1 (outside (row_word line) ∷ outside start_word ∷ []) more h.4.1))
+    completed h.0 ts h.1 more ds (rows_said line id_pol []) h.2 h.3 (first_row line h.1 more (goes_on_with h.1 (outside (row_word line) ∷ outside start_word ∷ []) more h.4.1))
 phase_completes (number_wanted line) ds rows ts h =
     let k : IsCertifiedSpelled (number_wanted line) rows h.1 = h.4 in
     let w : WrittenRow = written_row line a_number [] id_pol in
@@ -624,16 +624,16 @@ phase_ends (start_wanted line) ds rows x ts h e = absurd (none_some x e)
 phase_ends (start_read line) ds rows x ts h e = absurd (none_some x e)
 phase_ends (number_wanted line) ds rows x ts h e = absurd (none_some x e)
 phase_ends (numbers_read line ns) ds rows x ts h e = absurd (none_some x e)
-phase_ends (in_row line ns s) ds rows x ts h e = by_end (ended s) refl e
+phase_ends (in_row line ns s) ds rows x ts h e = by_end (policy_ended s) refl e
   where
     same : {a b : Certified} → ◌≡◌ {A = Option Certified} (Some a) (Some b) → a ≡ b
     same e = cc
 
-    by_end : (o : Option Tree) → ended s ≡ o → certificate_ends ds rows ns line o ≡ Some x → HasCertificate ts x
+    by_end : (o : Option Tree) → policy_ended s ≡ o → certificate_ends ds rows ns line o ≡ Some x → HasCertificate ts x
     by_end None f e = absurd (none_some x e)
     by_end (Some p) f e =
         let k : IsCertifiedSpelled (in_row line ns s) rows h.1 = h.4 in
-        let done = row_complete line ns rows k.0 k.1 p k.4 (reads_only k.1 p (ap (option_and_then ended) k.3 ∙ f)) in
+        let done = row_complete line ns rows k.0 k.1 p k.4 (reads_only k.1 p (ap (option_and_then policy_ended) k.3 ∙ f)) in
         subst (HasCertificate ts) (same e)
         (all_of h.0 ts h.1 ds (rows ++ row ns p line ∷ []) h.2 h.3 (subst (λ y. AreRows y (rows ++ row ns p line ∷ [])) (sym k.2) done))
 

@@ -11,9 +11,9 @@ use Rattle.nk_grammar.specs.declared.place.QuadNext.TheVariants as next
 use Rattle.nk_grammar.specs.declared.decl.Completed.{Completed}
 use Rattle.nk_grammar.specs.declared.decl.Completed.TheVariants as completed
 use Rattle.nk_grammar.specs.declared.decl.GrammarError.TheVariants as error
-use Rattle.nk_grammar.specs.Terminal.{Terminal, name, number, tilde, opening, closing, plus_sign, semicolon, star_sign, equal, becomes, colon, fat_arrow, id_word, drop_word, dup_word, in_word, dots, outside, field_word, tag_word, switch_word, ports_word, link_word, let_word, arrow, comma, certificate_word, row_word, start_word, no_terminal, is_equal, is_colon, terminal_of}
+use Rattle.nk_grammar.specs.Terminal.{Terminal, name, number, tilde, opening, closing, plus_sign, semicolon, star_sign, equal, becomes, colon, fat_arrow, id_word, drop_word, dup_word, in_word, dots, outside, field_word, tag_word, switch_word, ports_word, link_word, let_word, arrow, comma, certificate_word, row_word, start_word, no_terminal, is_equal, is_colon_terminal, terminal_of}
 use Rattle.nk_grammar.specs.Tree.{Tree, dup}
-use Rattle.nk_grammar.specs.Machine.{State, start, step, ended, in_option, number_in, quad_step}
+use Rattle.nk_grammar.specs.Machine.{State, first_state, step, policy_ended, in_option, number_in, quad_step}
 use Rattle.nk_grammar.specs.File.{Declaration, IsWritten, declaration_of, field, tag, switch, declared_link, definition}
 use Rattle.nk_grammar.specs.FileMachine.{Phase, between, field_read, field_named, tag_read, switch_read, switch_numbered, port_wanted, port_read, link_read, let_read, let_named, in_policy, Reading, reading, name_in, is_ports, is_comma, by_name, begin_declaration, one_more, link_on, policy_on, next_reading, text_ended}
 use Rattle.nk_grammar.specs.Answer.{terminals}
@@ -193,8 +193,8 @@ declares (port_read n ps) ds t q h =
     (begun (one_more ds (switch n ps)) t (pushed ds (switch n ps) h tt))
 declares (link_read x) ds t q h = linked ds (quad_step false x t) h
 declares (let_read line) ds t q h = by_word (name_in t) (λ w. reading (let_named w line) ds) (λ w. h)
-declares (let_named w line) ds t q h = by_test (is_equal t) (Some (reading (in_policy w line start) ds)) None h tt
-declares (in_policy w line s) ds t q h = policy ds w line (step s t) (ended s) t h
+declares (let_named w line) ds t q h = by_test (is_equal t) (Some (reading (in_policy w line first_state) ds)) None h tt
+declares (in_policy w line s) ds t q h = policy ds w line (step s t) (policy_ended s) t h
 
 -- the positions that are read are numbers of a text
 abbrev HasSmallPositions : CertifiedPhase → Type 0
@@ -218,7 +218,7 @@ certificate_written rs ds (port_read n ps) h i = (pushed ds (switch n ps) h tt, 
 certificate_written rs ds (link_read q) h i = tt
 certificate_written rs ds (let_read line) h i = tt
 certificate_written rs ds (let_named w line) h i = tt
-certificate_written rs ds (in_policy w line s) h i = by_end (ended s)
+certificate_written rs ds (in_policy w line s) h i = by_end (policy_ended s)
   where
     by_end : (o : Option Tree) → OfState IsWrittenSoFar (certificate_begins rs (option_map (λ p. one_more ds (definition w p line)) o))
     by_end None = tt
@@ -244,16 +244,16 @@ numbers_kept row_wanted ds rs t q h = line_kept IsWrittenSoFar (row_in t) (λ l.
 numbers_kept (start_wanted line) ds rs t q h =
     test_kept IsWrittenSoFar (is_start_word t) (Some (certifying (start_read line) ds rs)) None (h.0, h.1, tt) tt
 numbers_kept (start_read line) ds rs t q h =
-    test_kept IsWrittenSoFar (is_colon t) (Some (certifying (in_row line [] start) ds rs)) None (h.0, h.1, All-nil (λ n. n ≤ largest)) tt
+    test_kept IsWrittenSoFar (is_colon_terminal t) (Some (certifying (in_row line [] first_state) ds rs)) None (h.0, h.1, All-nil (λ n. n ≤ largest)) tt
 numbers_kept (number_wanted line) ds rs t q h =
     number_kept IsWrittenSoFar (number_in t) (λ n. certifying (numbers_read line (n.value ∷ [])) ds rs)
     (λ n e. (h.0, h.1, All-cons (λ n. n ≤ largest) n.value [] (a_small_number t n e q) (All-nil (λ n. n ≤ largest))))
 numbers_kept (numbers_read line ns) ds rs t q h =
-    test_kept IsWrittenSoFar (is_colon t) (Some (certifying (in_row line ns start) ds rs))
+    test_kept IsWrittenSoFar (is_colon_terminal t) (Some (certifying (in_row line ns first_state) ds rs))
     (in_option (number_in t) None (λ m. Some (certifying (numbers_read line (ns ++ m.value ∷ [])) ds rs))) (h.0, h.1, h.2)
     (number_kept IsWrittenSoFar (number_in t) (λ m. certifying (numbers_read line (ns ++ m.value ∷ [])) ds rs)
     (λ m e. (h.0, h.1, All-push (λ n. n ≤ largest) ns m.value h.2 (a_small_number t m e q))))
-numbers_kept (in_row line ns s) ds rs t q h = row_written ds rs ns line (step s t) (ended s) t h.0 h.1 h.2
+numbers_kept (in_row line ns s) ds rs t q h = row_written ds rs ns line (step s t) (policy_ended s) t h.0 h.1 h.2
 
 -- ---- the start row
 
@@ -298,16 +298,16 @@ start_kept (declaring r) ds rs t q h =
 start_kept row_wanted ds rs t q h = line_kept IsStarted (row_in t) (λ l. certifying (start_wanted l) ds rs) (λ l. h)
 start_kept (start_wanted line) ds rs t q h = test_kept IsStarted (is_start_word t) (Some (certifying (start_read line) ds rs)) None h tt
 start_kept (start_read line) ds rs t q h =
-    test_kept IsStarted (is_colon t) (Some (certifying (in_row line [] start) ds rs)) None
+    test_kept IsStarted (is_colon_terminal t) (Some (certifying (in_row line [] first_state) ds rs)) None
     (λ p. subst (λ l. HasStart (l ++ row [] p line ∷ [])) (sym h) refl) tt
 start_kept (number_wanted line) ds rs t q h =
     number_kept IsStarted (number_in t) (λ n. certifying (numbers_read line (n.value ∷ [])) ds rs) (λ n e. h)
 start_kept (numbers_read line ns) ds rs t q h =
-    test_kept IsStarted (is_colon t) (Some (certifying (in_row line ns start) ds rs))
+    test_kept IsStarted (is_colon_terminal t) (Some (certifying (in_row line ns first_state) ds rs))
     (in_option (number_in t) None (λ m. Some (certifying (numbers_read line (ns ++ m.value ∷ [])) ds rs)))
     (λ p. has_start_with rs (row ns p line ∷ []) h)
     (number_kept IsStarted (number_in t) (λ m. certifying (numbers_read line (ns ++ m.value ∷ [])) ds rs) (λ m e. h))
-start_kept (in_row line ns s) ds rs t q h = row_started ds rs ns line (step s t) (ended s) t h
+start_kept (in_row line ns s) ds rs t q h = row_started ds rs ns line (step s t) (policy_ended s) t h
 
 -- what is done begins with the start row
 begins_with : (rs : List Row) → HasStart rs → BeginsWithStart rs

@@ -12,7 +12,7 @@ use Rattle.nk_grammar.specs.declared.place.QuadNext.TheVariants as next
 use Rattle.nk_grammar.specs.Terminal.{Terminal, name, number, tilde, opening, closing, plus_sign, semicolon, star_sign, equal, becomes, colon, fat_arrow, id_word, drop_word, dup_word, in_word, dots, outside, is_equal, is_in_word, is_dots, is_becomes}
 use Rattle.nk_grammar.specs.Tree.{Tree, Trees, name_of, test, range, assign, no_part, with_part, sum_from, seq_from}
 use Rattle.nk_grammar.specs.Grammar.{Pol, Term, Factor, Atom, one_term, plus, one_factor, semi, plain, starred, written_not, written_id, written_drop, written_dup, written_name, written_test, written_range, written_set, written_link, paren, spell_pol, spell_term, spell_factor, spell_atom, terms_of, factors_of, factor_tree, atom_tree, HasTree, PolicyGoesOn}
-use Rattle.nk_grammar.specs.Machine.{Open, group, negation, State, state, start, atom_ended, joined, close, with_number, quad_step, begin, linked, step, run, settled, ended, done}
+use Rattle.nk_grammar.specs.Machine.{Open, group, negation, State, state, first_state, atom_ended, terms_joined, close, with_number, quad_step, begin, linked, step, run, settled, policy_ended, done}
 use Rattle.nk_grammar.proofs.Spelled.{has_star, one_star, reads, step_atom}
 use Rattle.nk_grammar.proofs.Links.{spell_quad, IsQuadSpelledWith, quad_spell}
 
@@ -243,7 +243,7 @@ some e = ap (λ z. Some z) e
 
 -- the machine closes a parenthesis alike
 close_state : (o : Outer) (sp : Option Pol) (st : Option Term) (f : Factor)
-    → close (outer_frames o) (joined (done_terms sp) (with_part (done_factors st) (factor_tree f))) ≡ option_map state_of (closed o (all_of sp st f))
+    → close (outer_frames o) (terms_joined (done_terms sp) (with_part (done_factors st) (factor_tree f))) ≡ option_map state_of (closed o (all_of sp st f))
 close_state outermost sp st f = refl
 close_state (in_group c) sp st f =
     some (ap (λ x. atom_ended (sum_from x) (frames_of c) (before_terms c) (before_factors c)) (all_terms sp st f) ∙ sym (fill_state c (paren (all_of sp st f))))
@@ -677,16 +677,16 @@ abbrev pub at_start : Front
 at_start = wants (layer outermost None None)
 
 -- tokens that the machine takes are the front of a policy
-pub goes_on : (ts : List Terminal) (s : State) → run ts start ≡ Some s → PolicyGoesOn ts
+pub goes_on : (ts : List Terminal) (s : State) → run ts first_state ≡ Some s → PolicyGoesOn ts
 goes_on ts s e =
     let r = reached ts at_start s e in
     subst Completes r.1 (complete r.0)
 
 -- and those that it refuses are none
-pub stops : (ts : List Terminal) → run ts start ≡ None → PolicyGoesOn ts → ⊥
+pub stops : (ts : List Terminal) → run ts first_state ≡ None → PolicyGoesOn ts → ⊥
 stops ts e g =
-    let refused : run (ts ++ g.0) start ≡ None = run_append ts g.0 start ∙ ap (option_and_then (run g.0)) e in
-    none_some _ (ap (option_map settled) (sym refused) ∙ ap (λ x. option_map settled (run x start)) g.2 ∙ reads g.1)
+    let refused : run (ts ++ g.0) first_state ≡ None = run_append ts g.0 first_state ∙ ap (option_and_then (run g.0)) e in
+    none_some _ (ap (option_map settled) (sym refused) ∙ ap (λ x. option_map settled (run x first_state)) g.2 ∙ reads g.1)
 
 -- values that are there and equal are equal
 some_same : {A : Type 0} (x y : A) → ◌≡◌ {A = Option A} (Some x) (Some y) → x ≡ y
@@ -707,7 +707,7 @@ filled_ends (layer o sp st) a t e = standing_ends o sp st (plain a) t e
 filled_ends (negated c line) a t e = filled_ends c (written_not line a) t e
 
 -- a front that may end is a policy
-front_ends : (p : Front) (t : Tree) → ended (state_of p) ≡ Some t → HasTree (spell_front p) t
+front_ends : (p : Front) (t : Tree) → policy_ended (state_of p) ≡ Some t → HasTree (spell_front p) t
 front_ends (wants c) t e = absurd (none_some t e)
 front_ends (tested c w) t e = absurd (none_some t e)
 front_ends (ranged c w) t e = absurd (none_some t e)
@@ -720,12 +720,12 @@ front_ends (named c w) t e =
     subst (λ ts. HasTree ts t) (fill_spell c (written_name w)) (filled_ends c (written_name w) t (ap done (fill_state c (written_name w)) ∙ e))
 
 -- what the machine reads as a policy is one
-pub reads_only : (ts : List Terminal) (t : Tree) → option_and_then ended (run ts start) ≡ Some t
+pub reads_only : (ts : List Terminal) (t : Tree) → option_and_then policy_ended (run ts first_state) ≡ Some t
     → HasTree ts t
-reads_only ts t e = by_state (run ts start) refl e
+reads_only ts t e = by_state (run ts first_state) refl e
   where
-    by_state : (o : Option State) → run ts start ≡ o → option_and_then ended o ≡ Some t → HasTree ts t
+    by_state : (o : Option State) → run ts first_state ≡ o → option_and_then policy_ended o ≡ Some t → HasTree ts t
     by_state None f e = absurd (none_some t e)
     by_state (Some s) f e =
         let r = reached ts at_start s f in
-        subst (λ x. HasTree x t) r.1 (front_ends r.0 t (ap ended (sym r.2) ∙ e))
+        subst (λ x. HasTree x t) r.1 (front_ends r.0 t (ap policy_ended (sym r.2) ∙ e))

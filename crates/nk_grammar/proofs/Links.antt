@@ -6,7 +6,7 @@ use Rattle.nk_grammar.specs.declared.place.Quad.{Quad}
 use Rattle.nk_grammar.specs.declared.place.Quad.TheVariants as quad
 use Rattle.nk_grammar.specs.declared.place.QuadNext.{QuadNext}
 use Rattle.nk_grammar.specs.declared.place.QuadNext.TheVariants as next
-use Rattle.nk_grammar.specs.Terminal.{Terminal, name, number, tilde, opening, closing, plus_sign, semicolon, star_sign, equal, becomes, colon, fat_arrow, id_word, drop_word, dup_word, in_word, dots, outside, is_colon, is_link_sign, field_word, tag_word, switch_word, ports_word, link_word, let_word, arrow, comma, certificate_word, row_word, start_word, no_terminal}
+use Rattle.nk_grammar.specs.Terminal.{Terminal, name, number, tilde, opening, closing, plus_sign, semicolon, star_sign, equal, becomes, colon, fat_arrow, id_word, drop_word, dup_word, in_word, dots, outside, is_colon_terminal, is_link_sign, field_word, tag_word, switch_word, ports_word, link_word, let_word, arrow, comma, certificate_word, row_word, start_word, no_terminal}
 use Rattle.nk_grammar.specs.Machine.{with_number, quad_step}
 
 -- the sign between the two ends of a link
@@ -60,7 +60,7 @@ number_quad literal (outside z) ts h e = tt
 -- where a link wants a colon, it has it
 colon_quad : (literal : Bool) (t : Terminal) (ts : List Terminal) (q : Quad)
     → spell_quad literal q ≡ ts ++ colon ∷ []
-    → IsQuadSpelledWith literal ts t (if is_colon t then next.Going q else next.Refused)
+    → IsQuadSpelledWith literal ts t (if is_colon_terminal t then next.Going q else next.Refused)
 colon_quad literal (name x) ts q e = tt
 colon_quad literal (number x) ts q e = tt
 colon_quad literal (tilde l) ts q e = tt

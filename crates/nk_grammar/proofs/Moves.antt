@@ -13,9 +13,9 @@ use Rattle.nk_grammar.specs.declared.place.Quad.{Quad}
 use Rattle.nk_grammar.specs.declared.place.Quad.TheVariants as quad
 use Rattle.nk_grammar.specs.declared.place.QuadNext.{QuadNext}
 use Rattle.nk_grammar.specs.declared.place.QuadNext.TheVariants as next
-use Rattle.nk_grammar.specs.Terminal.{Terminal, Outside, name, number, tilde, opening, closing, plus_sign, semicolon, star_sign, equal, becomes, colon, fat_arrow, id_word, drop_word, dup_word, in_word, dots, outside, let_word, row_word, terminal_from, terminal_of, is_equal, is_in_word, is_dots, is_becomes, is_colon, is_link_sign}
+use Rattle.nk_grammar.specs.Terminal.{Terminal, Outside, name, number, tilde, opening, closing, plus_sign, semicolon, star_sign, equal, becomes, colon, fat_arrow, id_word, drop_word, dup_word, in_word, dots, outside, let_word, row_word, terminal_from, terminal_of, is_equal, is_in_word, is_dots, is_becomes, is_colon_terminal, is_link_sign}
 use Rattle.nk_grammar.specs.Tree.{Tree, Trees, name_of, test, range, assign, sum_of, seq_of, not_of, dup, link, no_part, part, with_part, with_star, sum_from, seq_from}
-use Rattle.nk_grammar.specs.Machine.{Open, group, negation, State, state, atom_ended, joined, close, number_in, in_option, with_number, quad_step, begin, go_on, linked, step_done, go_on_from, step_at, step, settled_at, settled, done_at, done, ended}
+use Rattle.nk_grammar.specs.Machine.{Open, group, negation, State, state, atom_ended, terms_joined, close, number_in, in_option, with_number, quad_step, begin, after_factor, linked, step_done, go_on_from, step_at, step, settled_at, settled, done_at, done, policy_ended}
 use Rattle.nk_grammar.specs.Moved.{word_moved, number_moved, tree_moved, trees_moved}
 
 module _ (lines : ℕ) where
@@ -216,7 +216,7 @@ module _ (lines : ℕ) where
   becomes_moves dots = refl
   becomes_moves (outside z) = refl
 
-  pub colon_moves : (t : Terminal) → is_colon (terminal_moved t) ≡ is_colon t
+  pub colon_moves : (t : Terminal) → is_colon_terminal (terminal_moved t) ≡ is_colon_terminal t
   colon_moves (name w) = refl
   colon_moves (number n) = refl
   colon_moves (tilde l) = refl
@@ -284,7 +284,7 @@ module _ (lines : ℕ) where
   seq_moves (part t no_part) = refl
   seq_moves (part t (part u us)) = refl
 
-  joined_moves : (ts us : Trees) → joined (trees_moved lines ts) (trees_moved lines us) ≡ tree_moved lines (joined ts us)
+  joined_moves : (ts us : Trees) → terms_joined (trees_moved lines ts) (trees_moved lines us) ≡ tree_moved lines (terms_joined ts us)
   joined_moves ts us =
       ap (λ x. sum_from (with_part (trees_moved lines ts) x)) (seq_moves us)
       ∙ ap sum_from (part_moves ts (seq_from us))
@@ -330,11 +330,11 @@ module _ (lines : ℕ) where
 
   quad_moves : (q : Quad) (t : Terminal) → quad_step true (quad_moved q) (terminal_moved t) ≡ next_moved (quad_step true q t)
   quad_moves quad.Start t = with_number_moves t next_moved next.Refused _ _ refl (λ n. refl)
-  quad_moves (quad.Switch a) t = if_moves (is_colon t) _ next_moved _ next.Refused _ _ (colon_moves t) refl refl
+  quad_moves (quad.Switch a) t = if_moves (is_colon_terminal t) _ next_moved _ next.Refused _ _ (colon_moves t) refl refl
   quad_moves (quad.SwitchColon a) t = with_number_moves t next_moved next.Refused _ _ refl (λ n. refl)
   quad_moves (quad.Port a m) t = if_moves (is_link_sign true t) _ next_moved _ next.Refused _ _ (between_moves t) refl refl
   quad_moves (quad.Arrow a m) t = with_number_moves t next_moved next.Refused _ _ refl (λ n. refl)
-  quad_moves (quad.ToSwitch a m b) t = if_moves (is_colon t) _ next_moved _ next.Refused _ _ (colon_moves t) refl refl
+  quad_moves (quad.ToSwitch a m b) t = if_moves (is_colon_terminal t) _ next_moved _ next.Refused _ _ (colon_moves t) refl refl
   quad_moves (quad.ToColon a m b) t = with_number_moves t next_moved next.Refused _ _ refl (λ n. refl)
 
   linked_moves : (fs : List Open) (ts us : Trees) (q : QuadNext)
@@ -365,12 +365,12 @@ module _ (lines : ℕ) where
   begin_moves fs ts us (outside z) = refl
 
   go_on_moves : (b : Bool) (fs : List Open) (ts us : Trees) (t : Terminal)
-      → go_on b (map open_moved fs) (trees_moved lines ts) (trees_moved lines us) (terminal_moved t) ≡ option_map state_moved (go_on b fs ts us t)
+      → after_factor b (map open_moved fs) (trees_moved lines ts) (trees_moved lines us) (terminal_moved t) ≡ option_map state_moved (after_factor b fs ts us t)
   go_on_moves b fs ts us (name w) = refl
   go_on_moves b fs ts us (number n) = refl
   go_on_moves b fs ts us (tilde l) = refl
   go_on_moves b fs ts us opening = refl
-  go_on_moves b fs ts us closing = ap (close (map open_moved fs)) (joined_moves ts us) ∙ close_moves fs (joined ts us)
+  go_on_moves b fs ts us closing = ap (close (map open_moved fs)) (joined_moves ts us) ∙ close_moves fs (terms_joined ts us)
   go_on_moves b fs ts us plus_sign = ap (λ x. Some (state place.Want (map open_moved fs) x no_part)) (ap (λ x. with_part (trees_moved lines ts) x) (seq_moves us) ∙ part_moves ts (seq_from us))
   go_on_moves b fs ts us semicolon = refl
   go_on_moves b fs ts us star_sign = ap (λ x. Some (state (place.After true) (map open_moved fs) (trees_moved lines ts) x)) (star_if b us)
@@ -455,9 +455,9 @@ module _ (lines : ℕ) where
   at_end_moves (place.After b) (f ∷ fs) t = refl
 
   -- the end
-  pub end_moves : (s : State) → ended (state_moved s) ≡ option_map (tree_moved lines) (ended s)
+  pub end_moves : (s : State) → policy_ended (state_moved s) ≡ option_map (tree_moved lines) (policy_ended s)
   end_moves s =
       let z : State = settled s in
       ap done (settled_moves s)
       ∙ ap (done_at (place_moved z.place) (map open_moved z.frames)) (joined_moves z.terms z.factors)
-      ∙ at_end_moves z.place z.frames (joined z.terms z.factors)
+      ∙ at_end_moves z.place z.frames (terms_joined z.terms z.factors)

@@ -10,7 +10,7 @@ use Rattle.nk_grammar.specs.declared.place.Place.TheVariants as place
 use Rattle.nk_grammar.specs.Terminal.{Terminal, name, equal, outside, let_word, plus_sign, semicolon, star_sign, closing, terminal_of}
 use Rattle.nk_grammar.specs.Tree.{Tree, Trees, name_of, no_part, with_part, sum_from}
 use Rattle.nk_grammar.specs.Grammar.{Pol, Term, Factor, Atom, one_term, plus, one_factor, semi, plain, starred, written_not, written_id, written_drop, written_dup, written_name, written_test, written_range, written_set, written_link, paren, spell_pol, spell_term, spell_factor, spell_atom, terms_of, factors_of, factor_tree, atom_tree, pol_tree}
-use Rattle.nk_grammar.specs.Machine.{Open, group, negation, State, state, start, atom_ended, run, step, ended, HasNoNegation}
+use Rattle.nk_grammar.specs.Machine.{Open, group, negation, State, state, first_state, atom_ended, run, step, policy_ended, HasNoNegation}
 use Rattle.nk_grammar.specs.File.{definition}
 use Rattle.nk_grammar.specs.FileMachine.{Reading, reading, let_read, let_named, in_policy, judged, policy_on, open_count, read_one, first_reading, one_more, ended_at, rest_of_file, file_of}
 use Rattle.nk_grammar.specs.Answer.{terminals}
@@ -105,7 +105,7 @@ no_tree t e = absurd cc
 
 -- the tokens of a policy that isn't nested too deep
 policy_read : (ts : List Token) (s : State) (w : Word) (line at : ℕ) (t : Tree) → Low 256 (terminals ts) s
-    → option_and_then ended (run (terminals ts) s) ≡ Some t
+    → option_and_then policy_ended (run (terminals ts) s) ≡ Some t
     → rest_of_file ts (reading (in_policy w line s) []) at ≡ Ok (definition w t line ∷ [])
 policy_read [] s w line at t low e =
     ap (λ o. ended_at at (option_map (λ p. one_more [] (definition w p line)) o)) e
@@ -117,13 +117,13 @@ policy_read (x ∷ xs) s w line at t low e =
     low_now (y ∷ ys) s' l = l.0
 
     by_step : (o : Option State) → step s (terminal_of x) ≡ o → IfSome o (λ s'. Low 256 (terminals xs) s')
-        → option_and_then ended (option_and_then (run (terminals xs)) o) ≡ Some t
-        → ((s' : State) → Low 256 (terminals xs) s' → option_and_then ended (run (terminals xs) s') ≡ Some t → rest_of_file xs (reading (in_policy w line s') []) x.line ≡ Ok (definition w t line ∷ []))
+        → option_and_then policy_ended (option_and_then (run (terminals xs)) o) ≡ Some t
+        → ((s' : State) → Low 256 (terminals xs) s' → option_and_then policy_ended (run (terminals xs) s') ≡ Some t → rest_of_file xs (reading (in_policy w line s') []) x.line ≡ Ok (definition w t line ∷ []))
         → rest_of_file (x ∷ xs) (reading (in_policy w line s) []) at ≡ Ok (definition w t line ∷ [])
     by_step None f l e' more = no_tree t e'
     by_step (Some s') f l e' more =
         one_step x (terminal_of x) (reading (in_policy w line s) []) (reading (in_policy w line s') []) xs at refl
-        (ap (λ o. policy_on w line [] o (ended s) (terminal_of x)) f) (low_now xs s' l)
+        (ap (λ o. policy_on w line [] o (policy_ended s) (terminal_of x)) f) (low_now xs s' l)
         ∙ more s' l e'
 
 -- the tokens of a `let` that isn't nested too deep
@@ -136,9 +136,9 @@ lets_read (a ∷ (b ∷ [])) line w p e le = absurd cc
 lets_read (a ∷ (b ∷ (c ∷ ts))) line w p e le =
     one_step a (outside (let_word line)) first_reading (reading (let_read line) []) (b ∷ (c ∷ ts)) 1 (first _ _ _ _ e) refl (omega arith)
     ∙ one_step b (name w) (reading (let_read line) []) (reading (let_named w line) []) (c ∷ ts) a.line (first _ _ _ _ (rest _ _ _ _ e)) refl (omega arith)
-    ∙ one_step c equal (reading (let_named w line) []) (reading (in_policy w line start) []) ts b.line (first _ _ _ _ (rest _ _ _ _ (rest _ _ _ _ e))) refl (omega arith)
-    ∙ policy_read ts start w line c.line (pol_tree p)
-    (subst (λ l. Low 256 l start) (append-nil (spell_pol p) ∙ sym same) (pol_low 256 p [] [] (λ t ts us. refl) tt (omega arith) (omega arith)))
+    ∙ one_step c equal (reading (let_named w line) []) (reading (in_policy w line first_state) []) ts b.line (first _ _ _ _ (rest _ _ _ _ (rest _ _ _ _ e))) refl (omega arith)
+    ∙ policy_read ts first_state w line c.line (pol_tree p)
+    (subst (λ l. Low 256 l first_state) (append-nil (spell_pol p) ∙ sym same) (pol_low 256 p [] [] (λ t ts us. refl) tt (omega arith) (omega arith)))
     (reads_tree (terminals ts) (pol_tree p) (p, same, refl))
   where
     first : (x y : Terminal) (xs ys : List Terminal) → x ∷ xs ≡ y ∷ ys → x ≡ y

@@ -10,11 +10,11 @@ use Rattle.nk_grammar.specs.declared.place.Place.TheVariants as place
 use Rattle.nk_grammar.specs.Terminal.{Terminal, number, colon, outside, certificate_word, row_word, terminal_of}
 use Rattle.nk_grammar.specs.Tree.{Tree}
 use Rattle.nk_grammar.specs.Grammar.{Pol, spell_pol, pol_tree}
-use Rattle.nk_grammar.specs.Machine.{State, state, start, step, run, ended}
+use Rattle.nk_grammar.specs.Machine.{State, state, first_state, step, run, policy_ended}
 use Rattle.nk_grammar.specs.File.{Declaration}
 use Rattle.nk_grammar.specs.Answer.{terminals}
 use Rattle.nk_grammar.specs.Nesting.{nesting_of_pol}
-use Rattle.nk_grammar.specs.Certified.{Row, row, WrittenRow, written_row, spell_numbers, spell_rows, spell_certificate, rows_of, Certified, certified}
+use Rattle.nk_grammar.specs.Certified.{Row, row, WrittenRow, written_row, spell_numbers, spell_rows, spell_certificate, rows_said, Certified, certified}
 use Rattle.nk_grammar.specs.CertifiedMachine.{in_row, numbers_read, Certifying, certifying, row_done, row_on, certify_one, certify_all, first_certifying, certified_at_end, open_certified, judged_certified, certified_end_at, rest_of_certified, certified_of}
 use Rattle.nk_grammar.specs.Moved.{nesting_of_row}
 use Rattle.nk_grammar.proofs.Files.{within}
@@ -69,7 +69,7 @@ policy_low line ns ds rs (x ∷ xs) r s s' low e more =
   where
     by_step : (o : Option State) → IfSome o (λ q. Low 256 (xs ++ r) q) → option_and_then (run xs) o ≡ Some s'
         → ((q : State) → Low 256 (xs ++ r) q → run xs q ≡ Some s' → LowRows (xs ++ r) (certifying (in_row line ns q) ds rs))
-        → IfSome (row_on ds rs ns line o (ended s) x) (λ d. LowRows (xs ++ r) d)
+        → IfSome (row_on ds rs ns line o (policy_ended s) x) (λ d. LowRows (xs ++ r) d)
     by_step None l f go = nothing s' f
     by_step (Some q) l f go = go q l f
 
@@ -91,17 +91,17 @@ rows_refused (written_row l n ms q ∷ ws) p = (omega arith, tt)
 
 -- a row's policy, with the rows behind it
 row_low : (p : Pol) (ws : List WrittenRow) (line : ℕ) (ns : List ℕ) (ds : List Declaration) (rs : List Row) → nesting_of_pol p ≤ 256
-    → ((s : State) → ended s ≡ Some (pol_tree p) → length s.frames ≤ 256 → LowRows (spell_rows ws) (certifying (in_row line ns s) ds rs))
-    → LowRows (spell_pol p ++ spell_rows ws) (certifying (in_row line ns start) ds rs)
+    → ((s : State) → policy_ended s ≡ Some (pol_tree p) → length s.frames ≤ 256 → LowRows (spell_rows ws) (certifying (in_row line ns s) ds rs))
+    → LowRows (spell_pol p ++ spell_rows ws) (certifying (in_row line ns first_state) ds rs)
 row_low p ws line ns ds rs le more =
     let left = left_by p in
-    policy_low line ns ds rs (spell_pol p) (spell_rows ws) start left.0
+    policy_low line ns ds rs (spell_pol p) (spell_rows ws) first_state left.0
     (pol_low 256 p [] (spell_rows ws) (λ t ts us. refl) (rows_free ws) (omega arith) (rows_refused ws p))
     left.1 (λ few. more left.0 left.2 few)
 
 -- the rows behind a row's policy
 rows_low : (ws : List WrittenRow) (line : ℕ) (ns : List ℕ) (s : State) (p : Tree) (ds : List Declaration) (rs : List Row)
-    → ended s ≡ Some p → length s.frames ≤ 256 → All (λ w. nesting_of_row w ≤ 256) ws
+    → policy_ended s ≡ Some p → length s.frames ≤ 256 → All (λ w. nesting_of_row w ≤ 256) ws
     → LowRows (spell_rows ws) (certifying (in_row line ns s) ds rs)
 rows_low [] line ns s p ds rs e le all = le
 rows_low (written_row l n ms q ∷ ws) line ns s p ds rs e le all =
@@ -110,7 +110,7 @@ rows_low (written_row l n ms q ∷ ws) line ns s p ds rs e le all =
     let done : List Row = rs ++ row ns p line ∷ [] in
     let nested : nesting_of_pol q ≤ 256 = all 0 (written_row l n ms q) (omega arith) in (
       le,
-      subst (λ o. IfSome (row_on ds rs ns line o (ended s) word) (λ d. LowRows behind d))
+      subst (λ o. IfSome (row_on ds rs ns line o (policy_ended s) word) (λ d. LowRows behind d))
           (sym (outside_refused s.place s.frames s.terms s.factors (row_word l)))
           (subst (λ o. IfSome (row_done ds rs ns line o word) (λ d. LowRows behind d)) (sym e) (
             omega arith,
@@ -126,9 +126,9 @@ rows_low (written_row l n ms q ∷ ws) line ns s p ds rs e le all =
 -- the tokens of a certificate that isn't nested too deep
 pub certificates_read : (us : List Token) (line : ℕ) (p : Pol) (ws : List WrittenRow)
     → terminals us ≡ outside certificate_word ∷ spell_certificate line p ws
-    → nesting_of_pol p ≤ 256 → All (λ w. nesting_of_row w ≤ 256) ws → certified_of us ≡ Ok (certified [] (rows_of line p ws))
+    → nesting_of_pol p ≤ 256 → All (λ w. nesting_of_row w ≤ 256) ws → certified_of us ≡ Ok (certified [] (rows_said line p ws))
 certificates_read us line p ws e le all =
-    let x : Certified = certified [] (rows_of line p ws) in
+    let x : Certified = certified [] (rows_said line p ws) in
     let low : LowRows (outside certificate_word ∷ spell_certificate line p ws) first_certifying = (
       omega arith,
       (

@@ -11,16 +11,16 @@ use Rattle.nk_grammar.specs.declared.decl.GrammarError.{GrammarError}
 use Rattle.nk_grammar.specs.declared.decl.GrammarError.TheVariants as error
 use Rattle.nk_grammar.specs.declared.certified.CertifiedStage.{CertifiedStage}
 use Rattle.nk_grammar.specs.declared.certified.CertifiedStage.TheVariants as stage
-use Rattle.nk_grammar.specs.Terminal.{Terminal, terminal_of, is_colon}
+use Rattle.nk_grammar.specs.Terminal.{Terminal, terminal_of, is_colon_terminal}
 use Rattle.nk_grammar.specs.Tree.{Tree}
-use Rattle.nk_grammar.specs.Machine.{State, start, step, ended, in_option, number_in}
+use Rattle.nk_grammar.specs.Machine.{State, first_state, step, policy_ended, in_option, number_in}
 use Rattle.nk_grammar.specs.File.{Declaration}
 use Rattle.nk_grammar.specs.FileMachine.{Phase, Reading, Returns, next_reading, text_ended}
 use Rattle.nk_grammar.specs.Certified.{Row, row, row_value, Certified, certified}
 use Rattle.nk_grammar.specs.CertifiedMachine.{CertifiedPhase, declaring, row_wanted, start_wanted, start_read, number_wanted, numbers_read, in_row, Certifying, certifying, is_certificate, is_start_word, row_in, in_line, certificate_begins, still_declaring, row_on, certify_one, first_certifying, certificate_ends, open_certified, judged_certified, certified_end_at, rest_of_certified, certified_of}
 use Rattle.nk_grammar.specs.FileReader.{phase_in}
 use Rattle.nk_grammar.specs.Reader.{reader_state}
-use Rattle.nk_grammar.specs.CertifiedReader.{certified_phase_of, progress_of, Takes}
+use Rattle.nk_grammar.specs.CertifiedReader.{certified_phase_of, progress_of, TakesToken}
 use Rattle.nk_grammar.specs.declared.decl.Completed.{Completed}
 use Rattle.nk_grammar.specs.declared.certified_reader.Known.{Known}
 use Rattle.nk_grammar.specs.declared.certified_reader.Known.TheVariants as known
@@ -41,7 +41,7 @@ at_done (stage.InRow l ns) p s ds rs line = refl
 -- ---- what a reader takes
 
 -- a token is taken
-pub takes_on : (k j : Known) (t : Token) (o : Option Completed) (line : ℕ) → Takes k j t (Ok o)
+pub takes_on : (k j : Known) (t : Token) (o : Option Completed) (line : ℕ) → TakesToken k j t (Ok o)
     → so_far_after (so_far (progress_of k line) [] []) t ≡ so_far (progress_of j t.line) (declarations_by o) (rows_by o)
 takes_on (known.Sound r) (known.Sound s) t o line h =
     ap (λ x. so_far_judged x (so_far (progress_of (known.Sound r) line) [] []) t.line) h.0
@@ -54,7 +54,7 @@ takes_on (known.Stopped e) j t o line h =
     same o e = cc
 
 -- a token has a fault
-pub takes_fault : (k j : Known) (t : Token) (e : GrammarError) (line : ℕ) → (e ≡ error.NoMemory → ⊥) → Takes k j t (Err e)
+pub takes_fault : (k j : Known) (t : Token) (e : GrammarError) (line : ℕ) → (e ≡ error.NoMemory → ⊥) → TakesToken k j t (Err e)
     → so_far_after (so_far (progress_of k line) [] []) t ≡ so_far (Stopped e) [] []
 takes_fault (known.Sound r) (known.Sound s) t error.NoMemory line n h = absurd (n refl)
 takes_fault (known.Sound r) (known.Sound s) t (error.Unexpected at) line n h =
@@ -69,7 +69,7 @@ takes_fault (known.Stopped f) j t e line n h = absurd (differ h.1)
 
 -- behind a fault nothing is taken
 pub takes_nothing : (k j : Known) (t : Token) (r : Result (Option Completed) GrammarError) (line at : ℕ) → IsStopped (progress_of k line)
-    → Takes k j t r → (r ≡ Ok None) × (progress_of j at ≡ progress_of k line)
+    → TakesToken k j t r → (r ≡ Ok None) × (progress_of j at ≡ progress_of k line)
 takes_nothing (known.Sound r) j t x line at i h = absurd (differ i)
   where
     differ : false ≡ true → ⊥
@@ -77,14 +77,14 @@ takes_nothing (known.Sound r) j t x line at i h = absurd (differ i)
 takes_nothing (known.Stopped e) j t r line at i h = (h.1, ap (λ x. progress_of x at) h.0)
 
 -- and there is no further one
-pub no_fault_behind : (k j : Known) (t : Token) (e : GrammarError) (line : ℕ) → IsStopped (progress_of k line) → Takes k j t (Err e) → ⊥
+pub no_fault_behind : (k j : Known) (t : Token) (e : GrammarError) (line : ℕ) → IsStopped (progress_of k line) → TakesToken k j t (Err e) → ⊥
 no_fault_behind k j t e line i h = differ (takes_nothing k j t (Err e) line line i h).0
   where
     differ : ◌≡◌ {A = Result (Option Completed) GrammarError} (Err e) (Ok None) → ⊥
     differ i = cc
 
 -- without memory nothing changes
-pub takes_no_memory : (k j : Known) (t : Token) (line : ℕ) → Takes k j t (Err error.NoMemory) → progress_of j line ≡ progress_of k line
+pub takes_no_memory : (k j : Known) (t : Token) (line : ℕ) → TakesToken k j t (Err error.NoMemory) → progress_of j line ≡ progress_of k line
 takes_no_memory (known.Sound r) (known.Sound s) t line h = ap (λ x. Going x line) h.1
 takes_no_memory (known.Sound r) (known.Stopped e) t line h = absurd h
 takes_no_memory (known.Stopped e) j t line h = ap (λ x. progress_of x line) h.0
@@ -168,7 +168,7 @@ end_behind (Going (start_wanted l) line) ds rs r h = absurd cc
 end_behind (Going (start_read l) line) ds rs r h = absurd cc
 end_behind (Going (number_wanted l) line) ds rs r h = absurd cc
 end_behind (Going (numbers_read l ns) line) ds rs r h = absurd cc
-end_behind (Going (in_row l ns s) line) ds rs r h = by_end (ended s) h
+end_behind (Going (in_row l ns s) line) ds rs r h = by_end (policy_ended s) h
   where
     first : (x y : Row) → ◌≡◌ {A = Result Certified GrammarError} (Ok (certified [] (x ∷ []))) (Ok (certified [] (y ∷ []))) → x ≡ y
     first x y e = first_row (certified [] (x ∷ [])) (certified [] (y ∷ [])) x y (same (certified [] (x ∷ [])) (certified [] (y ∷ [])) e) refl refl
@@ -199,7 +199,7 @@ fault_behind (Going (start_wanted l) line) ds rs f h = h
 fault_behind (Going (start_read l) line) ds rs f h = h
 fault_behind (Going (number_wanted l) line) ds rs f h = h
 fault_behind (Going (numbers_read l ns) line) ds rs f h = h
-fault_behind (Going (in_row l ns s) line) ds rs f h = by_end (ended s) h
+fault_behind (Going (in_row l ns s) line) ds rs f h = by_end (policy_ended s) h
   where
     by_end : (o : Option Tree) → certified_end_at line (certificate_ends [] [] ns l o) ≡ Err f
         → certified_end_at line (certificate_ends ds rs ns l o) ≡ Err f
@@ -258,13 +258,13 @@ tidy (declaring r) ds rs t =
     (begins_tidy rs (text_ended r.phase ds)) (still_tidy rs (next_reading r.phase ds t))
 tidy row_wanted ds rs t = line_tidy (row_in t) (λ l. certifying (start_wanted l) ds rs) (λ l. refl)
 tidy (start_wanted line) ds rs t = test_tidy (is_start_word t) (Some (certifying (start_read line) ds rs)) None refl tt
-tidy (start_read line) ds rs t = test_tidy (is_colon t) (Some (certifying (in_row line [] start) ds rs)) None refl tt
+tidy (start_read line) ds rs t = test_tidy (is_colon_terminal t) (Some (certifying (in_row line [] first_state) ds rs)) None refl tt
 tidy (number_wanted line) ds rs t = number_tidy (number_in t) (λ n. certifying (numbers_read line (n.value ∷ [])) ds rs) (λ n. refl)
 tidy (numbers_read line ns) ds rs t =
-    test_tidy (is_colon t) (Some (certifying (in_row line ns start) ds rs))
+    test_tidy (is_colon_terminal t) (Some (certifying (in_row line ns first_state) ds rs))
     (in_option (number_in t) None (λ m. Some (certifying (numbers_read line (ns ++ m.value ∷ [])) ds rs))) refl
     (number_tidy (number_in t) (λ m. certifying (numbers_read line (ns ++ m.value ∷ [])) ds rs) (λ m. refl))
-tidy (in_row line ns s) ds rs t = row_tidy ds rs ns line (step s t) (ended s) t
+tidy (in_row line ns s) ds rs t = row_tidy ds rs ns line (step s t) (policy_ended s) t
 
 -- what the state says is the state
 pub tidied : (c : Certifying) (o : Option Certifying) → o ≡ Some c → AreTidy o → IsTidy c

@@ -6,7 +6,7 @@ use Rattle.nk_grammar.specs.declared.place.Place.TheVariants as place
 use Rattle.nk_grammar.specs.Terminal.{Terminal, plus_sign, semicolon, star_sign, closing, is_equal, is_in_word, is_becomes}
 use Rattle.nk_grammar.specs.Tree.{Tree, Trees, name_of, not_of, star_of, no_part, part, with_part, with_star, sum_from, seq_from}
 use Rattle.nk_grammar.specs.Grammar.{Pol, Term, Factor, Atom, one_term, plus, one_factor, semi, plain, starred, written_not, written_id, written_drop, written_dup, written_name, written_test, written_range, written_set, written_link, paren, spell_pol, spell_term, spell_factor, spell_atom, terms_of, factors_of, factor_tree, atom_tree, HasTree}
-use Rattle.nk_grammar.specs.Machine.{Open, group, negation, State, state, start, atom_ended, run, step, step_done, settled, ended, done, HasNoNegation}
+use Rattle.nk_grammar.specs.Machine.{Open, group, negation, State, state, first_state, atom_ended, run, step, step_done, settled, policy_ended, done, HasNoNegation}
 
 -- what the tokens come to, a name at the end being an atom
 abbrev pub outcome : List Terminal → State → Option State
@@ -126,20 +126,20 @@ mutual
 
 -- a policy's tokens leave the policy done
 pub reads : (p : Pol)
-    → outcome (spell_pol p) start ≡ Some (state (place.After (pol_has_star p)) [] (early p) (late p))
+    → outcome (spell_pol p) first_state ≡ Some (state (place.After (pol_has_star p)) [] (early p) (late p))
 reads p = rw append-nil at (pol_passes p [] [] (λ t ts us. refl) tt)
 
 -- what the tokens give at their end
-pub ended_outcome : (o : Option State) → option_and_then ended o ≡ option_and_then done (option_map settled o)
+pub ended_outcome : (o : Option State) → option_and_then policy_ended o ≡ option_and_then done (option_map settled o)
 ended_outcome None = refl
 ended_outcome (Some s) = refl
 
 -- the tokens of a policy give its tree
 pub reads_tree : (ts : List Terminal) (t : Tree) → HasTree ts t
-    → option_and_then ended (run ts start) ≡ Some t
+    → option_and_then policy_ended (run ts first_state) ≡ Some t
 reads_tree ts t h =
-    ended_outcome (run ts start)
-    ∙ ap (λ x. option_and_then done (outcome x start)) h.1
+    ended_outcome (run ts first_state)
+    ∙ ap (λ x. option_and_then done (outcome x first_state)) h.1
     ∙ ap (option_and_then done) (reads h.0)
     ∙ ap (λ x. Some (sum_from x)) (early_late h.0)
     ∙ ap (λ x. Some x) (sym h.2)

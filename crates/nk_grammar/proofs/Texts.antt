@@ -12,7 +12,7 @@ use Rattle.nk_grammar.specs.declared.place.Place.TheVariants as place
 use Rattle.nk_grammar.specs.Terminal.{Terminal, Outside, name, number, tilde, opening, closing, plus_sign, semicolon, star_sign, equal, becomes, colon, fat_arrow, id_word, drop_word, dup_word, in_word, dots, outside, is_equal, field_word, tag_word, switch_word, ports_word, link_word, let_word, arrow, comma, certificate_word, row_word, start_word, no_terminal}
 use Rattle.nk_grammar.specs.Tree.{Tree, Trees, name_of, not_of, sum_from}
 use Rattle.nk_grammar.specs.Grammar.{Pol, spell_pol, pol_tree, one_term, one_factor, plain, written_id}
-use Rattle.nk_grammar.specs.Machine.{Open, group, negation, State, state, start, atom_ended, with_number, quad_step, step, step_at, step_done, run, settled, ended, done}
+use Rattle.nk_grammar.specs.Machine.{Open, group, negation, State, state, first_state, atom_ended, with_number, quad_step, step, step_at, step_done, run, settled, policy_ended, done}
 use Rattle.nk_grammar.specs.File.{Declaration, field, tag, switch, definition, Written, written_field, written_tag, written_switch, written_declared_link, written_let, spell_ports, spell_declaration, declared, spell_file, HasDeclarations, FileGoesOn}
 use Rattle.nk_grammar.specs.FileMachine.{Phase, between, field_read, field_named, tag_read, switch_read, switch_numbered, port_wanted, port_read, link_read, let_read, let_named, in_policy, Reading, reading, is_ports, is_comma, with_name, begin_declaration, one_more, link_on, policy_done, policy_on, next_reading, read_one, read_all, first_reading, text_ended, declarations_at_end}
 use Rattle.nk_grammar.proofs.Spelled.{reads, early_late, pol_has_star, early, late}
@@ -69,7 +69,7 @@ inside : (w : Word) (line : ℕ) (ds : List Declaration) (xs r : List Terminal) 
     → run xs s ≡ Some s'
     → read_all (xs ++ r) (reading (in_policy w line s) ds) ≡ read_all r (reading (in_policy w line s') ds)
 inside w line ds [] r s s' e = ap (λ x. read_all r (reading (in_policy w line x) ds)) cc
-inside w line ds (x ∷ xs) r s s' e = by_step (step s x) (ended s) e (inside w line ds xs r)
+inside w line ds (x ∷ xs) r s s' e = by_step (step s x) (policy_ended s) e (inside w line ds xs r)
   where
     by_step : (o : Option State) (t : Option Tree) → option_and_then (run xs) o ≡ Some s'
         → ((s s' : State) → run xs s ≡ Some s' → read_all (xs ++ r) (reading (in_policy w line s) ds) ≡ read_all r (reading (in_policy w line s') ds))
@@ -79,11 +79,11 @@ inside w line ds (x ∷ xs) r s s' e = by_step (step s x) (ended s) e (inside w 
 
 -- behind a policy that may end, a declaration begins, or the end comes
 policy_ends : (w : Word) (line : ℕ) (ds : List Declaration) (p : Tree) (s : State) (r : List Terminal)
-    → ended s ≡ Some p → IsBehind r
+    → policy_ended s ≡ Some p → IsBehind r
     → finish (read_all r (reading (in_policy w line s) ds)) ≡ finish (read_all r (reading between (one_more ds (definition w p line))))
 policy_ends w line ds p s [] e b = ap (λ o. option_map (λ p. one_more ds (definition w p line)) o) e
 policy_ends w line ds p s (outside z ∷ r) e b =
-    ap (λ o. finish (option_and_then (read_all r) (policy_on w line ds o (ended s) (outside z)))) (outside_refused s.place s.frames s.terms s.factors z)
+    ap (λ o. finish (option_and_then (read_all r) (policy_on w line ds o (policy_ended s) (outside z)))) (outside_refused s.place s.frames s.terms s.factors z)
     ∙ ap (λ o. finish (option_and_then (read_all r) (policy_done w line ds o (outside z)))) e
 policy_ends w line ds p s ((name x) ∷ r) e b = absurd b
 policy_ends w line ds p s ((number x) ∷ r) e b = absurd b
@@ -132,15 +132,15 @@ ports_pass n qs [] ds (in_word ∷ r) b = absurd b
 ports_pass n qs [] ds (dots ∷ r) b = absurd b
 
 -- what the tokens of a policy leave
-pub left_by : (p : Pol) → (s : State) × (run (spell_pol p) start ≡ Some s) × (ended s ≡ Some (pol_tree p))
-left_by p = by_state (run (spell_pol p) start) refl (reads p)
+pub left_by : (p : Pol) → (s : State) × (run (spell_pol p) first_state ≡ Some s) × (policy_ended s ≡ Some (pol_tree p))
+left_by p = by_state (run (spell_pol p) first_state) refl (reads p)
   where
     some_same : {A : Type 0} (x y : A) → ◌≡◌ {A = Option A} (Some x) (Some y) → x ≡ y
     some_same x y e = cc
 
-    by_state : (o : Option State) → run (spell_pol p) start ≡ o
+    by_state : (o : Option State) → run (spell_pol p) first_state ≡ o
         → option_map settled o ≡ Some (state (place.After (pol_has_star p)) [] (early p) (late p))
-        → (s : State) × (run (spell_pol p) start ≡ Some s) × (ended s ≡ Some (pol_tree p))
+        → (s : State) × (run (spell_pol p) first_state ≡ Some s) × (policy_ended s ≡ Some (pol_tree p))
     by_state None f e = absurd (none_some _ e)
     by_state (Some s) f e =
         (s, f, ap done (some_same (settled s) (state (place.After (pol_has_star p)) [] (early p) (late p)) e) ∙ ap (λ x. Some (joined_of x)) (early_late p))
@@ -157,7 +157,7 @@ declaration_passes (written_switch n p ps) ds r b = ports_pass n (p ∷ []) ps d
 declaration_passes (written_declared_link a m b n) ds r c = refl
 declaration_passes (written_let line w p) ds r b =
     let l = left_by p in
-    ap finish (inside w line ds (spell_pol p) r start l.0 l.1) ∙ policy_ends w line ds (pol_tree p) l.0 r l.2 b
+    ap finish (inside w line ds (spell_pol p) r first_state l.0 l.1) ∙ policy_ends w line ds (pol_tree p) l.0 r l.2 b
 
 -- the tokens of declarations give them
 file_passes : (ws : List Written) (ds : List Declaration)
@@ -191,7 +191,7 @@ IsPhaseSpelled (port_read n ps) us = (p : Number) × (qs : List Number) × (ps �
 IsPhaseSpelled (link_read q) us = us ≡ outside link_word ∷ spell_quad false q
 IsPhaseSpelled (let_read line) us = us ≡ outside (let_word line) ∷ []
 IsPhaseSpelled (let_named w line) us = us ≡ outside (let_word line) ∷ name w ∷ []
-IsPhaseSpelled (in_policy w line s) us = (vs : List Terminal) × (us ≡ outside (let_word line) ∷ name w ∷ equal ∷ vs) × (run vs start ≡ Some s)
+IsPhaseSpelled (in_policy w line s) us = (vs : List Terminal) × (us ≡ outside (let_word line) ∷ name w ∷ equal ∷ vs) × (run vs first_state ≡ Some s)
 
 -- the tokens so far are those of the declarations that are done and of the one that is open
 abbrev IsFront : List Terminal → Phase → List Declaration → Type 0
@@ -467,17 +467,17 @@ done_here ws w ds ts us t d e f =
 -- a policy that goes on, or ends before the token
 policy_leads : (ws : List Written) (ds : List Declaration) (ts us vs : List Terminal) (w : Word) (line : ℕ) (s : State) (t : Terminal)
     → ds ≡ map declared ws → ts ≡ spell_file ws ++ us
-    → us ≡ outside (let_word line) ∷ name w ∷ equal ∷ vs → run vs start ≡ Some s → Leads (policy_on w line ds (step s t) (ended s) t) (ts ++ t ∷ [])
+    → us ≡ outside (let_word line) ∷ name w ∷ equal ∷ vs → run vs first_state ≡ Some s → Leads (policy_on w line ds (step s t) (policy_ended s) t) (ts ++ t ∷ [])
 policy_leads ws ds ts us vs w line s t d e f g = by_step (step s t) refl
   where
-    by_end : (o : Option Tree) → ended s ≡ o → Leads (policy_done w line ds o t) (ts ++ t ∷ [])
+    by_end : (o : Option Tree) → policy_ended s ≡ o → Leads (policy_done w line ds o t) (ts ++ t ∷ [])
     by_end None h = tt
     by_end (Some p) h =
-        let tree = reads_only vs p (ap (option_and_then ended) g ∙ h) in
+        let tree = reads_only vs p (ap (option_and_then policy_ended) g ∙ h) in
         begins ts (one_more ds (definition w p line)) t
         (subst (λ q. HasDeclarations ts (one_more ds (definition w q line))) (sym tree.2) (done_more ws (written_let line w tree.0) ts us ds d e (f ∙ ap (λ x. outside (let_word line) ∷ name w ∷ equal ∷ x) tree.1)))
 
-    by_step : (o : Option State) → step s t ≡ o → Leads (policy_on w line ds o (ended s) t) (ts ++ t ∷ [])
+    by_step : (o : Option State) → step s t ≡ o → Leads (policy_on w line ds o (policy_ended s) t) (ts ++ t ∷ [])
     by_step (Some s') h = (
       ws,
       us ++ t ∷ [],
@@ -486,10 +486,10 @@ policy_leads ws ds ts us vs w line s t d e f g = by_step (step s t) refl
       (
         vs ++ t ∷ [],
         ap (λ x. x ++ t ∷ []) f,
-        run_append vs (t ∷ []) start ∙ ap (option_and_then (run (t ∷ []))) g ∙ ap (option_and_then (run [])) h,
+        run_append vs (t ∷ []) first_state ∙ ap (option_and_then (run (t ∷ []))) g ∙ ap (option_and_then (run [])) h,
       ),
     )
-    by_step None h = by_end (ended s) refl
+    by_step None h = by_end (policy_ended s) refl
 
 -- the tokens so far stay a front
 front_leads : (p : Phase) (ds : List Declaration) (ts : List Terminal) (t : Terminal)
@@ -517,7 +517,7 @@ front_leads (port_read n ps) ds ts t h =
 front_leads (link_read q) ds ts t h = wire_leads h.0 ds ts h.1 (spell_quad false q) t (quad_step false q t) h.2 h.3 h.4 (quad_spell false q t)
 front_leads (let_read line) ds ts t h = name_leads t _ (λ w. reading (let_named w line) ds) (λ w e. (h.0, h.1 ++ t ∷ [], h.2, same_file h.0 ts h.1 (h.1 ++ t ∷ []) t h.3 refl, behind h.4 e))
 front_leads (let_named w line) ds ts t h =
-    equal_leads t _ (reading (in_policy w line start) ds) (λ e. (h.0, h.1 ++ t ∷ [], h.2, same_file h.0 ts h.1 (h.1 ++ t ∷ []) t h.3 refl, ([], behind h.4 e, refl)))
+    equal_leads t _ (reading (in_policy w line first_state) ds) (λ e. (h.0, h.1 ++ t ∷ [], h.2, same_file h.0 ts h.1 (h.1 ++ t ∷ []) t h.3 refl, ([], behind h.4 e, refl)))
 front_leads (in_policy w line s) ds ts t h =
     let p : IsPhaseSpelled (in_policy w line s) h.1 = h.4 in
     policy_leads h.0 ds ts h.1 p.0 w line s t h.2 h.3 p.1 p.2
@@ -628,17 +628,17 @@ phase_ends (port_read n ps) ds es ts h e =
 phase_ends (link_read q) ds es ts h e = absurd (none_some es e)
 phase_ends (let_read line) ds es ts h e = absurd (none_some es e)
 phase_ends (let_named w line) ds es ts h e = absurd (none_some es e)
-phase_ends (in_policy w line s) ds es ts h e = by_end (ended s) refl e
+phase_ends (in_policy w line s) ds es ts h e = by_end (policy_ended s) refl e
   where
     same : {xs ys : List Declaration} → ◌≡◌ {A = Option (List Declaration)} (Some xs) (Some ys) → xs ≡ ys
     same e = cc
 
-    by_end : (o : Option Tree) → ended s ≡ o
+    by_end : (o : Option Tree) → policy_ended s ≡ o
         → option_map (λ p. one_more ds (definition w p line)) o ≡ Some es → HasDeclarations ts es
     by_end None f e = absurd (none_some es e)
     by_end (Some q) f e =
         let p : IsPhaseSpelled (in_policy w line s) h.1 = h.4 in
-        let tree = reads_only p.0 q (ap (option_and_then ended) p.2 ∙ f) in
+        let tree = reads_only p.0 q (ap (option_and_then policy_ended) p.2 ∙ f) in
         subst (HasDeclarations ts) (same e)
         (subst (λ x. HasDeclarations ts (one_more ds (definition w x line))) (sym tree.2)
         (done_more h.0 (written_let line w tree.0) ts h.1 ds h.2 h.3 (p.1 ∙ ap (λ x. outside (let_word line) ∷ name w ∷ equal ∷ x) tree.1)))

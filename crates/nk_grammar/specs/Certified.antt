@@ -47,8 +47,8 @@ abbrev pub spell_certificate : ℕ → Pol → List WrittenRow → List Terminal
 spell_certificate line p rs = outside (row_word line) ∷ outside start_word ∷ colon ∷ (spell_pol p ++ spell_rows rs)
 
 -- what a certificate says, the start row first
-abbrev pub rows_of : ℕ → Pol → List WrittenRow → List Row
-rows_of line p rs = row [] (pol_tree p) line ∷ map row_of rs
+abbrev pub rows_said : ℕ → Pol → List WrittenRow → List Row
+rows_said line p rs = row [] (pol_tree p) line ∷ map row_of rs
 
 -- the declarations and rows of a text
 pub record Certified : Type 0 where
@@ -67,7 +67,7 @@ pub record HasCertificate (ts : List Terminal) (c : Certified) : Type 0 where
   pub pred : Pol
   pub others : List WrittenRow
   pub tokens : ts ≡ spell_file decls ++ outside certificate_word ∷ spell_certificate line pred others
-  pub value : c ≡ certified (map declared decls) (rows_of line pred others)
+  pub value : c ≡ certified (map declared decls) (rows_said line pred others)
 
 -- a text with a certificate goes on with these tokens
 abbrev pub CertifiedGoesOn : List Terminal → Type 0

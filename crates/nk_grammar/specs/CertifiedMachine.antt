@@ -5,9 +5,9 @@ use Rattle.nk_lex.specs.declared.token.Token.{Token}
 use Rattle.nk_lex.specs.Faults.{and_then}
 use Rattle.nk_grammar.specs.declared.decl.GrammarError.{GrammarError}
 use Rattle.nk_grammar.specs.declared.decl.GrammarError.TheVariants as error
-use Rattle.nk_grammar.specs.Terminal.{Terminal, outside, certificate_word, row_word, start_word, is_colon, terminal_of}
+use Rattle.nk_grammar.specs.Terminal.{Terminal, outside, certificate_word, row_word, start_word, is_colon_terminal, terminal_of}
 use Rattle.nk_grammar.specs.Tree.{Tree}
-use Rattle.nk_grammar.specs.Machine.{State, start, step, ended, with_number}
+use Rattle.nk_grammar.specs.Machine.{State, first_state, step, policy_ended, with_number}
 use Rattle.nk_grammar.specs.File.{Declaration}
 use Rattle.nk_grammar.specs.FileMachine.{Reading, read_one, first_reading, declarations_at_end, open_count}
 use Rattle.nk_grammar.specs.Certified.{Row, row, Certified, certified}
@@ -39,7 +39,7 @@ abbrev pub is_certificate : Terminal → Bool
 is_certificate (outside certificate_word) = true
 is_certificate t = false
 
--- the word `start`
+-- the word `first_state`
 abbrev pub is_start_word : Terminal → Bool
 is_start_word (outside start_word) = true
 is_start_word t = false
@@ -85,13 +85,13 @@ next_certifying (declaring r) ds rs t =
     if is_certificate t then certificate_begins rs (declarations_at_end r) else still_declaring rs (read_one r t)
 next_certifying row_wanted ds rs t = with_row t None (λ line. Some (certifying (start_wanted line) ds rs))
 next_certifying (start_wanted line) ds rs t = if is_start_word t then Some (certifying (start_read line) ds rs) else None
-next_certifying (start_read line) ds rs t = if is_colon t then Some (certifying (in_row line [] start) ds rs) else None
+next_certifying (start_read line) ds rs t = if is_colon_terminal t then Some (certifying (in_row line [] first_state) ds rs) else None
 next_certifying (number_wanted line) ds rs t =
     with_number t None (λ n. Some (certifying (numbers_read line (n.value ∷ [])) ds rs))
 next_certifying (numbers_read line ns) ds rs t =
-    if is_colon t then Some (certifying (in_row line ns start) ds rs)
+    if is_colon_terminal t then Some (certifying (in_row line ns first_state) ds rs)
     else with_number t None (λ m. Some (certifying (numbers_read line (ns ++ m.value ∷ [])) ds rs))
-next_certifying (in_row line ns s) ds rs t = row_on ds rs ns line (step s t) (ended s) t
+next_certifying (in_row line ns s) ds rs t = row_on ds rs ns line (step s t) (policy_ended s) t
 
 -- one more token
 abbrev pub certify_one : Certifying → Terminal → Option Certifying
@@ -113,7 +113,7 @@ certificate_ends ds rs ns line (Some p) = Some (certified ds (rs ++ row ns p lin
 
 -- the declarations and rows, if the text may end here
 abbrev pub certified_ended : CertifiedPhase → List Declaration → List Row → Option Certified
-certified_ended (in_row line ns s) ds rs = certificate_ends ds rs ns line (ended s)
+certified_ended (in_row line ns s) ds rs = certificate_ends ds rs ns line (policy_ended s)
 certified_ended p ds rs = None
 
 -- the same of a state
@@ -121,14 +121,14 @@ abbrev pub certified_at_end : Certifying → Option Certified
 certified_at_end c = certified_ended c.phase c.declarations c.rows
 
 -- how many parentheses and `~` are open
-abbrev pub open_in_certified : CertifiedPhase → ℕ
-open_in_certified (declaring r) = open_count r
-open_in_certified (in_row line ns s) = length s.frames
-open_in_certified p = 0
+abbrev pub open_in_certified_phase : CertifiedPhase → ℕ
+open_in_certified_phase (declaring r) = open_count r
+open_in_certified_phase (in_row line ns s) = length s.frames
+open_in_certified_phase p = 0
 
 -- the same of a state
 abbrev pub open_certified : Certifying → ℕ
-open_certified c = open_in_certified c.phase
+open_certified c = open_in_certified_phase c.phase
 
 -- what a token leads to
 abbrev pub judged_certified : ℕ → Option Certifying → Result Certifying GrammarError

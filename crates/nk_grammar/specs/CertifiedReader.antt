@@ -13,7 +13,7 @@ use Rattle.nk_grammar.specs.Machine.{State}
 use Rattle.nk_grammar.specs.Reader.{reader_state}
 use Rattle.nk_grammar.specs.Terminal.{terminal_of}
 use Rattle.nk_grammar.specs.FileMachine.{Phase, reading, Returns}
-use Rattle.nk_grammar.specs.FileReader.{phase_in, IsKept}
+use Rattle.nk_grammar.specs.FileReader.{phase_in, StaysWithoutMemory}
 use Rattle.nk_grammar.specs.CertifiedMachine.{CertifiedPhase, declaring, row_wanted, start_wanted, start_read, number_wanted, numbers_read, in_row, Certifying, certify_one, judged_certified}
 use Rattle.nk_grammar.specs.CertifiedProgress.{CertifiedProgress, Going, Stopped, with_done, declarations_by, rows_by}
 
@@ -41,10 +41,10 @@ progress_of (known.Sound r) line = Going (certified_phase_in r) line
 progress_of (known.Stopped e) line = Stopped e
 
 -- a token is taken as the machine takes it, or nothing changes: where there is a fault, or memory ran out
-abbrev pub Takes : Known → Known → Token → Result (Option Completed) GrammarError → Type 0
-Takes (known.Sound r) (known.Sound s) t result =
+abbrev pub TakesToken : Known → Known → Token → Result (Option Completed) GrammarError → Type 0
+TakesToken (known.Sound r) (known.Sound s) t result =
     Returns (completing (certified_phase_in s)) result
     (judged_certified t.line (certify_one (with_done (certified_phase_in r) [] []) (terminal_of t)))
-    × IsKept result (certified_phase_in r) (certified_phase_in s)
-Takes (known.Sound r) (known.Stopped e) t result = ⊥
-Takes (known.Stopped e) k t result = (k ≡ known.Stopped e) × (result ≡ Ok None)
+    × StaysWithoutMemory result (certified_phase_in r) (certified_phase_in s)
+TakesToken (known.Sound r) (known.Stopped e) t result = ⊥
+TakesToken (known.Stopped e) k t result = (k ≡ known.Stopped e) × (result ≡ Ok None)

@@ -7,7 +7,7 @@ use Rattle.nk_lex.specs.declared.word.Number.{Number}
 use Rattle.nk_grammar.specs.Grammar.{Pol}
 use Rattle.nk_grammar.specs.Nesting.{nesting_of_pol}
 use Rattle.nk_grammar.specs.Text.{lexemes_of_pol, IsNumberOn, IsPolOn}
-use Rattle.nk_grammar.specs.Certified.{WrittenRow, written_row, rows_of, certified}
+use Rattle.nk_grammar.specs.Certified.{WrittenRow, written_row, rows_said, certified}
 use Rattle.nk_grammar.specs.CertifiedMachine.{certified_of}
 use Rattle.nk_grammar.specs.Moved.{nesting_of_row}
 
@@ -44,7 +44,7 @@ AreRowsOn line (written_row l n ns p ∷ ws) =
 pub record IsCertificateText (text : List ℕ) (p : Pol) (ws : List WrittenRow) : Type 0 where
   pub tokens : List Token
   pub cut : tokens_of text ≡ Ok tokens
-  pub read : certified_of tokens ≡ Ok (certified [] (rows_of 2 p ws))
+  pub read : certified_of tokens ≡ Ok (certified [] (rows_said 2 p ws))
 
 -- the text of a certificate in which at most 256 are open at once is read as that certificate
 abbrev pub ReadsCertificateTexts : Type 0

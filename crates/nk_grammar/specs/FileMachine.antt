@@ -13,7 +13,7 @@ use Rattle.nk_grammar.specs.declared.decl.GrammarError.{GrammarError}
 use Rattle.nk_grammar.specs.declared.decl.GrammarError.TheVariants as error
 use Rattle.nk_grammar.specs.Terminal.{Terminal, name, outside, field_word, tag_word, switch_word, ports_word, link_word, let_word, comma, is_equal, terminal_of}
 use Rattle.nk_grammar.specs.Tree.{Tree}
-use Rattle.nk_grammar.specs.Machine.{State, start, step, ended, with_number, quad_step}
+use Rattle.nk_grammar.specs.Machine.{State, first_state, step, policy_ended, with_number, quad_step}
 use Rattle.nk_grammar.specs.File.{Declaration, field, tag, switch, declared_link, definition, HasDeclarations}
 
 -- what stands before the next token
@@ -106,8 +106,8 @@ next_reading (port_read n ps) ds t =
     if is_comma t then Some (reading (port_wanted n ps) ds) else begin_declaration (one_more ds (switch n ps)) t
 next_reading (link_read q) ds t = link_on ds (quad_step false q t)
 next_reading (let_read line) ds t = with_name t None (λ w. Some (reading (let_named w line) ds))
-next_reading (let_named w line) ds t = if is_equal t then Some (reading (in_policy w line start) ds) else None
-next_reading (in_policy w line s) ds t = policy_on w line ds (step s t) (ended s) t
+next_reading (let_named w line) ds t = if is_equal t then Some (reading (in_policy w line first_state) ds) else None
+next_reading (in_policy w line s) ds t = policy_on w line ds (step s t) (policy_ended s) t
 
 -- one more token
 abbrev pub read_one : Reading → Terminal → Option Reading
@@ -126,7 +126,7 @@ first_reading = reading between []
 abbrev pub text_ended : Phase → List Declaration → Option (List Declaration)
 text_ended between ds = Some ds
 text_ended (port_read n ps) ds = Some (one_more ds (switch n ps))
-text_ended (in_policy w line s) ds = option_map (λ p. one_more ds (definition w p line)) (ended s)
+text_ended (in_policy w line s) ds = option_map (λ p. one_more ds (definition w p line)) (policy_ended s)
 text_ended p ds = None
 
 -- the same of a state
@@ -134,13 +134,13 @@ abbrev pub declarations_at_end : Reading → Option (List Declaration)
 declarations_at_end r = text_ended r.phase r.declarations
 
 -- how many parentheses and `~` are open
-abbrev pub open_in : Phase → ℕ
-open_in (in_policy w line s) = length s.frames
-open_in p = 0
+abbrev pub open_in_phase : Phase → ℕ
+open_in_phase (in_policy w line s) = length s.frames
+open_in_phase p = 0
 
 -- the same of a state
 abbrev pub open_count : Reading → ℕ
-open_count r = open_in r.phase
+open_count r = open_in_phase r.phase
 
 -- what a token leads to: refused where no text goes on with it, or where it opens one more than 256
 abbrev pub judged : ℕ → Option Reading → Result Reading GrammarError

@@ -32,11 +32,11 @@ abbrev pub phase_in : Reader → Phase
 phase_in r = phase_of r.stage (reader_state r.policy)
 
 -- the declaration that is done, if one is
-abbrev pub declared_by : Option Decl → List Declaration
-declared_by None = []
-declared_by (Some d) = declaration_of d ∷ []
+abbrev pub declaration_done : Option Decl → List Declaration
+declaration_done None = []
+declaration_done (Some d) = declaration_of d ∷ []
 
 -- where memory ran out, nothing changed
-abbrev pub IsKept : {X V : Type 0} → Result X GrammarError → V → V → Type 0
-IsKept (Err error.NoMemory) old new = new ≡ old
-IsKept r old new = ⊤
+abbrev pub StaysWithoutMemory : {X V : Type 0} → Result X GrammarError → V → V → Type 0
+StaysWithoutMemory (Err error.NoMemory) old new = new ≡ old
+StaysWithoutMemory r old new = ⊤

@@ -7,7 +7,7 @@ use Rattle.nk_grammar.specs.declared.place.QuadNext.{QuadNext}
 use Rattle.nk_grammar.specs.declared.place.QuadNext.TheVariants as next
 use Rattle.nk_grammar.specs.declared.place.Place.{Place}
 use Rattle.nk_grammar.specs.declared.place.Place.TheVariants as place
-use Rattle.nk_grammar.specs.Terminal.{Terminal, name, number, tilde, opening, closing, plus_sign, semicolon, star_sign, id_word, drop_word, dup_word, is_equal, is_in_word, is_dots, is_becomes, is_colon, is_link_sign}
+use Rattle.nk_grammar.specs.Terminal.{Terminal, name, number, tilde, opening, closing, plus_sign, semicolon, star_sign, id_word, drop_word, dup_word, is_equal, is_in_word, is_dots, is_becomes, is_colon_terminal, is_link_sign}
 use Rattle.nk_grammar.specs.Grammar.{HasTree, PolicyGoesOn}
 use Rattle.nk_grammar.specs.Tree.{Tree, Trees, name_of, test, range, assign, sum_of, seq_of, not_of, dup, link, no_part, with_part, sum_from, seq_from, with_star}
 
@@ -29,8 +29,8 @@ abbrev pub state : Place → List Open → Trees → Trees → State
 state p fs ts us = record { place = p; frames = fs; terms = ts; factors = us }
 
 -- before the first token
-abbrev pub start : State
-start = state place.Want [] no_part no_part
+abbrev pub first_state : State
+first_state = state place.Want [] no_part no_part
 
 -- an atom ended, and with it each `~` before it
 abbrev pub atom_ended : Tree → List Open → Trees → Trees → State
@@ -43,8 +43,8 @@ abbrev pub HasNoNegation : List Open → Type 0
 HasNoNegation fs = (t : Tree) (ts us : Trees) → atom_ended t fs ts us ≡ state (place.After false) fs ts (with_part us t)
 
 -- the policy whose terms but the last, and whose last term's factors, are these
-abbrev pub joined : Trees → Trees → Tree
-joined ts us = sum_from (with_part ts (seq_from us))
+abbrev pub terms_joined : Trees → Trees → Tree
+terms_joined ts us = sum_from (with_part ts (seq_from us))
 
 -- a parenthesis closes
 abbrev pub close : List Open → Tree → Option State
@@ -69,11 +69,11 @@ with_number t other f = in_option (number_in t) other f
 -- one more token of a link
 abbrev pub quad_step : Bool → Quad → Terminal → QuadNext
 quad_step literal quad.Start t = with_number t next.Refused (λ a. next.Going (quad.Switch a))
-quad_step literal (quad.Switch a) t = if is_colon t then next.Going (quad.SwitchColon a) else next.Refused
+quad_step literal (quad.Switch a) t = if is_colon_terminal t then next.Going (quad.SwitchColon a) else next.Refused
 quad_step literal (quad.SwitchColon a) t = with_number t next.Refused (λ m. next.Going (quad.Port a m))
 quad_step literal (quad.Port a m) t = if is_link_sign literal t then next.Going (quad.Arrow a m) else next.Refused
 quad_step literal (quad.Arrow a m) t = with_number t next.Refused (λ b. next.Going (quad.ToSwitch a m b))
-quad_step literal (quad.ToSwitch a m b) t = if is_colon t then next.Going (quad.ToColon a m b) else next.Refused
+quad_step literal (quad.ToSwitch a m b) t = if is_colon_terminal t then next.Going (quad.ToColon a m b) else next.Refused
 quad_step literal (quad.ToColon a m b) t = with_number t next.Refused (λ n. next.Full a m b n)
 
 -- an atom is wanted
@@ -88,12 +88,12 @@ begin fs ts us (number a) = Some (state (place.Linked (quad.Switch a)) fs ts us)
 begin fs ts us t = None
 
 -- a factor stands there
-abbrev pub go_on : Bool → List Open → Trees → Trees → Terminal → Option State
-go_on starred fs ts us plus_sign = Some (state place.Want fs (with_part ts (seq_from us)) no_part)
-go_on starred fs ts us semicolon = Some (state place.Want fs ts us)
-go_on starred fs ts us star_sign = Some (state (place.After true) fs ts (if starred then us else with_star us))
-go_on starred fs ts us closing = close fs (joined ts us)
-go_on starred fs ts us t = None
+abbrev pub after_factor : Bool → List Open → Trees → Trees → Terminal → Option State
+after_factor starred fs ts us plus_sign = Some (state place.Want fs (with_part ts (seq_from us)) no_part)
+after_factor starred fs ts us semicolon = Some (state place.Want fs ts us)
+after_factor starred fs ts us star_sign = Some (state (place.After true) fs ts (if starred then us else with_star us))
+after_factor starred fs ts us closing = close fs (terms_joined ts us)
+after_factor starred fs ts us t = None
 
 -- one more token of a link literal
 abbrev pub linked : List Open → Trees → Trees → QuadNext → Option State
@@ -103,7 +103,7 @@ linked fs ts us (next.Full a m b n) = Some (atom_ended (link a m b n) fs ts us)
 
 -- the factor that stands there, if one does, goes on
 abbrev pub go_on_from : Place → List Open → Trees → Trees → Terminal → Option State
-go_on_from (place.After starred) fs ts us t = go_on starred fs ts us t
+go_on_from (place.After starred) fs ts us t = after_factor starred fs ts us t
 go_on_from p fs ts us t = None
 
 -- the same of a state
@@ -124,7 +124,7 @@ step_at (place.RangedFrom w a) fs ts us t = if is_dots t then Some (state (place
 step_at (place.RangedTo w a) fs ts us t = with_number t None (λ b. Some (atom_ended (range w a b) fs ts us))
 step_at (place.Assigned w) fs ts us t = with_number t None (λ n. Some (atom_ended (assign w n) fs ts us))
 step_at (place.Linked q) fs ts us t = linked fs ts us (quad_step true q t)
-step_at (place.After starred) fs ts us t = go_on starred fs ts us t
+step_at (place.After starred) fs ts us t = after_factor starred fs ts us t
 
 -- one more token
 abbrev pub step : State → Terminal → Option State
@@ -151,24 +151,24 @@ done_at p fs t = None
 
 -- the same of a state
 abbrev pub done : State → Option Tree
-done s = done_at s.place s.frames (joined s.terms s.factors)
+done s = done_at s.place s.frames (terms_joined s.terms s.factors)
 
 -- the policy, if it may end here
-abbrev pub ended : State → Option Tree
-ended s = done (settled s)
+abbrev pub policy_ended : State → Option Tree
+policy_ended s = done (settled s)
 
 -- the tokens of a policy give its syntax tree, so they are those of no other
 abbrev pub ReadsPolicies : Type 0
-ReadsPolicies = (ts : List Terminal) (t : Tree) → HasTree ts t → option_and_then ended (run ts start) ≡ Some t
+ReadsPolicies = (ts : List Terminal) (t : Tree) → HasTree ts t → option_and_then policy_ended (run ts first_state) ≡ Some t
 
 -- what is read as a policy is one
 abbrev pub ReadsOnlyPolicies : Type 0
-ReadsOnlyPolicies = (ts : List Terminal) (t : Tree) → option_and_then ended (run ts start) ≡ Some t → HasTree ts t
+ReadsOnlyPolicies = (ts : List Terminal) (t : Tree) → option_and_then policy_ended (run ts first_state) ≡ Some t → HasTree ts t
 
 -- tokens that are taken are the front of a policy
 abbrev pub TakesFronts : Type 0
-TakesFronts = (ts : List Terminal) (s : State) → run ts start ≡ Some s → PolicyGoesOn ts
+TakesFronts = (ts : List Terminal) (s : State) → run ts first_state ≡ Some s → PolicyGoesOn ts
 
 -- and those that are refused are the front of none
 abbrev pub RefusesOthers : Type 0
-RefusesOthers = (ts : List Terminal) → run ts start ≡ None → PolicyGoesOn ts → ⊥
+RefusesOthers = (ts : List Terminal) → run ts first_state ≡ None → PolicyGoesOn ts → ⊥

@@ -13,7 +13,7 @@ use Rattle.nk_grammar.specs.Nesting.{nesting_of_pol}
 use Rattle.nk_grammar.specs.File.{Declaration}
 use Rattle.nk_grammar.specs.FileMachine.{file_of}
 use Rattle.nk_grammar.specs.Answer.{terminals}
-use Rattle.nk_grammar.specs.Certified.{Row, row, WrittenRow, written_row, spell_certificate, rows_of, certified}
+use Rattle.nk_grammar.specs.Certified.{Row, row, WrittenRow, written_row, spell_certificate, rows_said, certified}
 use Rattle.nk_grammar.specs.CertifiedMachine.{certified_of}
 
 -- a name so many lines further on
@@ -66,7 +66,7 @@ abbrev pub ReadsCertificates : Type 0
 ReadsCertificates = (us : List Token) (line : ℕ) (p : Pol) (ws : List WrittenRow)
     → terminals us ≡ outside certificate_word ∷ spell_certificate line p ws
     → nesting_of_pol p ≤ 256 → All (λ w. nesting_of_row w ≤ 256) ws
-    → certified_of us ≡ Ok (certified [] (rows_of line p ws))
+    → certified_of us ≡ Ok (certified [] (rows_said line p ws))
 
 -- the text of a program, a line feed and the text of a certificate are a text with these declarations and rows
 pub record IsReadTogether (a b : List ℕ) (ds : List Declaration) (rs : List Row) : Type 0 where

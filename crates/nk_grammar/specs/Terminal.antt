@@ -99,9 +99,9 @@ is_dots dots = true
 is_dots t = false
 
 -- a colon
-abbrev pub is_colon : Terminal → Bool
-is_colon colon = true
-is_colon t = false
+abbrev pub is_colon_terminal : Terminal → Bool
+is_colon_terminal colon = true
+is_colon_terminal t = false
 
 -- the sign between the two ends of a link: `=>` in a literal, `->` in a declaration
 abbrev pub is_link_sign : Bool → Terminal → Bool

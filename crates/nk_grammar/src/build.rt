@@ -1,5 +1,5 @@
 //! Syntax trees from their parts.
-ghost use Rattle.nk_grammar.specs.Machine.{joined};
+ghost use Rattle.nk_grammar.specs.Machine.{terms_joined};
 ghost use Rattle.nk_grammar.specs.Reader.{with_last};
 ghost use Rattle.nk_grammar.specs.Tree.{
   not_of,
@@ -82,7 +82,7 @@ pub fn push_last(items: &mut Vec<Ast>, last: Option<Ast>)
 /// The policy of some terms and one more, the last, which is given by its factors. There is room for it among the terms.
 pub fn join(terms: Vec<Ast>, factors: Vec<Ast>) -> Ast
     requires room { vec_len terms < vec_capacity terms }
-    ensures { tree_of result ≡ joined (trees_of terms.items) (trees_of factors.items) }
+    ensures { tree_of result ≡ terms_joined (trees_of terms.items) (trees_of factors.items) }
 {
     let mut terms = terms;
     push(&mut terms, sequence(factors));

@@ -19,8 +19,8 @@ ghost use Rattle.nk_grammar.specs.CertifiedMachine.{
 ghost use Rattle.nk_grammar.specs.CertifiedProgress.{declarations_by, rows_by, with_done};
 ghost use Rattle.nk_grammar.specs.CertifiedReader.{certified_phase_in, completing};
 ghost use Rattle.nk_grammar.specs.FileMachine.{Returns, first_reading};
-ghost use Rattle.nk_grammar.specs.FileReader.{IsKept, declared_by};
-ghost use Rattle.nk_grammar.specs.Machine.{ended, step};
+ghost use Rattle.nk_grammar.specs.FileReader.{StaysWithoutMemory, declaration_done};
+ghost use Rattle.nk_grammar.specs.Machine.{policy_ended, step};
 ghost use Rattle.nk_grammar.specs.Reader.{reader_state};
 ghost use Rattle.nk_grammar.specs.Terminal.{terminal_of};
 
@@ -72,7 +72,7 @@ fn row_line(token: &Token) -> Option<u64>
 
 /// A declaration that is done, as what a token completes.
 fn declared(done: Option<Decl>) -> Option<Completed>
-    ensures declarations { declarations_by result ≡ declared_by done }
+    ensures declarations { declarations_by result ≡ declaration_done done }
     ensures rows { rows_by result ≡ [] }
 {
     match done {
@@ -154,8 +154,8 @@ impl SoundReader {
         ensures read { Returns (completing (certified_phase_in self.new)) result
             (judged_certified token.now.line (row_on [] [] positions.items line
             (step (reader_state self.old.policy) (terminal_of token.now))
-            (ended (reader_state self.old.policy)) (terminal_of token.now))) }
-        ensures kept { IsKept result (in_row line positions.items (reader_state self.old.policy)) (certified_phase_in self.new) }
+            (policy_ended (reader_state self.old.policy)) (terminal_of token.now))) }
+        ensures kept { StaysWithoutMemory result (in_row line positions.items (reader_state self.old.policy)) (certified_phase_in self.new) }
     {
         match self.policy.take(alloc, token) {
             Ok(Took::Taken) => self.go_in_row(line, positions, token),
@@ -189,7 +189,7 @@ impl SoundReader {
         ensures read { Returns (completing (certified_phase_in self.new)) result
             (judged_certified token.now.line (next_certifying (numbers_read line positions.items)
             [] [] (terminal_of token.now))) }
-        ensures kept { IsKept result (numbers_read line positions.items) (certified_phase_in self.new) }
+        ensures kept { StaysWithoutMemory result (numbers_read line positions.items) (certified_phase_in self.new) }
     {
         let mut positions = positions;
         match token.kind {
@@ -218,7 +218,7 @@ impl SoundReader {
         ensures read { Returns (completing (certified_phase_in self.new)) result
             (judged_certified token.now.line (next_certifying (number_wanted line)
             [] [] (terminal_of token.now))) }
-        ensures kept { IsKept result (number_wanted line) (certified_phase_in self.new) }
+        ensures kept { StaysWithoutMemory result (number_wanted line) (certified_phase_in self.new) }
     {
         match number_of(token) {
             Some(number) => {
@@ -246,7 +246,7 @@ impl SoundReader {
         ensures read { Returns (completing (certified_phase_in self.new)) result
             (judged_certified token.now.line (certify_one (with_done (certified_phase_in self.old) [] [])
             (terminal_of token.now))) }
-        ensures kept { IsKept result (certified_phase_in self.old) (certified_phase_in self.new) }
+        ensures kept { StaysWithoutMemory result (certified_phase_in self.old) (certified_phase_in self.new) }
     {
         match token.kind {
             Kind::Certificate => match self.reader.end(alloc, token.line) {
@@ -266,7 +266,7 @@ impl SoundReader {
         ensures read { Returns (completing (certified_phase_in self.new)) result
             (judged_certified token.now.line (certify_one (with_done (certified_phase_in self.old) [] [])
             (terminal_of token.now))) }
-        ensures kept { IsKept result (certified_phase_in self.old) (certified_phase_in self.new) }
+        ensures kept { StaysWithoutMemory result (certified_phase_in self.old) (certified_phase_in self.new) }
     {
         match replace(&mut self.stage, CertifiedStage::Declaring) {
             CertifiedStage::Declaring => self.take_declaring(alloc, token),

@@ -17,7 +17,7 @@ ghost use Rattle.nk_grammar.specs.CertifiedProgress.{
   so_far,
   so_far_after,
 };
-ghost use Rattle.nk_grammar.specs.CertifiedReader.{Takes, progress_of};
+ghost use Rattle.nk_grammar.specs.CertifiedReader.{TakesToken, progress_of};
 ghost use Rattle.nk_grammar.specs.File.{Declaration, IsWritten, declaration_of};
 ghost use Rattle.nk_grammar.specs.FileMachine.{Returns};
 
@@ -62,7 +62,7 @@ impl Model for CertifiedReader {
 impl Known {
     /// One more token, and what it completes. Behind a fault nothing is read.
     fn take(&mut self, alloc: Global, token: &Token) -> Result<Option<Completed>, GrammarError>
-        ensures { Takes self.old self.new token.now result }
+        ensures { TakesToken self.old self.new token.now result }
     {
         match self {
             Known::Sound(reader) => reader.take(alloc, token),

@@ -2,7 +2,7 @@
 ghost use Rattle.std.specs.Prelude.{◌≡◌, IfOk};
 ghost use Rattle.nk_grammar.specs.FileMachine.{name_in};
 ghost use Rattle.nk_grammar.specs.Machine.{number_in, quad_step};
-ghost use Rattle.nk_grammar.specs.Terminal.{is_link_sign, is_colon, is_dots, terminal_of};
+ghost use Rattle.nk_grammar.specs.Terminal.{is_link_sign, is_colon_terminal, is_dots, terminal_of};
 
 use crate::place::{Quad, QuadNext};
 use nk_lex::{Kind, Number, Token, Word, word_of};
@@ -32,7 +32,7 @@ pub fn is_dots_token(token: &Token) -> bool
 }
 
 fn is_colon_token(token: &Token) -> bool
-    ensures { result ≡ is_colon (terminal_of token.now) }
+    ensures { result ≡ is_colon_terminal (terminal_of token.now) }
 {
     match token.kind {
         Kind::Colon => true,

@@ -24,10 +24,10 @@ ghost use Rattle.nk_grammar.specs.Machine.{
   begin,
   close,
   done_at,
-  ended,
-  go_on,
-  joined,
-  start,
+  policy_ended,
+  after_factor,
+  terms_joined,
+  first_state,
   state,
   step,
   step_at,
@@ -75,7 +75,7 @@ pub struct PolicyReader {
 impl PolicyReader {
     /// A reader before the first token. It takes no memory.
     pub fn new(alloc: Global) -> PolicyReader
-        ensures { reader_state result ≡ start }
+        ensures { reader_state result ≡ first_state }
     {
         PolicyReader {
             place: Place::Want,
@@ -199,7 +199,7 @@ impl PolicyReader {
     /// The policy of the terms and factors, in front of which these are read on.
     fn take_policy(&mut self, terms: Vec<Ast>, factors: Vec<Ast>) -> Ast
         requires room { HasRoom self.old }
-        ensures tree { tree_of result ≡ joined (terms_in self.old) (factors_in self.old) }
+        ensures tree { tree_of result ≡ terms_joined (terms_in self.old) (factors_in self.old) }
         ensures terms { self.new.terms ≡ terms }
         ensures factors { self.new.factors ≡ factors }
         ensures last { self.new.last ≡ None }
@@ -216,7 +216,7 @@ impl PolicyReader {
     fn policy(&mut self, alloc: Global) -> Option<Ast>
         requires room { HasRoom self.old }
         ensures { (b : Bool) → option_map tree_of result ≡ done_at (Place.After b) (stack_in self.old)
-            (joined (terms_in self.old) (factors_in self.old)) }
+            (terms_joined (terms_in self.old) (factors_in self.old)) }
     {
         if self.frames.is_empty() {
             Some(self.take_policy(Vec::new(alloc), Vec::new(alloc)))
@@ -229,7 +229,7 @@ impl PolicyReader {
     fn refuse(&mut self, alloc: Global) -> Took
         requires room { HasRoom self.old }
         ensures { (b : Bool) → Follows result None (done_at (Place.After b) (stack_in self.old)
-            (joined (terms_in self.old) (factors_in self.old))) (reader_state self.new) }
+            (terms_joined (terms_in self.old) (factors_in self.old))) (reader_state self.new) }
     {
         match self.policy(alloc) {
             Some(policy) => Took::Ended(policy),
@@ -241,8 +241,8 @@ impl PolicyReader {
     #[tactic(auto, using(crate::proofs::Stack::stack_push))]
     fn close(&mut self, alloc: Global) -> Took
         requires room { HasRoom self.old }
-        ensures { (b : Bool) → Follows result (close (stack_in self.old) (joined (terms_in self.old) (factors_in self.old)))
-            (done_at (Place.After b) (stack_in self.old) (joined (terms_in self.old) (factors_in self.old)))
+        ensures { (b : Bool) → Follows result (close (stack_in self.old) (terms_joined (terms_in self.old) (factors_in self.old)))
+            (done_at (Place.After b) (stack_in self.old) (terms_joined (terms_in self.old) (factors_in self.old)))
             (reader_state self.new) }
     {
         match self.frames.pop() {
@@ -293,9 +293,9 @@ impl PolicyReader {
     fn go_on(&mut self, alloc: Global, starred: bool, token: &Token) -> Result<Took, AllocError>
         requires place { self.old.place ≡ Place.After starred }
         requires room { HasRoom self.old }
-        ensures state { FollowsOk result (go_on starred (stack_in self.old) (terms_in self.old)
+        ensures state { FollowsOk result (after_factor starred (stack_in self.old) (terms_in self.old)
             (factors_in self.old) (terminal_of token.now)) (done_at (Place.After starred) (stack_in self.old)
-            (joined (terms_in self.old) (factors_in self.old))) (reader_state self.new) }
+            (terms_joined (terms_in self.old) (factors_in self.old))) (reader_state self.new) }
         ensures kept { OnErr result (reader_state self.new ≡ reader_state self.old) }
     {
         match token.kind {
@@ -340,7 +340,7 @@ impl PolicyReader {
         requires room { HasRoom self.old }
         ensures state { FollowsOk result (step_at (Place.Named word) (stack_in self.old)
             (terms_in self.old) (factors_in self.old) (terminal_of token.now))
-            (ended (state (Place.Named word) (stack_in self.old) (terms_in self.old) (factors_in self.old)))
+            (policy_ended (state (Place.Named word) (stack_in self.old) (terms_in self.old) (factors_in self.old)))
             (reader_state self.new) }
         ensures kept { OnErr result (reader_state self.new ≡ state (Place.Named word) (stack_in self.old)
             (terms_in self.old) (factors_in self.old)) }
@@ -399,7 +399,7 @@ impl PolicyReader {
         requires last { self.old.last ≡ None }
         requires room { HasRoom self.old }
         ensures state { FollowsOk result (step (reader_state self.old) (terminal_of token.now))
-            (ended (reader_state self.old)) (reader_state self.new) }
+            (policy_ended (reader_state self.old)) (reader_state self.new) }
         ensures kept { OnErr result (reader_state self.new ≡ reader_state self.old) }
     {
         match replace(&mut self.place, Place::Want) {
@@ -444,7 +444,7 @@ impl PolicyReader {
     /// that is refused nothing is said of the state.
     pub fn take(&mut self, alloc: Global, token: &Token) -> Result<Took, AllocError>
         ensures state { FollowsOk result (step (reader_state self.old) (terminal_of token.now))
-            (ended (reader_state self.old)) (reader_state self.new) }
+            (policy_ended (reader_state self.old)) (reader_state self.new) }
         ensures kept { OnErr result (reader_state self.new ≡ reader_state self.old) }
     {
         self.make_ready()?;
@@ -455,7 +455,7 @@ impl PolicyReader {
     fn end_ready(&mut self, alloc: Global) -> Option<Ast>
         requires last { self.old.last ≡ None }
         requires room { HasRoom self.old }
-        ensures { option_map tree_of result ≡ ended (reader_state self.old) }
+        ensures { option_map tree_of result ≡ policy_ended (reader_state self.old) }
     {
         match replace(&mut self.place, Place::Want) {
             Place::Named(word) => {
@@ -475,7 +475,7 @@ impl PolicyReader {
 
     /// The policy, if one can end here. The only error is that memory ran out, and then nothing changed.
     pub fn end(&mut self, alloc: Global) -> Result<Option<Ast>, AllocError>
-        ensures policy { IfOk result (λ o. option_map tree_of o ≡ ended (reader_state self.old)) }
+        ensures policy { IfOk result (λ o. option_map tree_of o ≡ policy_ended (reader_state self.old)) }
         ensures kept { OnErr result (reader_state self.new ≡ reader_state self.old) }
     {
         self.make_ready()?;

@@ -23,8 +23,8 @@ ghost use Rattle.nk_grammar.specs.FileMachine.{
   reading,
   tag_read,
 };
-ghost use Rattle.nk_grammar.specs.FileReader.{IsKept, declared_by, phase_in};
-ghost use Rattle.nk_grammar.specs.Machine.{ended, step};
+ghost use Rattle.nk_grammar.specs.FileReader.{StaysWithoutMemory, declaration_done, phase_in};
+ghost use Rattle.nk_grammar.specs.Machine.{policy_ended, step};
 ghost use Rattle.nk_grammar.specs.Reader.{reader_state};
 ghost use Rattle.nk_grammar.specs.Terminal.{terminal_of};
 
@@ -69,8 +69,8 @@ impl Reader {
 
     /// A declaration begins behind one that is done.
     fn begin(&mut self, done: Option<Decl>, token: &Token) -> Result<Option<Decl>, GrammarError>
-        ensures begun { Returns (λ d. reading (phase_in self.new) (declared_by d)) result
-            (judged token.now.line (begin_declaration (declared_by done) (terminal_of token.now))) }
+        ensures begun { Returns (λ d. reading (phase_in self.new) (declaration_done d)) result
+            (judged token.now.line (begin_declaration (declaration_done done) (terminal_of token.now))) }
         ensures err { IfErr result (λ e. e ≡ GrammarError.Unexpected token.now.line) }
     {
         match token.kind {
@@ -90,7 +90,7 @@ impl Reader {
         line: u64,
         token: &Token,
     ) -> Result<Option<Decl>, GrammarError>
-        ensures read { Returns (λ d. reading (phase_in self.new) (declared_by d)) result
+        ensures read { Returns (λ d. reading (phase_in self.new) (declaration_done d)) result
             (judged token.now.line (Some (reading (in_policy name line (reader_state self.old.policy)) []))) }
         ensures err { IfErr result (λ e. e ≡ GrammarError.TooDeep token.now.line) }
     {
@@ -109,11 +109,11 @@ impl Reader {
         line: u64,
         token: &Token,
     ) -> Result<Option<Decl>, GrammarError>
-        ensures read { Returns (λ d. reading (phase_in self.new) (declared_by d)) result
+        ensures read { Returns (λ d. reading (phase_in self.new) (declaration_done d)) result
             (judged token.now.line (policy_on name line []
             (step (reader_state self.old.policy) (terminal_of token.now))
-            (ended (reader_state self.old.policy)) (terminal_of token.now))) }
-        ensures kept { IsKept result (in_policy name line (reader_state self.old.policy)) (phase_in self.new) }
+            (policy_ended (reader_state self.old.policy)) (terminal_of token.now))) }
+        ensures kept { StaysWithoutMemory result (in_policy name line (reader_state self.old.policy)) (phase_in self.new) }
     {
         match self.policy.take(alloc, token) {
             Ok(Took::Taken) => self.go_in_policy(name, line, token),
@@ -133,7 +133,7 @@ impl Reader {
         ports: Vec<Number>,
         token: &Token,
     ) -> Result<Option<Decl>, GrammarError>
-        ensures read { Returns (λ d. reading (phase_in self.new) (declared_by d)) result
+        ensures read { Returns (λ d. reading (phase_in self.new) (declaration_done d)) result
             (judged token.now.line (next_reading (port_read number ports.items) [] (terminal_of token.now))) }
         ensures err { IfErr result (λ e. e ≡ GrammarError.Unexpected token.now.line) }
     {
@@ -150,9 +150,9 @@ impl Reader {
         ports: Vec<Number>,
         token: &Token,
     ) -> Result<Option<Decl>, GrammarError>
-        ensures read { Returns (λ d. reading (phase_in self.new) (declared_by d)) result
+        ensures read { Returns (λ d. reading (phase_in self.new) (declaration_done d)) result
             (judged token.now.line (next_reading (port_wanted number ports.items) [] (terminal_of token.now))) }
-        ensures kept { IsKept result (port_wanted number ports.items) (phase_in self.new) }
+        ensures kept { StaysWithoutMemory result (port_wanted number ports.items) (phase_in self.new) }
     {
         let mut ports = ports;
         match number_of(token) {
@@ -169,7 +169,7 @@ impl Reader {
 
     /// One more token of a declared link.
     fn take_link(&mut self, quad: Quad, token: &Token) -> Result<Option<Decl>, GrammarError>
-        ensures read { Returns (λ d. reading (phase_in self.new) (declared_by d)) result
+        ensures read { Returns (λ d. reading (phase_in self.new) (declaration_done d)) result
             (judged token.now.line (next_reading (link_read quad) [] (terminal_of token.now))) }
         ensures err { IfErr result (λ e. e ≡ GrammarError.Unexpected token.now.line) }
     {
@@ -186,9 +186,9 @@ impl Reader {
         alloc: Global,
         token: &Token,
     ) -> Result<Option<Decl>, GrammarError>
-        ensures read { Returns (λ d. reading (phase_in self.new) (declared_by d)) result
+        ensures read { Returns (λ d. reading (phase_in self.new) (declaration_done d)) result
             (judged token.now.line (next_reading field_read [] (terminal_of token.now))) }
-        ensures kept { IsKept result field_read (phase_in self.new) }
+        ensures kept { StaysWithoutMemory result field_read (phase_in self.new) }
     {
         match name_of(alloc, token) {
             Ok(Some(name)) => self.go(Stage::FieldNamed(name), None),
@@ -202,9 +202,9 @@ impl Reader {
 
     /// The name of a tag is wanted.
     fn take_tag_name(&mut self, alloc: Global, token: &Token) -> Result<Option<Decl>, GrammarError>
-        ensures read { Returns (λ d. reading (phase_in self.new) (declared_by d)) result
+        ensures read { Returns (λ d. reading (phase_in self.new) (declaration_done d)) result
             (judged token.now.line (next_reading tag_read [] (terminal_of token.now))) }
-        ensures kept { IsKept result tag_read (phase_in self.new) }
+        ensures kept { StaysWithoutMemory result tag_read (phase_in self.new) }
     {
         match name_of(alloc, token) {
             Ok(Some(name)) => self.go(Stage::Between, Some(Decl::Tag(name))),
@@ -223,9 +223,9 @@ impl Reader {
         line: u64,
         token: &Token,
     ) -> Result<Option<Decl>, GrammarError>
-        ensures read { Returns (λ d. reading (phase_in self.new) (declared_by d)) result
+        ensures read { Returns (λ d. reading (phase_in self.new) (declaration_done d)) result
             (judged token.now.line (next_reading (let_read line) [] (terminal_of token.now))) }
-        ensures kept { IsKept result (let_read line) (phase_in self.new) }
+        ensures kept { StaysWithoutMemory result (let_read line) (phase_in self.new) }
     {
         match name_of(alloc, token) {
             Ok(Some(name)) => self.go(Stage::LetNamed(name, line), None),
@@ -245,7 +245,7 @@ impl Reader {
         line: u64,
         token: &Token,
     ) -> Result<Option<Decl>, GrammarError>
-        ensures read { Returns (λ d. reading (phase_in self.new) (declared_by d)) result
+        ensures read { Returns (λ d. reading (phase_in self.new) (declaration_done d)) result
             (judged token.now.line (next_reading (let_named name line) [] (terminal_of token.now))) }
         ensures err { IfErr result (λ e. e ≡ GrammarError.Unexpected token.now.line) }
     {
@@ -261,9 +261,9 @@ impl Reader {
     /// Reads one more token, and hands out the declaration that it completes. An error is the first fault of the tokens so far, or that
     /// memory ran out.
     pub fn take(&mut self, alloc: Global, token: &Token) -> Result<Option<Decl>, GrammarError>
-        ensures read { Returns (λ d. reading (phase_in self.new) (declared_by d)) result
+        ensures read { Returns (λ d. reading (phase_in self.new) (declaration_done d)) result
             (judged token.now.line (read_one (reading (phase_in self.old) []) (terminal_of token.now))) }
-        ensures kept { IsKept result (phase_in self.old) (phase_in self.new) }
+        ensures kept { StaysWithoutMemory result (phase_in self.old) (phase_in self.new) }
     {
         match replace(&mut self.stage, Stage::Between) {
             Stage::Between => self.begin(None, token),
@@ -293,9 +293,9 @@ impl Reader {
     /// Ends the text, and hands out the declaration that its end completes; `line` is that of the last token. `Unexpected` comes where
     /// the tokens so far are no text.
     pub fn end(&mut self, alloc: Global, line: u64) -> Result<Option<Decl>, GrammarError>
-        ensures read { Returns declared_by result
+        ensures read { Returns declaration_done result
             (ended_at line (declarations_at_end (reading (phase_in self.old) []))) }
-        ensures kept { IsKept result (phase_in self.old) (phase_in self.new) }
+        ensures kept { StaysWithoutMemory result (phase_in self.old) (phase_in self.new) }
     {
         match replace(&mut self.stage, Stage::Between) {
             Stage::Between => Ok(None),
@@ -318,7 +318,7 @@ impl Reader {
 /// Puts a declaration that is done behind the others. The only error is that memory ran out.
 pub fn push_declaration(decls: &mut Vec<Decl>, done: Option<Decl>) -> Result<(), AllocError>
     ensures { OnOk result (map declaration_of decls.new.items
-        ≡ map declaration_of decls.old.items ++ declared_by done) }
+        ≡ map declaration_of decls.old.items ++ declaration_done done) }
 {
     match done {
         Some(decl) => {

@@ -7,7 +7,7 @@ use Rattle.nk_store.specs.Held.{Held, IsPacket, AreTidy}
 use Rattle.nk_determ.specs.Exact.{Sends}
 use Rattle.nk_determ.specs.Pairs.{AreStates}
 use Rattle.nk_determ.proofs.Sending.{sent_in_range}
-use Rattle.nk_merge.specs.Twice.{again, labels_of, AreTwice}
+use Rattle.nk_merge.specs.Twice.{again, label_count, AreTwice}
 use Rattle.nk_merge.proofs.Marks.{again_is, again_some, some_again, again_one}
 use Rattle.nk_merge.proofs.Runs.{RunsTo, LabelGives, runs_in_range, runs_above}
 
@@ -16,12 +16,12 @@ module _ (st : Held) (states rows : List ℕ) (tw : AreTwice st states rows) whe
   pub once_within : (l : ℕ) → l < length states → l < length rows
   once_within l lt = omega (arith, lt, tw.count, tw.some)
 
-  pub twice_within : (l : ℕ) → 0 < l → l < length states → again (labels_of states) l < length rows
-  twice_within l some lt = let e = again_is (labels_of states) l some in omega (arith, e, lt, tw.count)
+  pub twice_within : (l : ℕ) → 0 < l → l < length states → again (label_count states) l < length rows
+  twice_within l some lt = let e = again_is (label_count states) l some in omega (arith, e, lt, tw.count)
 
   -- one that is marked again is none of the states' own
-  pub twice_above : (l : ℕ) → 0 < l → length states ≤ again (labels_of states) l
-  twice_above l some = let e = again_is (labels_of states) l some in omega (arith, e, some)
+  pub twice_above : (l : ℕ) → 0 < l → length states ≤ again (label_count states) l
+  twice_above l some = let e = again_is (label_count states) l some in omega (arith, e, some)
 
 module _ (st : Held) (states rows : List ℕ) (tw : AreTwice st states rows) (ok : AreStates st states) (tidy : AreTidy st) where
   -- what the rows send to are labels of the rows
@@ -30,15 +30,15 @@ module _ (st : Held) (states rows : List ℕ) (tw : AreTwice st states rows) (ok
     where
       low : length states ≤ l → t < length rows
       low le =
-          let k : ℕ = l - labels_of states in
+          let k : ℕ = l - label_count states in
           let some : 0 < k = omega (arith, le, tw.some) in
           let less : k < length states = omega (arith, lt, tw.count) in
-          let is : again (labels_of states) k ≡ l = again_is (labels_of states) k some ∙ omega (arith, le, tw.some) in
+          let is : again (label_count states) k ≡ l = again_is (label_count states) k some ∙ omega (arith, le, tw.some) in
           let w = (tw.twice k x y t some less r).0 (subst (λ i. Sends st (slice_index rows i) x y t) (sym is) s) in
           let within : w.0 < length states = ok.targets k x y w.0 less r w.1 in
           to_row w.0 within w.2
         where
-          to_row : (u : ℕ) → u < length states → t ≡ again (labels_of states) u → t < length rows
+          to_row : (u : ℕ) → u < length states → t ≡ again (label_count states) u → t < length rows
           to_row zero within e = omega (arith, e, within, tw.count)
           to_row (suc u) within e = omega (arith, e, within, tw.count)
 
@@ -66,12 +66,12 @@ module _ (st : Held) (states rows : List ℕ) (tw : AreTwice st states rows) (ok
 
   -- from one that is marked again too, and to labels that are marked again
   pub twice_runs : (w : List (List ℕ)) (l : ℕ) (x : List ℕ) (m : ℕ) → 0 < l → l < length states → IsPacket st x
-      → RunsTo st rows (again (labels_of states) l) x w m ↔ ((k : ℕ) × (m ≡ again (labels_of states) k) × RunsTo st states l x w k)
-  twice_runs [] l x m some lt r = (λ e. (l, sym e, refl), λ h. ap (again (labels_of states)) h.2 ∙ sym h.1)
+      → RunsTo st rows (again (label_count states) l) x w m ↔ ((k : ℕ) × (m ≡ again (label_count states) k) × RunsTo st states l x w k)
+  twice_runs [] l x m some lt r = (λ e. (l, sym e, refl), λ h. ap (again (label_count states)) h.2 ∙ sym h.1)
   twice_runs (z ∷ w) l x m some lt r = (
     λ h.
         let t = (tw.twice l x z h.0 some lt r).0 h.2 in
-        let next : 0 < t.0 = again_some (labels_of states) t.0 (subst (λ k. 0 < k) t.2 h.1) in
+        let next : 0 < t.0 = again_some (label_count states) t.0 (subst (λ k. 0 < k) t.2 h.1) in
         let within : t.0 < length states = ok.targets l x z t.0 lt r t.1 in
         let range : IsPacket st z = sent_in_range st (slice_index states l) x z t.0 tidy r t.1 in
         let b = (twice_runs w t.0 z m next within range).0 (subst (λ k. RunsTo st rows k z w m) t.2 h.3) in
@@ -82,9 +82,9 @@ module _ (st : Held) (states rows : List ℕ) (tw : AreTwice st states rows) (ok
         let s : Sends st (slice_index states l) x z u = h.2.2 in
         let within : u < length states = ok.targets l x z u lt r s in
         let range : IsPacket st z = sent_in_range st (slice_index states l) x z u tidy r s in (
-          again (labels_of states) u,
-          some_again (labels_of states) u next,
-          (tw.twice l x z (again (labels_of states) u) some lt r).1 (u, s, refl),
+          again (label_count states) u,
+          some_again (label_count states) u next,
+          (tw.twice l x z (again (label_count states) u) some lt r).1 (u, s, refl),
           (twice_runs w u z m next within range).1 (h.0, h.1, h.2.3),
         ),
   )
@@ -104,15 +104,15 @@ module _ (st : Held) (states rows : List ℕ) (tw : AreTwice st states rows) (ok
 
   -- what a label ends at is what it ends at marked again
   pub twice_ends : (l : ℕ) (x y : List ℕ) → 0 < l → l < length states → IsPacket st x
-      → Sends st (slice_index rows (again (labels_of states) l)) x y 0 ↔ Sends st (slice_index states l) x y 0
+      → Sends st (slice_index rows (again (label_count states) l)) x y 0 ↔ Sends st (slice_index states l) x y 0
   twice_ends l x y some lt r =
       let e = tw.twice l x y 0 some lt r in (
-        λ h. let b = e.0 h in subst (λ k. Sends st (slice_index states l) x y k) (sym (again_one (labels_of states) 0 b.0 b.2)) b.1,
+        λ h. let b = e.0 h in subst (λ k. Sends st (slice_index states l) x y k) (sym (again_one (label_count states) 0 b.0 b.2)) b.1,
         λ h. e.1 (0, h, refl),
       )
 
   pub twice_gives : (l : ℕ) (x : List ℕ) (w : List (List ℕ)) (y : List ℕ) → 0 < l → l < length states → IsPacket st x
-      → LabelGives st rows (again (labels_of states) l) x w y ↔ LabelGives st states l x w y
+      → LabelGives st rows (again (label_count states) l) x w y ↔ LabelGives st states l x w y
   twice_gives l x w y some lt r = (
     λ h.
         let b = (twice_runs w l x h.0 some lt r).0 h.1 in
@@ -122,5 +122,5 @@ module _ (st : Held) (states rows : List ℕ) (tw : AreTwice st states rows) (ok
     λ h.
         let there = runs_in_range st states ok tidy w l x h.0 lt r h.1 in
         let above = runs_above st states w l x h.0 some h.1 in
-        (again (labels_of states) h.0, (twice_runs w l x (again (labels_of states) h.0) some lt r).1 (h.0, refl, h.1), (twice_ends h.0 (last_from x w) y above there.1 there.0).1 h.2),
+        (again (label_count states) h.0, (twice_runs w l x (again (label_count states) h.0) some lt r).1 (h.0, refl, h.1), (twice_ends h.0 (last_from x w) y above there.1 there.0).1 h.2),
   )

@@ -14,7 +14,7 @@ use Rattle.nk_determ.specs.Pairs.{HavePlaces, AreStates}
 use Rattle.nk_reach.specs.Sides.{alone, ends_of, AreOneSided, IsGoalOf}
 use Rattle.nk_reach.proofs.Kept.{packet_on, packet_back}
 use Rattle.nk_reach.proofs.Growing.{sends_on, sends_back, states_grow}
-use Rattle.nk_merge.specs.Twice.{again, labels_of, AreTwice, IsTwice, IsTwiceUpTo, IsMadeBy, AreMadeBy}
+use Rattle.nk_merge.specs.Twice.{again, label_count, AreTwice, IsTwice, IsTwiceUpTo, IsMadeBy, AreMadeBy}
 use Rattle.nk_merge.specs.declared.twice.Twice.{Twice}
 use Rattle.nk_merge.proofs.Marks.{again_is}
 use Rattle.nk_merge.proofs.Entries.{put_entry}
@@ -61,20 +61,20 @@ none_again old new states rows e = record {
 
 module _ (old mid new : Held) (states rows : List ℕ) (n row : ℕ) (table : List (Option ℕ)) (begun : Grows old mid) (grows : Grows mid new) (ok : AreStates old states) (some : 0 < n) (lt : n < length states)
     (k : IsTwiceUpTo old mid states rows n)
-    (is : (t : ℕ) → t < length states → slice_index_or table t None ≡ Some (again (labels_of states) t))
+    (is : (t : ℕ) → t < length states → slice_index_or table t None ≡ Some (again (label_count states) t))
     (h : HasLeaves new row (λ pk. retargeted table (look mid (slice_index states n) pk))) where
   -- an earlier row, and the new one
-  earlier : (l : ℕ) → 0 < l → l < n → slice_index (rows ++ row ∷ []) (again (labels_of states) l) ≡ slice_index rows (again (labels_of states) l)
+  earlier : (l : ℕ) → 0 < l → l < n → slice_index (rows ++ row ∷ []) (again (label_count states) l) ≡ slice_index rows (again (label_count states) l)
   earlier l above less =
-      let e = again_is (labels_of states) l above in
-      before rows row (again (labels_of states) l) (omega (arith, e, less, lt, k.count))
+      let e = again_is (label_count states) l above in
+      before rows row (again (label_count states) l) (omega (arith, e, less, lt, k.count))
 
-  newest : slice_index (rows ++ row ∷ []) (again (labels_of states) n) ≡ row
-  newest = last_is rows row (again (labels_of states) n) (omega (arith, again_is (labels_of states) n some, lt, k.count))
+  newest : slice_index (rows ++ row ∷ []) (again (label_count states) n) ≡ row
+  newest = last_is rows row (again (label_count states) n) (omega (arith, again_is (label_count states) n some, lt, k.count))
 
   -- the new row does what the state does, to labels that are marked again
   new_sends : (pk y : List ℕ) (t : ℕ) → IsPacket old pk
-      → Sends new row pk y t ↔ ((u : ℕ) × Sends old (slice_index states n) pk y u × (t ≡ again (labels_of states) u))
+      → Sends new row pk y t ↔ ((u : ℕ) × Sends old (slice_index states n) pk y u × (t ≡ again (label_count states) u))
   new_sends pk y t r =
       let q : IsPacket mid pk = packet_on old mid pk begun r in
       let id = ok.ids n lt in (
@@ -82,7 +82,7 @@ module _ (old mid new : Held) (states rows : List ℕ) (n row : ℕ) (table : Li
             let b = by_table mid new table (slice_index states n) row h pk y q t s in
             let was : Sends old (slice_index states n) pk y b.0 = sends_back old mid (slice_index states n) pk y b.0 begun id b.1 in
             let within : b.0 < length states = ok.targets n pk y b.0 lt r was in
-            (b.0, was, some_one t (again (labels_of states) b.0) (sym b.2 ∙ is b.0 within)),
+            (b.0, was, some_one t (again (label_count states) b.0) (sym b.2 ∙ is b.0 within)),
         λ s.
             let within : s.0 < length states = ok.targets n pk y s.0 lt r s.1 in
             to_table mid new table (slice_index states n) row h pk y q t s.0 (sends_on old mid (slice_index states n) pk y s.0 begun id s.1)
@@ -96,8 +96,8 @@ module _ (old mid new : Held) (states rows : List ℕ) (n row : ℕ) (table : Li
     once = λ l less. before rows row l (omega (arith, less, k.count, some)) ∙ k.once l less;
     ids = λ l above less.
         ⊎_elim
-        (λ old_one. subst (λ d. IsId new d) (sym (earlier l above old_one)) (grows.ids (get_or rows (again (labels_of states) l) 0) (k.ids l above old_one)))
-        (λ e. subst (λ d. IsId new d) (sym (ap (λ j. slice_index (rows ++ row ∷ []) (again (labels_of states) j)) e ∙ newest)) h.id)
+        (λ old_one. subst (λ d. IsId new d) (sym (earlier l above old_one)) (grows.ids (get_or rows (again (label_count states) l) 0) (k.ids l above old_one)))
+        (λ e. subst (λ d. IsId new d) (sym (ap (λ j. slice_index (rows ++ row ∷ []) (again (label_count states) j)) e ∙ newest)) h.id)
         (last_or_before n l (omega (arith, less)));
     twice = λ l pk y t above less r.
         ⊎_elim
@@ -107,21 +107,21 @@ module _ (old mid new : Held) (states rows : List ℕ) (n row : ℕ) (table : Li
   }
     where
       by_earlier : (l : ℕ) (pk y : List ℕ) (t : ℕ) → 0 < l → l < n → IsPacket old pk
-          → Sends new (slice_index (rows ++ row ∷ []) (again (labels_of states) l)) pk y t
-          ↔ ((u : ℕ) × Sends old (slice_index states l) pk y u × (t ≡ again (labels_of states) u))
+          → Sends new (slice_index (rows ++ row ∷ []) (again (label_count states) l)) pk y t
+          ↔ ((u : ℕ) × Sends old (slice_index states l) pk y u × (t ≡ again (label_count states) u))
       by_earlier l pk y t above old_one r =
           let e = earlier l above old_one in
           let b = k.twice l pk y t above old_one r in
           let id = k.ids l above old_one in (
-            λ s. b.0 (sends_back mid new (get_or rows (again (labels_of states) l) 0) pk y t grows id (subst (λ d. Sends new d pk y t) e s)),
-            λ s. subst (λ d. Sends new d pk y t) (sym e) (sends_on mid new (get_or rows (again (labels_of states) l) 0) pk y t grows id (b.1 s)),
+            λ s. b.0 (sends_back mid new (get_or rows (again (label_count states) l) 0) pk y t grows id (subst (λ d. Sends new d pk y t) e s)),
+            λ s. subst (λ d. Sends new d pk y t) (sym e) (sends_on mid new (get_or rows (again (label_count states) l) 0) pk y t grows id (b.1 s)),
           )
 
       by_newest : (l : ℕ) (pk y : List ℕ) (t : ℕ) → l ≡ n → IsPacket old pk
-          → Sends new (slice_index (rows ++ row ∷ []) (again (labels_of states) l)) pk y t
-          ↔ ((u : ℕ) × Sends old (slice_index states l) pk y u × (t ≡ again (labels_of states) u))
+          → Sends new (slice_index (rows ++ row ∷ []) (again (label_count states) l)) pk y t
+          ↔ ((u : ℕ) × Sends old (slice_index states l) pk y u × (t ≡ again (label_count states) u))
       by_newest l pk y t e r =
-          let at = ap (λ j. slice_index (rows ++ row ∷ []) (again (labels_of states) j)) e ∙ newest in
+          let at = ap (λ j. slice_index (rows ++ row ∷ []) (again (label_count states) j)) e ∙ newest in
           let b = new_sends pk y t r in (
             λ s. let w = b.0 (subst (λ d. Sends new d pk y t) at s) in (w.0, subst (λ j. Sends old (slice_index states j) pk y w.0) (sym e) w.1, w.2),
             λ s. subst (λ d. Sends new d pk y t) (sym at) (b.1 (s.0, subst (λ j. Sends old (slice_index states j) pk y s.0) e s.1, s.2)),
@@ -146,10 +146,10 @@ all_again old new states rows n g ok some e k = record {
     id_at i lt =
         ⊎_elim
         (λ high.
-        let l : ℕ = i - labels_of states in
+        let l : ℕ = i - label_count states in
         let above : 0 < l = omega (arith, high.1, some) in
         let less : l < n = omega (arith, lt, k.count, high.1, some) in
-        let is : again (labels_of states) l ≡ i = again_is (labels_of states) l above ∙ omega (arith, high.1, some) in
+        let is : again (label_count states) l ≡ i = again_is (label_count states) l above ∙ omega (arith, high.1, some) in
         subst (λ j. IsId new (slice_index rows j)) is (k.ids l above less))
         (λ low. subst (λ d. IsId new d) (sym (k.once i low.1)) (g.ids (get_or states i 0) (ok.ids i low.1)))
         (leb_tells (length states) i)

@@ -11,7 +11,7 @@ use Rattle.nk_determ.specs.Breaks.{Walks}
 use Rattle.nk_reach.specs.Sides.{EndsAt}
 use Rattle.nk_reach.proofs.Growing.{place_of}
 use Rattle.nk_merge.specs.Alike.{SetGives}
-use Rattle.nk_merge.specs.Twice.{again, labels_of, AreTwice}
+use Rattle.nk_merge.specs.Twice.{again, label_count, AreTwice}
 use Rattle.nk_merge.specs.Joined.{both_sets}
 use Rattle.nk_merge.proofs.Marks.{mark_below, mark_above, below_from, above_from, some_again, from_both, first_of_both, second_of_both}
 use Rattle.nk_merge.proofs.Runs.{RunsTo, runs_above, runs_in_range, walk_members, walk_last, run_walks, gives_runs}
@@ -22,22 +22,22 @@ module _ (st : Held) (states rows : List ℕ) (tw : AreTwice st states rows) (ok
     (sa : (l : ℕ) → Contains s l → 0 < l) (ta : (l : ℕ) → Contains t l → 0 < l) where
   -- both sets together
   abbrev pub whole : List ℕ
-  whole = both_sets (labels_of states) s t
+  whole = both_sets (label_count states) s t
 
   -- its labels are above 0, and labels of the rows
   whole_above : (l : ℕ) → Contains whole l → 0 < l
   whole_above l c =
       ⊎_elim
       (λ h. sa l h)
-      (λ h. subst (λ k. 0 < k) (sym h.2) (some_again (labels_of states) h.0 (ta h.0 h.1)))
-      (from_both (labels_of states) s t l c)
+      (λ h. subst (λ k. 0 < k) (sym h.2) (some_again (label_count states) h.0 (ta h.0 h.1)))
+      (from_both (label_count states) s t l c)
 
   pub whole_places : HavePlaces (length rows) whole
   whole_places =
       all_from_members (λ l. l < length rows) whole
-      (λ l i. by l (from_both (labels_of states) s t l (contains_from_in whole l i)))
+      (λ l i. by l (from_both (label_count states) s t l (contains_from_in whole l i)))
     where
-      by : (l : ℕ) → Contains s l ⊎ ((k : ℕ) × Contains t k × (l ≡ again (labels_of states) k)) → l < length rows
+      by : (l : ℕ) → Contains s l ⊎ ((k : ℕ) × Contains t k × (l ≡ again (label_count states) k)) → l < length rows
       by l (inl c) = once_within st states rows tw l (place_of (length states) s l sp c)
       by l (inr h) =
           subst (λ k. k < length rows) (sym h.2)
@@ -47,15 +47,15 @@ module _ (st : Held) (states rows : List ℕ) (tw : AreTwice st states rows) (ok
   pub first_walks : (x : List ℕ) (w : List (List ℕ)) (l m : ℕ) → IsPacket st x → Contains s l → RunsTo st states l x w m
       → (n : Node) × Walks (IsStep st rows) (whole, x) w n
   first_walks x w l m r c h =
-      run_walks st rows (rows_are st states rows tw ok tidy) tidy w whole x l m whole_places r (first_of_both (labels_of states) s t l c)
+      run_walks st rows (rows_are st states rows tw ok tidy) tidy w whole x l m whole_places r (first_of_both (label_count states) s t l c)
       ((once_runs st states rows tw ok tidy w l x m (place_of (length states) s l sp c) r).1 h)
 
   pub second_walks : (x : List ℕ) (w : List (List ℕ)) (l m : ℕ) → IsPacket st x → Contains t l → RunsTo st states l x w m
       → (n : Node) × Walks (IsStep st rows) (whole, x) w n
   second_walks x w l m r c h =
-      run_walks st rows (rows_are st states rows tw ok tidy) tidy w whole x (again (labels_of states) l) (again (labels_of states) m) whole_places r
-      (second_of_both (labels_of states) s t l c)
-      ((twice_runs st states rows tw ok tidy w l x (again (labels_of states) m) (ta l c) (place_of (length states) t l tp c) r).1 (m, refl, h))
+      run_walks st rows (rows_are st states rows tw ok tidy) tidy w whole x (again (label_count states) l) (again (label_count states) m) whole_places r
+      (second_of_both (label_count states) s t l c)
+      ((twice_runs st states rows tw ok tidy w l x (again (label_count states) m) (ta l c) (place_of (length states) t l tp c) r).1 (m, refl, h))
 
   -- a set that gives a history has its records walked
   pub first_walked : (x : List ℕ) (w : List (List ℕ)) (y : List ℕ) → IsPacket st x → SetGives st states s x w y
@@ -74,15 +74,15 @@ module _ (st : Held) (states rows : List ℕ) (tw : AreTwice st states rows) (ok
     -- the labels where the walk leads are those to which labels of one of the sets lead
     from_sets : (m : ℕ) → Contains n.0 m
         → ((l : ℕ) × Contains s l × RunsTo st states l x w m)
-        ⊎ ((l : ℕ) × (k : ℕ) × Contains t l × (m ≡ again (labels_of states) k) × RunsTo st states l x w k)
-    from_sets m c = by b.0 b.2 (from_both (labels_of states) s t b.0 b.1)
+        ⊎ ((l : ℕ) × (k : ℕ) × Contains t l × (m ≡ again (label_count states) k) × RunsTo st states l x w k)
+    from_sets m c = by b.0 b.2 (from_both (label_count states) s t b.0 b.1)
       where
         b : (l : ℕ) × Contains whole l × RunsTo st rows l x w m
         b = (walk_members st rows w whole x n walk m).0 c
 
-        by : (l : ℕ) → RunsTo st rows l x w m → Contains s l ⊎ ((k : ℕ) × Contains t k × (l ≡ again (labels_of states) k))
+        by : (l : ℕ) → RunsTo st rows l x w m → Contains s l ⊎ ((k : ℕ) × Contains t k × (l ≡ again (label_count states) k))
             → ((l : ℕ) × Contains s l × RunsTo st states l x w m)
-            ⊎ ((l : ℕ) × (k : ℕ) × Contains t l × (m ≡ again (labels_of states) k) × RunsTo st states l x w k)
+            ⊎ ((l : ℕ) × (k : ℕ) × Contains t l × (m ≡ again (label_count states) k) × RunsTo st states l x w k)
         by l run (inl i) = inl (l, i, (once_runs st states rows tw ok tidy w l x m (place_of (length states) s l sp i) r).0 run)
         by l run (inr i) =
             let u = (twice_runs st states rows tw ok tidy w i.0 x m (ta i.0 i.1) (place_of (length states) t i.0 tp i.1) r).0 (subst (λ k. RunsTo st rows k x w m) i.2 run) in
@@ -121,7 +121,7 @@ module _ (st : Held) (states rows : List ℕ) (tw : AreTwice st states rows) (ok
             let place = place_of (length states) s h.0 sp h.1 in
             let within = (runs_in_range st states ok tidy w h.0 x h.2.0 place r h.2.1).1 in
             let here = (walk_members st rows w whole x n walk h.2.0).1
-            (h.0, first_of_both (labels_of states) s t h.0 h.1, (once_runs st states rows tw ok tidy w h.0 x h.2.0 place r).1 h.2.1) in
+            (h.0, first_of_both (label_count states) s t h.0 h.1, (once_runs st states rows tw ok tidy w h.0 x h.2.0 place r).1 h.2.1) in
             let sends = subst (λ d. Sends st d (last_from x w) y 0) (sym (tw.once h.2.0 within)) h.2.2 in
             inr (
               h.2.0,
@@ -159,14 +159,14 @@ module _ (st : Held) (states rows : List ℕ) (tw : AreTwice st states rows) (ok
             let place = place_of (length states) t h.0 tp h.1 in
             let there = runs_in_range st states ok tidy w h.0 x h.2.0 place r h.2.1 in
             let above = runs_above st states w h.0 x h.2.0 (ta h.0 h.1) h.2.1 in
-            let m : ℕ = again (labels_of states) h.2.0 in
+            let m : ℕ = again (label_count states) h.2.0 in
             let here = (walk_members st rows w whole x n walk m).1
-            (again (labels_of states) h.0, second_of_both (labels_of states) s t h.0 h.1, (twice_runs st states rows tw ok tidy w h.0 x m (ta h.0 h.1) place r).1 (h.2.0, refl, h.2.1)) in
+            (again (label_count states) h.0, second_of_both (label_count states) s t h.0 h.1, (twice_runs st states rows tw ok tidy w h.0 x m (ta h.0 h.1) place r).1 (h.2.0, refl, h.2.1)) in
             let sends = (twice_ends st states rows tw ok tidy h.2.0 (last_from x w) y above there.1 there.0).1 h.2.2 in
             inr (
               m,
               here,
-              some_again (labels_of states) h.2.0 above,
+              some_again (label_count states) h.2.0 above,
               mark_above (length states) m (twice_above st states rows tw h.2.0 above),
               subst (λ v. Sends st (slice_index rows m) v y 0) (sym (walk_last st rows w whole x n walk)) sends,
             )

@@ -14,7 +14,7 @@ use Rattle.nk_reach.proofs.Kept.{packet_on, packet_back}
 use Rattle.nk_reach.proofs.Growing.{place_of, sends_on, sends_back, leads_on, leads_back, states_grow, step_on, step_back, step_places}
 use Rattle.nk_merge.specs.Alike.{SetGives, AreAlike}
 use Rattle.nk_merge.specs.Apart.{IsOfFirst, IsOfOne, IsLeastOfOne}
-use Rattle.nk_merge.specs.Twice.{again, labels_of, AreTwice, IsTwice}
+use Rattle.nk_merge.specs.Twice.{again, label_count, AreTwice, IsTwice}
 use Rattle.nk_merge.specs.declared.twice.Twice.{Twice}
 use Rattle.nk_merge.proofs.Runs.{walk_places}
 use Rattle.nk_merge.proofs.Copies.{twice_within}
@@ -127,11 +127,11 @@ rows_on a b states rows g ok k = record {
   once = k.once;
   twice = λ l pk y t some lt r.
       let e = k.twice l pk y t some lt (packet_back a b pk g r) in
-      let mine = k.ids (again (labels_of states) l) (twice_within a states rows k l some lt) in (
+      let mine = k.ids (again (label_count states) l) (twice_within a states rows k l some lt) in (
         λ s.
-            let h = e.0 (sends_back a b (get_or rows (again (labels_of states) l) 0) pk y t g mine s) in
+            let h = e.0 (sends_back a b (get_or rows (again (label_count states) l) 0) pk y t g mine s) in
             (h.0, sends_on a b (get_or states l 0) pk y h.0 g (ok.ids l lt) h.1, h.2),
-        λ h. sends_on a b (get_or rows (again (labels_of states) l) 0) pk y t g mine (e.1 (h.0, sends_back a b (get_or states l 0) pk y h.0 g (ok.ids l lt) h.1, h.2)),
+        λ h. sends_on a b (get_or rows (again (label_count states) l) 0) pk y t g mine (e.1 (h.0, sends_back a b (get_or states l 0) pk y h.0 g (ok.ids l lt) h.1, h.2)),
       );
 }
 

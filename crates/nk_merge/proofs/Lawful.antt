@@ -8,7 +8,7 @@ use Rattle.nk_determ.specs.Pairs.{HavePlaces, AreStates}
 use Rattle.nk_reach.proofs.Growing.{place_of}
 use Rattle.nk_merge.specs.Alike.{SetGives, AreAlike, AreTagsAlike}
 use Rattle.nk_merge.specs.Classes.{IsEquivalence}
-use Rattle.nk_merge.specs.Twice.{again, labels_of, AreTwice}
+use Rattle.nk_merge.specs.Twice.{again, label_count, AreTwice}
 use Rattle.nk_merge.proofs.Runs.{LabelGives, gives_runs}
 use Rattle.nk_merge.proofs.Copies.{once_within, twice_within, rows_are, once_gives, twice_gives}
 
@@ -71,25 +71,25 @@ module _ (st : Held) (states : List ℕ) (ok : AreStates st states) (tidy : AreT
         )
 
     -- and so does the second one
-    pub second_copy : ((l : ℕ) → Contains set l → 0 < l) → SetGives st rows (map (again (labels_of states)) set) x w y ↔ SetGives st states set x w y
+    pub second_copy : ((l : ℕ) → Contains set l → 0 < l) → SetGives st rows (map (again (label_count states)) set) x w y ↔ SetGives st states set x w y
     second_copy above =
-        let marked : List ℕ = map (again (labels_of states)) set in
+        let marked : List ℕ = map (again (label_count states)) set in
         let f = gives_runs st states ok tidy set x w y p r in
         let rp : HavePlaces (length rows) marked = all_from_members (λ l. l < length rows) marked (λ l i. placed l i) in
         let e = gives_runs st rows (rows_are st states rows tw ok tidy) tidy marked x w y rp r in (
           λ g.
               let h = e.0 g in
-              let m = from_mapped (again (labels_of states)) set h.0 (in_from_contains marked h.0 h.1) in
+              let m = from_mapped (again (label_count states)) set h.0 (in_from_contains marked h.0 h.1) in
               let c = contains_from_in set m.0 m.1 in
               f.1 (m.0, c, (twice_gives st states rows tw ok tidy m.0 x w y (above m.0 c) (within m.0 c) r).0 (subst (λ l. LabelGives st rows l x w y) m.2 h.2)),
           λ g.
               let h = f.0 g in
-              let c = contains_from_in marked (again (labels_of states) h.0) (in_mapped (again (labels_of states)) set h.0 (in_from_contains set h.0 h.1)) in
-              e.1 (again (labels_of states) h.0, c, (twice_gives st states rows tw ok tidy h.0 x w y (above h.0 h.1) (within h.0 h.1) r).1 h.2),
+              let c = contains_from_in marked (again (label_count states) h.0) (in_mapped (again (label_count states)) set h.0 (in_from_contains set h.0 h.1)) in
+              e.1 (again (label_count states) h.0, c, (twice_gives st states rows tw ok tidy h.0 x w y (above h.0 h.1) (within h.0 h.1) r).1 h.2),
         )
       where
-        placed : (l : ℕ) → In (map (again (labels_of states)) set) l → l < length rows
+        placed : (l : ℕ) → In (map (again (label_count states)) set) l → l < length rows
         placed l i =
-            let m = from_mapped (again (labels_of states)) set l i in
+            let m = from_mapped (again (label_count states)) set l i in
             let c = contains_from_in set m.0 m.1 in
             subst (λ k. k < length rows) (sym m.2) (twice_within st states rows tw m.0 (above m.0 c) (within m.0 c))

@@ -12,10 +12,10 @@ use Rattle.nk_reach.specs.Finds.{first_set, first_packets, target_of}
 use Rattle.nk_reach.specs.declared.found.Side.{Side}
 use Rattle.nk_reach.proofs.Kept.{packet_back, has_on}
 use Rattle.nk_reach.proofs.Settling.{levels_now}
-use Rattle.nk_merge.specs.Alike.{behind, AreAlike}
+use Rattle.nk_merge.specs.Alike.{labels_behind, AreAlike}
 use Rattle.nk_merge.specs.Apart.{IsLeastOfOne}
 use Rattle.nk_merge.specs.Joined.{both_sets, AreLevelsOfTwo}
-use Rattle.nk_merge.specs.Twice.{labels_of, IsTwice}
+use Rattle.nk_merge.specs.Twice.{label_count, IsTwice}
 use Rattle.nk_merge.specs.declared.twice.Twice.{Twice}
 use Rattle.nk_merge.proofs.Marks.{behind_some}
 use Rattle.nk_merge.proofs.Copies.{rows_are}
@@ -29,18 +29,18 @@ rows_stand st states twice given e k tidy = subst (λ r. AreStates st r) (sym e)
 
 -- both sets together are places among the rows
 pub both_have_places : (st : Held) (states : List ℕ) (twice : Twice) (xs ys given set : List ℕ) → given ≡ twice.rows → IsTwice st states twice → AreTidy st
-    → HavePlaces (length states) (behind xs) → HavePlaces (length states) (behind ys)
-    → set ≡ both_sets (labels_of states) (behind xs) (behind ys) → HavePlaces (length given) set
+    → HavePlaces (length states) (labels_behind xs) → HavePlaces (length states) (labels_behind ys)
+    → set ≡ both_sets (label_count states) (labels_behind xs) (labels_behind ys) → HavePlaces (length given) set
 both_have_places st states twice xs ys given set e k tidy sp tp is =
     subst (λ s. HavePlaces (length given) s) (sym is)
-    (subst (λ r. HavePlaces (length r) (both_sets (labels_of states) (behind xs) (behind ys))) (sym e)
-    (whole_places st states twice.rows k.rows k.states_are tidy (behind xs) (behind ys) sp tp (behind_some xs) (behind_some ys)))
+    (subst (λ r. HavePlaces (length r) (both_sets (label_count states) (labels_behind xs) (labels_behind ys))) (sym e)
+    (whole_places st states twice.rows k.rows k.states_are tidy (labels_behind xs) (labels_behind ys) sp tp (behind_some xs) (behind_some ys)))
 
 -- levels that begin with both sets at all packets are levels of both
 pub two_levels : (old new : Held) (ss : List (List ℕ)) (states s t : List ℕ) (twice made : Twice) (given : List ℕ) (set start : ℕ) (ls : List (List (ℕ × ℕ))) (broken : Bool)
     → Grows old new → AreTidy old → AreTidy new → IsTwice old states twice → given ≡ twice.rows → made.rows ≡ twice.rows
     → ((st : Held) (set pk : List ℕ) → alone (ends_of st made.goal.ends set pk) ≡ alone (ends_of st twice.goal.ends set pk))
-    → slice_index_or ss set [] ≡ both_sets (labels_of states) s t
+    → slice_index_or ss set [] ≡ both_sets (label_count states) s t
     → IsId old start → ((pk : List ℕ) → IsPacket old pk → is_in old start pk ≡ true)
     → AreLevels old new ss given set start (λ set pk. bad_in old twice set pk) ls broken
     → AreLevelsOfTwo new ss states s t made ls broken
@@ -70,27 +70,27 @@ two_levels old new ss states s t twice made given set start ls broken g tidy lat
 
 module _ (old new : Held) (ss : List (List ℕ)) (states xs ys : List ℕ) (twice made : Twice) (ls : List (List (ℕ × ℕ))) (broken : Bool)
     (g : Grows old new) (k : IsTwice old states twice) (l : IsTwice new states made)
-    (sp : HavePlaces (length states) (behind xs)) (tp : HavePlaces (length states) (behind ys))
-    (lv : AreLevelsOfTwo new ss states (behind xs) (behind ys) made ls broken) where
+    (sp : HavePlaces (length states) (labels_behind xs)) (tp : HavePlaces (length states) (labels_behind ys))
+    (lv : AreLevelsOfTwo new ss states (labels_behind xs) (labels_behind ys) made ls broken) where
   -- what the levels say holds of the store before
-  pub same_before : broken ≡ false → AreAlike old states (behind xs) (behind ys)
+  pub same_before : broken ≡ false → AreAlike old states (labels_behind xs) (labels_behind ys)
   same_before e =
-      alike_back old new states g k.states_are (behind xs) (behind ys) sp tp
-      (tell_same new ss states (behind xs) (behind ys) made ls broken l sp tp (behind_some xs) (behind_some ys) lv e)
+      alike_back old new states g k.states_are (labels_behind xs) (labels_behind ys) sp tp
+      (tell_same new ss states (labels_behind xs) (labels_behind ys) made ls broken l sp tp (behind_some xs) (behind_some ys) lv e)
 
-  pub apart_before : broken ≡ true → AreAlike old states (behind xs) (behind ys) → ⊥
+  pub apart_before : broken ≡ true → AreAlike old states (labels_behind xs) (labels_behind ys) → ⊥
   apart_before e alike =
-      tell_apart new ss states (behind xs) (behind ys) made ls broken l sp tp (behind_some xs) (behind_some ys) lv e
-      (alike_on old new states g k.states_are (behind xs) (behind ys) sp tp alike)
+      tell_apart new ss states (labels_behind xs) (labels_behind ys) made ls broken l sp tp (behind_some xs) (behind_some ys) lv e
+      (alike_on old new states g k.states_are (labels_behind xs) (labels_behind ys) sp tp alike)
 
   pub least_before : (given : List ℕ) → given ≡ made.rows → (side : Side) (f : Found)
       → IsBreak new given (slice_index_or ss (first_set ls) []) (first_packets ls) (λ set pk. bad_in new made set pk) (target_of side) f
       → IsLeast (Breaks new given (slice_index_or ss (first_set ls) []) (first_packets ls) (λ set pk. bad_in new made set pk)) f
-      → IsLeastOfOne old states (behind xs) (behind ys) side f
+      → IsLeastOfOne old states (labels_behind xs) (labels_behind ys) side f
   least_before given e side f b least =
-      least_back old new states g k.states_are (behind xs) (behind ys) sp tp side f
-      (least_is new ss states (behind xs) (behind ys) made ls broken l sp tp (behind_some xs) (behind_some ys) lv side f
-      (subst (λ r. IsBreak new r (both_sets (labels_of states) (behind xs) (behind ys)) (first_packets ls) (λ set pk. bad_in new made set pk) (target_of side) f) e
+      least_back old new states g k.states_are (labels_behind xs) (labels_behind ys) sp tp side f
+      (least_is new ss states (labels_behind xs) (labels_behind ys) made ls broken l sp tp (behind_some xs) (behind_some ys) lv side f
+      (subst (λ r. IsBreak new r (both_sets (label_count states) (labels_behind xs) (labels_behind ys)) (first_packets ls) (λ set pk. bad_in new made set pk) (target_of side) f) e
       (subst (λ s. IsBreak new given s (first_packets ls) (λ set pk. bad_in new made set pk) (target_of side) f) lv.set_is b))
-      (subst (λ r. IsLeast (Breaks new r (both_sets (labels_of states) (behind xs) (behind ys)) (first_packets ls) (λ set pk. bad_in new made set pk)) f) e
+      (subst (λ r. IsLeast (Breaks new r (both_sets (label_count states) (labels_behind xs) (labels_behind ys)) (first_packets ls) (λ set pk. bad_in new made set pk)) f) e
       (subst (λ s. IsLeast (Breaks new given s (first_packets ls) (λ set pk. bad_in new made set pk)) f) lv.set_is least)))

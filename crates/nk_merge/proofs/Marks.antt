@@ -10,7 +10,7 @@ use Rattle.nk_determ.specs.Exact.{Sends}
 use Rattle.nk_determ.specs.States.{StateLeads}
 use Rattle.nk_reach.specs.Sides.{mark_of, EndsAt}
 use Rattle.nk_runs.proofs.Listings.{some_decided, sends_decided}
-use Rattle.nk_merge.specs.Alike.{behind}
+use Rattle.nk_merge.specs.Alike.{labels_behind}
 use Rattle.nk_merge.specs.Twice.{again}
 use Rattle.nk_merge.specs.Joined.{both_sets}
 
@@ -116,8 +116,8 @@ second_of_both n s t k c =
     contains_from_in (both_sets n s t) (again n k) (in_right s (map (again n) t) (again n k) (in_mapped (again n) t k (in_from_contains t k c)))
 
 -- a label behind others is above 0
-pub behind_some : (s : List ℕ) (l : ℕ) → Contains (behind s) l → 0 < l
-behind_some s l c = let m = from_mapped (λ k. k + 1) s l (in_from_contains (behind s) l c) in omega (arith, m.2)
+pub behind_some : (s : List ℕ) (l : ℕ) → Contains (labels_behind s) l → 0 < l
+behind_some s l c = let m = from_mapped (λ k. k + 1) s l (in_from_contains (labels_behind s) l c) in omega (arith, m.2)
 
 -- a list that can't but be empty is empty
 pub empty_from : {X : Type 0} (xs : List X) → ((xs ≡ [] → ⊥) → ⊥) → xs ≡ []

@@ -4,7 +4,7 @@ use Rattle.std.specs.Prelude.{slice_index}
 use Rattle.std.proofs.lemmas.Bool.Decides.{leb_tells, eqb_tells}
 use Rattle.std.proofs.lemmas.List.{ext_get_or}
 use Rattle.std.proofs.Math.Seq.{get_or-append_seam}
-use Rattle.nk_merge.specs.Classes.{AreClasses, AreFirsts, IsEquivalence, with_first}
+use Rattle.nk_merge.specs.Classes.{AreClasses, AreFirsts, IsEquivalence, with_first_member}
 
 -- below the next number a number is that of a thing before, or the last one
 pub last_or_before : (i j : ℕ) → j < suc i → (j < i) ⊎ (j ≡ i)
@@ -133,7 +133,7 @@ module _ (Alike : ℕ → ℕ → Type 0) (eq : IsEquivalence Alike) (i : ℕ) (
           )
 
   -- the first members with the next thing
-  pub next_firsts : AreFirsts (numbers ++ suc c ∷ []) (with_first firsts i c)
+  pub next_firsts : AreFirsts (numbers ++ suc c ∷ []) (with_first_member firsts i c)
   next_firsts = by (eqb c (length firsts)) refl (eqb_tells c (length firsts))
     where
       new : c ≡ length firsts → AreFirsts more (firsts ++ i ∷ [])
@@ -192,7 +192,7 @@ module _ (Alike : ℕ → ℕ → Type 0) (eq : IsEquivalence Alike) (i : ℕ) (
       }
 
       by : (b : Bool) → eqb c (length firsts) ≡ b → ((eqb c (length firsts) ≡ true) × (c ≡ length firsts)) ⊎ ((eqb c (length firsts) ≡ false) × (c ≡ length firsts → ⊥))
-          → AreFirsts more (with_first firsts i c)
+          → AreFirsts more (with_first_member firsts i c)
       by b is (inl h) = subst (λ v. AreFirsts more (cond v (firsts ++ i ∷ []) firsts)) (sym h.0) (new h.1)
       by b is (inr h) = let other = h.1 in subst (λ v. AreFirsts more (cond v (firsts ++ i ∷ []) firsts)) (sym h.0) (old (omega (arith, le, other)))
 

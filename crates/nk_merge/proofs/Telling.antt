@@ -17,7 +17,7 @@ use Rattle.nk_reach.proofs.Walking.{reach_walk}
 use Rattle.nk_merge.specs.Alike.{SetGives, AreAlike}
 use Rattle.nk_merge.specs.Apart.{IsOfFirst, IsOfOne, IsLeastOfOne}
 use Rattle.nk_merge.specs.Joined.{both_sets, AreLevelsOfTwo}
-use Rattle.nk_merge.specs.Twice.{labels_of, IsTwice}
+use Rattle.nk_merge.specs.Twice.{label_count, IsTwice}
 use Rattle.nk_merge.specs.declared.twice.Twice.{Twice}
 use Rattle.nk_merge.proofs.Marks.{ends_decided, empty_from, first_of_some, none_in}
 use Rattle.nk_merge.proofs.Runs.{walk_more, walk_places}
@@ -34,7 +34,7 @@ module _ (st : Held) (ss : List (List ℕ)) (states s t : List ℕ) (twice : Twi
     (lv : AreLevelsOfTwo st ss states s t twice ls broken) where
   -- both sets together, and the packets that start
   abbrev both : List ℕ
-  both = both_sets (labels_of states) s t
+  both = both_sets (label_count states) s t
 
   abbrev start : ℕ
   start = slice_index states 0

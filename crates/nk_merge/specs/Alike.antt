@@ -17,8 +17,8 @@ AreAlike st states s t =
     (x : List ℕ) → IsPacket st x → (w : List (List ℕ)) (y : List ℕ) → SetGives st states s x w y ↔ SetGives st states t x w y
 
 -- the labels behind those of a set: where its members are the first dups of link literals, the second ones
-abbrev pub behind : List ℕ → List ℕ
-behind set = map (λ l. l + 1) set
+abbrev pub labels_behind : List ℕ → List ℕ
+labels_behind set = map (λ l. l + 1) set
 
 -- the set at a place among the tags
 abbrev pub tag_set : List (List ℕ) → List ℕ → ℕ → List ℕ
@@ -26,4 +26,4 @@ tag_set ss tags i = slice_index_or ss (slice_index tags i) []
 
 -- what is left behind two tags gives the same histories from every packet in range
 abbrev pub AreTagsAlike : Held → List ℕ → List (List ℕ) → List ℕ → ℕ → ℕ → Type 0
-AreTagsAlike st states ss tags i j = AreAlike st states (behind (tag_set ss tags i)) (behind (tag_set ss tags j))
+AreTagsAlike st states ss tags i j = AreAlike st states (labels_behind (tag_set ss tags i)) (labels_behind (tag_set ss tags j))

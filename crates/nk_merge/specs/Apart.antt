@@ -24,6 +24,6 @@ IsLeastOfOne st states s t side f =
     IsOfOne st states s t side f × IsLeast (λ g. (k : Side) × IsOfOne st states s t k g) f
 
 -- both sets are alike, or the least history that one of them gives alone, whose last packet is in range
-abbrev pub IsApart : Held → List ℕ → List ℕ → List ℕ → Option declared.Found → Type 0
-IsApart st states s t None = AreAlike st states s t
-IsApart st states s t (Some f) = IsLeastOfOne st states s t f.side (found_of f) × IsPacket st f.history.last
+abbrev pub TellsApart : Held → List ℕ → List ℕ → List ℕ → Option declared.Found → Type 0
+TellsApart st states s t None = AreAlike st states s t
+TellsApart st states s t (Some f) = IsLeastOfOne st states s t f.side (found_of f) × IsPacket st f.history.last

@@ -22,5 +22,5 @@ pub record IsEquivalence (Alike : ℕ → ℕ → Type 0) : Type 0 where
   pub on : (i j k : ℕ) → Alike i j → Alike j k → Alike i k
 
 -- the first members with the next one, where it is of the class behind all others
-abbrev pub with_first : List ℕ → ℕ → ℕ → List ℕ
-with_first firsts i c = cond (eqb c (length firsts)) (firsts ++ i ∷ []) firsts
+abbrev pub with_first_member : List ℕ → ℕ → ℕ → List ℕ
+with_first_member firsts i c = cond (eqb c (length firsts)) (firsts ++ i ∷ []) firsts

@@ -5,7 +5,7 @@ use Rattle.nk_sets.specs.PacketSets.{is_in}
 use Rattle.nk_reach.specs.Levels.{AreLevels}
 use Rattle.nk_reach.specs.Sides.{alone, ends_of}
 use Rattle.nk_reach.specs.Finds.{first_set, first_packets}
-use Rattle.nk_merge.specs.Twice.{again, labels_of}
+use Rattle.nk_merge.specs.Twice.{again, label_count}
 use Rattle.nk_merge.specs.declared.twice.Twice.{Twice}
 
 -- the labels of both, where so many are marked already, those of the second set marked again
@@ -15,6 +15,6 @@ both_sets n s t = s ++ map (again n) t
 -- levels of both sets together from all packets, up to an end of one of them alone
 pub record AreLevelsOfTwo (st : Held) (ss : List (List ℕ)) (states s t : List ℕ) (twice : Twice) (ls : List (List (ℕ × ℕ))) (broken : Bool) : Type 0 where
   pub tidy : AreTidy st
-  pub set_is : slice_index_or ss (first_set ls) [] ≡ both_sets (labels_of states) s t
+  pub set_is : slice_index_or ss (first_set ls) [] ≡ both_sets (label_count states) s t
   pub start_is : (pk : List ℕ) → IsPacket st pk → is_in st (first_packets ls) pk ≡ true
   pub levels : AreLevels st st ss twice.rows (first_set ls) (first_packets ls) (λ set pk. alone (ends_of st twice.goal.ends set pk)) ls broken

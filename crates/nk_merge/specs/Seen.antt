@@ -5,7 +5,7 @@ use Rattle.nk_store.specs.Held.{Held, IsId, IsPacket}
 use Rattle.nk_determ.specs.Exact.{Sends}
 use Rattle.nk_determ.specs.States.{StateLeads}
 use Rattle.nk_determ.specs.Pairs.{HavePlaces}
-use Rattle.nk_merge.specs.Alike.{AreAlike, behind, tag_set}
+use Rattle.nk_merge.specs.Alike.{AreAlike, labels_behind, tag_set}
 
 -- the diagram sends where the state of one of the labels does
 pub record DoesTogether (st : Held) (states set : List ℕ) (d : ℕ) : Type 0 where
@@ -16,8 +16,8 @@ pub record DoesTogether (st : Held) (states set : List ℕ) (d : ℕ) : Type 0 w
 pub record IsSeenAt (st : Held) (states : List ℕ) (ss : List (List ℕ)) (tags firsts : List ℕ) (d c : ℕ) : Type 0 where
   pub id : IsId st d
   pub class : c < length firsts
-  pub alike : (set : List ℕ) → HavePlaces (length states) set → DoesTogether st states set d → AreAlike st states (behind (tag_set ss tags (slice_index firsts c))) set
+  pub alike : (set : List ℕ) → HavePlaces (length states) set → DoesTogether st states set d → AreAlike st states (labels_behind (tag_set ss tags (slice_index firsts c))) set
 
 -- so it is with each entry
-abbrev pub AreSeen : Held → List ℕ → List (List ℕ) → List ℕ → List ℕ → List (ℕ × ℕ) → Type 0
-AreSeen st states ss tags firsts entries = (d c : ℕ) → lookup (eqb d) entries ≡ Some c → IsSeenAt st states ss tags firsts d c
+abbrev pub AreSeenDiagrams : Held → List ℕ → List (List ℕ) → List ℕ → List ℕ → List (ℕ × ℕ) → Type 0
+AreSeenDiagrams st states ss tags firsts entries = (d c : ℕ) → lookup (eqb d) entries ≡ Some c → IsSeenAt st states ss tags firsts d c

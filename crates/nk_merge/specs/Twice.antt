@@ -15,8 +15,8 @@ again n zero = zero
 again n (suc l) = suc l + n
 
 -- how many labels an automaton with these states has, 0 being none
-abbrev pub labels_of : List ℕ → ℕ
-labels_of states = length states - 1
+abbrev pub label_count : List ℕ → ℕ
+label_count states = length states - 1
 
 -- the states, and behind them for each label again a state that does what the label's does, to labels marked again
 pub record AreTwice (st : Held) (states rows : List ℕ) : Type 0 where
@@ -25,8 +25,8 @@ pub record AreTwice (st : Held) (states rows : List ℕ) : Type 0 where
   pub ids : AreIds st rows
   pub once : (l : ℕ) → l < length states → slice_index rows l ≡ slice_index states l
   pub twice : (l : ℕ) (pk y : List ℕ) (t : ℕ) → 0 < l → l < length states → IsPacket st pk →
-      Sends st (slice_index rows (again (labels_of states) l)) pk y t
-      ↔ ((u : ℕ) × Sends st (slice_index states l) pk y u × (t ≡ again (labels_of states) u))
+      Sends st (slice_index rows (again (label_count states) l)) pk y t
+      ↔ ((u : ℕ) × Sends st (slice_index states l) pk y u × (t ≡ again (label_count states) u))
 
 -- such rows of these states, and the goal of ends of one copy alone
 pub record IsTwice (st : Held) (states : List ℕ) (t : Twice) : Type 0 where
@@ -42,10 +42,10 @@ pub record IsTwice (st : Held) (states : List ℕ) (t : Twice) : Type 0 where
 pub record IsTwiceUpTo (old new : Held) (states rows : List ℕ) (n : ℕ) : Type 0 where
   pub count : length rows + 1 ≡ length states + n
   pub once : (l : ℕ) → l < length states → slice_index rows l ≡ slice_index states l
-  pub ids : (l : ℕ) → 0 < l → l < n → IsId new (slice_index rows (again (labels_of states) l))
+  pub ids : (l : ℕ) → 0 < l → l < n → IsId new (slice_index rows (again (label_count states) l))
   pub twice : (l : ℕ) (pk y : List ℕ) (t : ℕ) → 0 < l → l < n → IsPacket old pk →
-      Sends new (slice_index rows (again (labels_of states) l)) pk y t
-      ↔ ((u : ℕ) × Sends old (slice_index states l) pk y u × (t ≡ again (labels_of states) u))
+      Sends new (slice_index rows (again (label_count states) l)) pk y t
+      ↔ ((u : ℕ) × Sends old (slice_index states l) pk y u × (t ≡ again (label_count states) u))
 
 -- the second diagram sends where the first one does, to targets by the table
 pub record IsMadeBy (st : Held) (table : List (Option ℕ)) (state r : ℕ) : Type 0 where

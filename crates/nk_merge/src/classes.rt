@@ -4,9 +4,9 @@ ghost use Rattle.std.specs.Map.{lookup};
 ghost use Rattle.nk_store.specs.Held.{Grows};
 ghost use Rattle.nk_determ.specs.Sets.{SetsGrow};
 ghost use Rattle.nk_reach.specs.Pairs.{HavePlaces};
-ghost use Rattle.nk_merge.specs.Alike.{behind, tag_set, AreAlike, AreTagsAlike};
-ghost use Rattle.nk_merge.specs.Classes.{AreClasses, AreFirsts, with_first};
-ghost use Rattle.nk_merge.specs.Seen.{DoesTogether, AreSeen};
+ghost use Rattle.nk_merge.specs.Alike.{labels_behind, tag_set, AreAlike, AreTagsAlike};
+ghost use Rattle.nk_merge.specs.Classes.{AreClasses, AreFirsts, with_first_member};
+ghost use Rattle.nk_merge.specs.Seen.{DoesTogether, AreSeenDiagrams};
 ghost use Rattle.nk_merge.specs.Twice.{IsTwice};
 
 use crate::compared::are_alike;
@@ -38,7 +38,7 @@ pub fn classes_of(
 ) -> Result<Classes, AllocError>
     requires twice { IsTwice st.old states.now twice.old }
     requires known { All (λ s. s < length ss.old) tags.now }
-    requires places { All (λ s. HavePlaces (length states.now) (behind (slice_index_or ss.old s []))) tags.now }
+    requires places { All (λ s. HavePlaces (length states.now) (labels_behind (slice_index_or ss.old s []))) tags.now }
     ensures grows { Grows st.old st.new }
     ensures sets { SetsGrow ss.old ss.new }
     ensures twice { OnOk result (IsTwice st.new states.now twice.new) }
@@ -75,20 +75,20 @@ fn class_by(
 ) -> Result<usize, AllocError>
     requires twice { IsTwice st.old states.now twice.old }
     requires known { All (λ s. s < length ss.old) tags.now }
-    requires places { All (λ s. HavePlaces (length states.now) (behind (slice_index_or ss.old s []))) tags.now }
+    requires places { All (λ s. HavePlaces (length states.now) (labels_behind (slice_index_or ss.old s []))) tags.now }
     requires firsts { All (λ i. i < length tags.now) firsts.now }
     requires tag { s < length ss.old }
-    requires tag_places { HavePlaces (length states.now) (behind (slice_index_or ss.old s [])) }
-    requires diagram { DoesTogether st.old states.now (behind (slice_index_or ss.old s [])) d }
-    requires seen { AreSeen st.old states.now ss.old tags.now firsts.now seen.now.entries }
+    requires tag_places { HavePlaces (length states.now) (labels_behind (slice_index_or ss.old s [])) }
+    requires diagram { DoesTogether st.old states.now (labels_behind (slice_index_or ss.old s [])) d }
+    requires seen { AreSeenDiagrams st.old states.now ss.old tags.now firsts.now seen.now.entries }
     ensures grows { Grows st.old st.new }
     ensures sets { SetsGrow ss.old ss.new }
     ensures twice { OnOk result (IsTwice st.new states.now twice.new) }
     ensures within { IfOk result (λ c. c ≤ length firsts.now) }
     ensures yes { IfOk result (λ c. c < length firsts.now →
-        AreAlike st.old states.now (behind (tag_set ss.old tags.now (slice_index firsts.now c))) (behind (slice_index_or ss.old s []))) }
+        AreAlike st.old states.now (labels_behind (tag_set ss.old tags.now (slice_index firsts.now c))) (labels_behind (slice_index_or ss.old s []))) }
     ensures none { IfOk result (λ c. c ≡ length firsts.now → (b : ℕ) → b < c →
-        AreAlike st.old states.now (behind (tag_set ss.old tags.now (slice_index firsts.now b))) (behind (slice_index_or ss.old s [])) → ⊥) }
+        AreAlike st.old states.now (labels_behind (tag_set ss.old tags.now (slice_index firsts.now b))) (labels_behind (slice_index_or ss.old s [])) → ⊥) }
 {
     if let Some(place) = seen_at(seen, d) {
         return Ok(place);
@@ -115,18 +115,18 @@ fn class_of(
 ) -> Result<usize, AllocError>
     requires twice { IsTwice st.old states.now twice.old }
     requires known { All (λ s. s < length ss.old) tags.now }
-    requires places { All (λ s. HavePlaces (length states.now) (behind (slice_index_or ss.old s []))) tags.now }
+    requires places { All (λ s. HavePlaces (length states.now) (labels_behind (slice_index_or ss.old s []))) tags.now }
     requires firsts { All (λ i. i < length tags.now) firsts.now }
     requires tag { s < length ss.old }
-    requires tag_places { HavePlaces (length states.now) (behind (slice_index_or ss.old s [])) }
+    requires tag_places { HavePlaces (length states.now) (labels_behind (slice_index_or ss.old s [])) }
     ensures grows { Grows st.old st.new }
     ensures sets { SetsGrow ss.old ss.new }
     ensures twice { OnOk result (IsTwice st.new states.now twice.new) }
     ensures within { IfOk result (λ c. c ≤ length firsts.now) }
     ensures yes { IfOk result (λ c. c < length firsts.now →
-        AreAlike st.old states.now (behind (tag_set ss.old tags.now (slice_index firsts.now c))) (behind (slice_index_or ss.old s []))) }
+        AreAlike st.old states.now (labels_behind (tag_set ss.old tags.now (slice_index firsts.now c))) (labels_behind (slice_index_or ss.old s []))) }
     ensures none { IfOk result (λ c. c ≡ length firsts.now → (b : ℕ) → b < c →
-        AreAlike st.old states.now (behind (tag_set ss.old tags.now (slice_index firsts.now b))) (behind (slice_index_or ss.old s [])) → ⊥) }
+        AreAlike st.old states.now (labels_behind (tag_set ss.old tags.now (slice_index firsts.now b))) (labels_behind (slice_index_or ss.old s [])) → ⊥) }
 {
     for c in 0..firsts.len() {
         if are_alike(st, ss, states, twice, tags[firsts[c]], s)? {
@@ -142,7 +142,7 @@ fn add(all: &mut Classes, i: usize, c: usize) -> Result<(), AllocError>
     requires few { length all.old.firsts ≤ i }
     requires place { i + 1 < 2 ^ 64 }
     ensures numbers { OnOk result (all.new.numbers ≡ all.old.numbers ++ suc c ∷ []) }
-    ensures firsts { OnOk result (all.new.firsts ≡ with_first all.old.firsts i c) }
+    ensures firsts { OnOk result (all.new.firsts ≡ with_first_member all.old.firsts i c) }
 {
     if c == all.firsts.len() {
         all.firsts.push(i)?;

@@ -4,8 +4,8 @@ ghost use Rattle.nk_store.specs.Held.{IsPacket, Grows};
 ghost use Rattle.nk_sets.specs.PacketSets.{is_in, IsSet};
 ghost use Rattle.nk_determ.specs.Sets.{SetsGrow};
 ghost use Rattle.nk_reach.specs.Pairs.{HavePlaces};
-ghost use Rattle.nk_merge.specs.Alike.{behind, AreAlike};
-ghost use Rattle.nk_merge.specs.Apart.{IsApart};
+ghost use Rattle.nk_merge.specs.Alike.{labels_behind, AreAlike};
+ghost use Rattle.nk_merge.specs.Apart.{TellsApart};
 ghost use Rattle.nk_merge.specs.Joined.{AreLevelsOfTwo};
 ghost use Rattle.nk_merge.specs.Twice.{IsTwice};
 
@@ -30,13 +30,13 @@ pub fn are_alike(
     requires twice { IsTwice st.old states.now twice.old }
     requires first { s < length ss.old }
     requires second { t < length ss.old }
-    requires first_places { HavePlaces (length states.now) (behind (slice_index_or ss.old s [])) }
-    requires second_places { HavePlaces (length states.now) (behind (slice_index_or ss.old t [])) }
+    requires first_places { HavePlaces (length states.now) (labels_behind (slice_index_or ss.old s [])) }
+    requires second_places { HavePlaces (length states.now) (labels_behind (slice_index_or ss.old t [])) }
     ensures grows { Grows st.old st.new }
     ensures sets { SetsGrow ss.old ss.new }
     ensures twice { OnOk result (IsTwice st.new states.now twice.new) }
-    ensures yes { IfOk result (λ b. b ≡ true → AreAlike st.old states.now (behind (slice_index_or ss.old s [])) (behind (slice_index_or ss.old t []))) }
-    ensures no { IfOk result (λ b. b ≡ false → AreAlike st.old states.now (behind (slice_index_or ss.old s [])) (behind (slice_index_or ss.old t [])) → ⊥) }
+    ensures yes { IfOk result (λ b. b ≡ true → AreAlike st.old states.now (labels_behind (slice_index_or ss.old s [])) (labels_behind (slice_index_or ss.old t []))) }
+    ensures no { IfOk result (λ b. b ≡ false → AreAlike st.old states.now (labels_behind (slice_index_or ss.old s [])) (labels_behind (slice_index_or ss.old t [])) → ⊥) }
 {
     if s == t {
         return Ok(true);
@@ -58,12 +58,12 @@ pub fn apart(
     requires twice { IsTwice st.old states.now twice.old }
     requires first { s < length ss.old }
     requires second { t < length ss.old }
-    requires first_places { HavePlaces (length states.now) (behind (slice_index_or ss.old s [])) }
-    requires second_places { HavePlaces (length states.now) (behind (slice_index_or ss.old t [])) }
+    requires first_places { HavePlaces (length states.now) (labels_behind (slice_index_or ss.old s [])) }
+    requires second_places { HavePlaces (length states.now) (labels_behind (slice_index_or ss.old t [])) }
     ensures grows { Grows st.old st.new }
     ensures sets { SetsGrow ss.old ss.new }
     ensures twice { OnOk result (IsTwice st.new states.now twice.new) }
-    ensures ok { IfOk result (λ r. IsApart st.old states.now (behind (slice_index_or ss.old s [])) (behind (slice_index_or ss.old t [])) r) }
+    ensures ok { IfOk result (λ r. TellsApart st.old states.now (labels_behind (slice_index_or ss.old s [])) (labels_behind (slice_index_or ss.old t [])) r) }
 {
     let both = levels_of_two(st, ss, states, twice, s, t)?;
     if !both.broken() {
@@ -85,12 +85,12 @@ fn levels_of_two(
     requires twice { IsTwice st.old states.now twice.old }
     requires first { s < length ss.old }
     requires second { t < length ss.old }
-    requires first_places { HavePlaces (length states.now) (behind (slice_index_or ss.old s [])) }
-    requires second_places { HavePlaces (length states.now) (behind (slice_index_or ss.old t [])) }
+    requires first_places { HavePlaces (length states.now) (labels_behind (slice_index_or ss.old s [])) }
+    requires second_places { HavePlaces (length states.now) (labels_behind (slice_index_or ss.old t [])) }
     ensures grows { Grows st.old st.new }
     ensures sets { SetsGrow ss.old ss.new }
     ensures twice { OnOk result (IsTwice st.new states.now twice.new) }
-    ensures ok { IfOk result (λ lv. AreLevelsOfTwo st.new ss.new states.now (behind (slice_index_or ss.old s [])) (behind (slice_index_or ss.old t [])) twice.new lv.levels lv.broken) }
+    ensures ok { IfOk result (λ lv. AreLevelsOfTwo st.new ss.new states.now (labels_behind (slice_index_or ss.old s [])) (labels_behind (slice_index_or ss.old t [])) twice.new lv.levels lv.broken) }
 {
     let set = joined(st.alloc(), ss, s, t, states.len())?;
     let from = every_packet(st)?;

@@ -2,7 +2,7 @@
 //!
 //! Each function is a theorem: it takes nothing, does nothing, and its contract is the statement. `SetGives` says which
 //! histories a set of labels gives from a packet, `AreAlike` that two sets give the same from every packet in range.
-ghost use Rattle.std.specs.Prelude.{◌≡◌, true, ℕ, ◌<◌, ◌↔◌, ◌∷◌, [], List, Contains, length, map, slice_index};
+ghost use Rattle.std.specs.Prelude.{◌≡◌, true, ℕ, ◌<◌, ◌↔◌, ◌∷◌, [], List, Contains, length, map};
 ghost use Rattle.nk_field.specs.declared.packet.Packet.{Packet};
 ghost use Rattle.nk_policy.specs.Policy.{Policy};
 ghost use Rattle.nk_policy.specs.Meaning.{Gives};
@@ -14,7 +14,7 @@ ghost use Rattle.nk_reach.specs.Pairs.{AreStates, HavePlaces};
 ghost use Rattle.nk_merge.specs.Alike.{SetGives, AreAlike, AreTagsAlike};
 ghost use Rattle.nk_merge.specs.Classes.{AreClasses};
 ghost use Rattle.nk_merge.specs.SumsAfter.{sum_after};
-ghost use Rattle.nk_merge.specs.Twice.{again, labels_of, AreTwice, IsTwice};
+ghost use Rattle.nk_merge.specs.Twice.{again, label_count, AreTwice, IsTwice};
 ghost use Rattle.nk_merge.specs.declared.twice.Twice.{Twice};
 
 /// To be alike is an equivalence.
@@ -49,7 +49,7 @@ pub fn each_copy_gives_the_same()
         → SetGives st rows set x w y ↔ SetGives st states set x w y }
     ensures twice { (st : Held) (states rows : List ℕ) → AreStates st states → AreTidy st → AreTwice st states rows
         → (set x : List ℕ) (w : List (List ℕ)) (y : List ℕ) → HavePlaces (length states) set → ((l : ℕ) → Contains set l → 0 < l) → IsPacket st x
-        → SetGives st rows (map (again (labels_of states)) set) x w y ↔ SetGives st states set x w y }
+        → SetGives st rows (map (again (label_count states)) set) x w y ↔ SetGives st states set x w y }
 {}
 
 /// Two lists of the numbers of the classes of the same tags are one.

@@ -3,7 +3,7 @@ ghost use Rattle.std.specs.Prelude.{◌≡◌, ◌+◌, ◌<◌, [], IfOk, lengt
 ghost use Rattle.nk_store.specs.Held.{Grows};
 ghost use Rattle.nk_algebra.specs.Unions.{AreIds};
 ghost use Rattle.nk_reach.specs.Pairs.{HavePlaces};
-ghost use Rattle.nk_merge.specs.Alike.{behind};
+ghost use Rattle.nk_merge.specs.Alike.{labels_behind};
 ghost use Rattle.nk_merge.specs.Seen.{DoesTogether};
 
 use nk_algebra::union_all;
@@ -16,9 +16,9 @@ use std::alloc::{AllocError, Global};
 pub fn diagram_behind(st: &mut Store, ss: &Sets, states: &[Id], s: SetId) -> Result<Id, AllocError>
     requires states { AreIds st.old states.now }
     requires known { s < length ss.now }
-    requires places { HavePlaces (length states.now) (behind (slice_index_or ss.now s [])) }
+    requires places { HavePlaces (length states.now) (labels_behind (slice_index_or ss.now s [])) }
     ensures grows { Grows st.old st.new }
-    ensures does { IfOk result (λ d. DoesTogether st.new states.now (behind (slice_index_or ss.now s [])) d) }
+    ensures does { IfOk result (λ d. DoesTogether st.new states.now (labels_behind (slice_index_or ss.now s [])) d) }
 {
     let ds = states_behind(st.alloc(), states, ss.members(s))?;
     let d = union_all(st, ds.as_slice())?;
@@ -27,7 +27,7 @@ pub fn diagram_behind(st: &mut Store, ss: &Sets, states: &[Id], s: SetId) -> Res
 
 /// The states behind labels.
 fn states_behind(alloc: Global, states: &[Id], labels: &[u64]) -> Result<List<Id>, AllocError>
-    requires { HavePlaces (length states.now) (behind labels.now) }
+    requires { HavePlaces (length states.now) (labels_behind labels.now) }
     ensures { IfOk result (λ ds. ds ≡ map (λ l. slice_index states.now (l + 1)) labels.now) }
 {
     let mut ds = List::with_capacity(alloc, labels.len())?;

@@ -1,9 +1,9 @@
 //! The states of an automaton with each label twice.
-ghost use Rattle.std.specs.Prelude.{◌≡◌, ◌+◌, ◌-◌, ◌<◌, ◌^◌, ℕ, Some, None, IfOk, OnOk, length, slice_index, slice_index_or};
+ghost use Rattle.std.specs.Prelude.{◌≡◌, ◌+◌, ◌-◌, ◌<◌, ◌^◌, ℕ, Some, None, IfOk, OnOk, length, slice_index_or};
 ghost use Rattle.nk_store.specs.Held.{IsId, look, Grows, HasLeaves};
 ghost use Rattle.nk_determ.specs.Targets.{retargeted};
 ghost use Rattle.nk_determ.specs.Pairs.{AreStates};
-ghost use Rattle.nk_merge.specs.Twice.{again, labels_of, AreTwice, IsTwice, AreMadeBy};
+ghost use Rattle.nk_merge.specs.Twice.{again, AreTwice, IsTwice, AreMadeBy};
 
 use nk_algebra::known;
 use nk_determ::retarget;

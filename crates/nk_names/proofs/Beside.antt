@@ -55,14 +55,14 @@ all_said P Q one (d ∷ ds) s t h are e =
     all_said P Q one ds r.0 t (one s r.0 d h are.0 r.1) are.1 r.2
 
 -- one declaration says in a program what it declares
-one_alike : (s : Said) (d : declare.Declaration) → said_with s (in_program d) ≡ said_beside s.lets (declared_with (declared_part s) d)
+one_alike : (s : Said) (d : declare.NetworkDeclaration) → said_with s (in_program d) ≡ said_beside s.lets (declared_with (declared_part s) d)
 one_alike s (declare.field w n) = refl
 one_alike s (declare.tag w) = refl
 one_alike s (declare.switch n ps) = refl
 one_alike s (declare.link a m b n) = refl
 
 -- and so do all
-after_alike : (ds : List declare.Declaration) (s : Said) → said_after (map in_program ds) s ≡ said_beside s.lets (declared_after ds (declared_part s))
+after_alike : (ds : List declare.NetworkDeclaration) (s : Said) → said_after (map in_program ds) s ≡ said_beside s.lets (declared_after ds (declared_part s))
 after_alike [] s = refl
 after_alike (d ∷ ds) s =
     ap (λ r. and_then r (said_after (map in_program ds))) (one_alike s d)

@@ -21,7 +21,7 @@ use Rattle.nk_grammar.specs.File.{definition}
 use Rattle.nk_names.specs.declared.fault.FaultKind.{FaultKind}
 use Rattle.nk_names.specs.declared.fault.FaultKind.TheVariants as kind
 use Rattle.nk_names.specs.Complements.{NegatesPredicates, AllNegatePredicates}
-use Rattle.nk_names.specs.Meant.{Lets, MaybeTextFault, text_fault_if, value_above, no_value, no_range, place_in, most_in, policy_among, policy_for, policies_for, unknown_in, unknown_among, misplaced_in, misplaced_among}
+use Rattle.nk_names.specs.Meant.{Lets, MaybeTextFault, text_fault_if, value_above, no_value, no_range, place_of_field, most_in, policy_among, policy_for, policies_for, unknown_in, unknown_among, misplaced_in, misplaced_among}
 use Rattle.nk_names.specs.ProgramOf.{Said, said_with, let_fault}
 use Rattle.nk_names.specs.ReadBack.{IsWritable, IsNotOne, HasNoLonePart, HaveNoLonePart, IsReadable, IsReadBack, let_bytes, in_first_line}
 use Rattle.nk_names.proofs.Good.{AreOver, dups_marked, depth_marked, size_marked, predicate_marked}
@@ -309,7 +309,7 @@ module _ (line : ℕ) (fields : FieldTable) (table : IsFieldTable fields) where
       ∙ name_placed fields.names f 0 (omega (arith, v.0, table.named)) table.distinct
       ∙ ap Some (omega arith)
 
-  place_is : (f n : ℕ) → IsValue fields f n → place_in fields (word_for line fields f) ≡ f
+  place_is : (f n : ℕ) → IsValue fields f n → place_of_field fields (word_for line fields f) ≡ f
   place_is f n v = ap (λ o. unwrap_or o 0) (named f n v)
 
   -- a value in range is no fault

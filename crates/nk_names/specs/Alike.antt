@@ -6,7 +6,7 @@ use Rattle.nk_grammar.specs.File.{Declaration, field, tag, switch, declared_link
 use Rattle.nk_names.specs.ProgramOf.{program_of, said_beside}
 
 -- such a declaration as a program's
-abbrev pub in_program : declare.Declaration → Declaration
+abbrev pub in_program : declare.NetworkDeclaration → Declaration
 in_program (declare.field w n) = field w n
 in_program (declare.tag w) = tag w
 in_program (declare.switch n ps) = switch n ps
@@ -14,4 +14,4 @@ in_program (declare.link a m b n) = declared_link a m b n
 
 -- a program of such declarations says what they declare, or has their first fault at its line
 abbrev pub SaysDeclared : Type 0
-SaysDeclared = (ds : List declare.Declaration) → program_of (map in_program ds) ≡ said_beside [] (declared_by ds)
+SaysDeclared = (ds : List declare.NetworkDeclaration) → program_of (map in_program ds) ≡ said_beside [] (declared_by ds)

@@ -8,7 +8,7 @@ use Rattle.nk_policy.specs.Policy as policy
 use Rattle.nk_lex.specs.declared.word.Word.{Word}
 use Rattle.nk_lex.specs.declared.word.Number.{Number}
 use Rattle.nk_lex.specs.Faults.{first_of}
-pub use Rattle.nk_declare.specs.Declarations.{place_in, most_in}
+pub use Rattle.nk_declare.specs.Declarations.{place_of_field, most_in}
 use Rattle.nk_grammar.specs.Tree.{Tree, Trees, name_of, test, range, assign, sum_of, seq_of, not_of, star_of, dup, link, no_part, part}
 use Rattle.nk_names.specs.declared.fault.FaultKind.{FaultKind}
 use Rattle.nk_names.specs.declared.fault.FaultKind.TheVariants as kind
@@ -45,9 +45,9 @@ literal_ends a m b n = first_of (first_of (first_of (value_above 65535 a) (value
 abbrev mutual
   pub policy_for : FieldTable → Lets → Tree → Policy
   policy_for fields lets (name_of w) = unwrap_or (policy_among lets w.text) (policy.sum_of policy.no_part)
-  policy_for fields lets (test w n) = policy.test (place_in fields w) n.value
-  policy_for fields lets (range w low high) = policy.range (place_in fields w) low.value high.value
-  policy_for fields lets (assign w n) = policy.assign (place_in fields w) n.value
+  policy_for fields lets (test w n) = policy.test (place_of_field fields w) n.value
+  policy_for fields lets (range w low high) = policy.range (place_of_field fields w) low.value high.value
+  policy_for fields lets (assign w n) = policy.assign (place_of_field fields w) n.value
   policy_for fields lets (sum_of ts) = policy.sum_of (policies_for fields lets ts)
   policy_for fields lets (seq_of ts) = policy.seq_of (policies_for fields lets ts)
   policy_for fields lets (not_of t line) = policy.not_of (policy_for fields lets t)

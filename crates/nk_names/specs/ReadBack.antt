@@ -82,8 +82,8 @@ pub record IsReadBack (fields : FieldTable) (name : List ℕ) (p : Policy) : Typ
       → said_with s (definition (in_first_line name) tree 1) ≡ Ok (record s { lets = s.lets ++ (name, marked_from p 1) ∷ [] })
 
 -- what is printed of a policy is read back as that policy
-abbrev pub ReadsPrinted : Type 0
-ReadsPrinted = (fields : FieldTable) → IsWritable fields → (name : List ℕ) → IsName name
+abbrev pub ReadsPrintedPolicies : Type 0
+ReadsPrintedPolicies = (fields : FieldTable) → IsWritable fields → (name : List ℕ) → IsName name
     → (p : Policy) → IsReadable fields p → IsReadBack fields name p
 
 -- The predicates whose text is read back in a row of a certificate: over the fields and in range, at most 256 deep, no sum or

@@ -4,7 +4,7 @@ ghost use Rattle.nk_policy.specs.Policy.{dups_of, marked_from};
 ghost use Rattle.nk_policy.specs.Tree.{tree_of};
 ghost use Rattle.nk_grammar.specs.Tree.{tree_of as written_of, trees_of as all_written_of};
 ghost use Rattle.nk_names.specs.Body.{policy_in, policies_in, policy_of};
-ghost use Rattle.nk_names.specs.Meant.{place_in, policy_for, policies_for};
+ghost use Rattle.nk_names.specs.Meant.{place_of_field, policy_for, policies_for};
 
 use crate::body::{Bodies, Body, Shared, written};
 use crate::check::LARGEST_PLACE;
@@ -18,7 +18,7 @@ use std::alloc::{AllocError, Global};
 
 /// The field with the name; the switch, where there is none.
 fn field_of(fields: &Fields, w: &Word) -> Fid
-    ensures { result ≡ place_in fields.now w.now }
+    ensures { result ≡ place_of_field fields.now w.now }
 {
     match field_with(fields, w.text.as_slice()) {
         Some(field) => field,

@@ -1,5 +1,5 @@
 //! The predicates of a certificate's rows.
-ghost use Rattle.std.specs.Prelude.{◌≡◌, MatchResult, [], IfOk};
+ghost use Rattle.std.specs.Prelude.{◌≡◌, MatchResult, IfOk};
 ghost use Rattle.nk_policy.specs.Tree.{tree_of};
 ghost use Rattle.nk_grammar.specs.Tree.{tree_of as written_of};
 ghost use Rattle.nk_names.specs.ProgramOf.{Returns, predicate_fault, row_policy};

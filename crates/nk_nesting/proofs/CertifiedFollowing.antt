@@ -5,7 +5,7 @@ use Rattle.nk_lex.specs.declared.word.Number.{Number}
 use Rattle.nk_grammar.specs.Terminal.{Terminal, number, colon, outside, certificate_word, row_word}
 use Rattle.nk_grammar.specs.Tree.{Tree}
 use Rattle.nk_grammar.specs.Grammar.{Pol, spell_pol, pol_tree}
-use Rattle.nk_grammar.specs.Machine.{State, start, run, step, ended}
+use Rattle.nk_grammar.specs.Machine.{State, first_state, run, step, policy_ended}
 use Rattle.nk_grammar.specs.File.{Declaration, Written, declared, spell_file}
 use Rattle.nk_grammar.specs.FileMachine.{Reading, read_one, read_all, first_reading, declarations_at_end, open_count}
 use Rattle.nk_grammar.specs.Certified.{Row, row, WrittenRow, written_row, spell_numbers, spell_rows, spell_certificate}
@@ -86,7 +86,7 @@ row_policy_along line ns ds rs [] js [] r s s' f e h = subst (λ x. CertifiesAlo
 row_policy_along line ns ds rs [] js (x ∷ xs) r s s' f e h = absurd f
 row_policy_along line ns ds rs (k ∷ ks) js [] r s s' f e h = absurd f
 row_policy_along line ns ds rs (k ∷ ks) js (x ∷ xs) r s s' f e h =
-    by_step (step s x) (ended s) f e (λ s g e. row_policy_along line ns ds rs ks js xs r s s' g e h)
+    by_step (step s x) (policy_ended s) f e (λ s g e. row_policy_along line ns ds rs ks js xs r s s' g e h)
   where
     by_step : (o : Option State) (t : Option Tree)
         → IsSomeAnd o (λ s'. (k ≤ length s'.frames) × (k ≤ 256 → (length s'.frames ≤ 256) × Follows ks xs s'))
@@ -105,22 +105,22 @@ numbers_along (m ∷ ms) line ns ds rs js r more = nothing_open (numbers_along m
 
 -- a policy, and the rows behind it
 row_along : (p : Pol) (ws : List WrittenRow) (line : ℕ) (ns : List ℕ) (ds : List Declaration) (rs : List Row)
-    → ((s : State) → ended s ≡ Some (pol_tree p) → CertifiesAlong (open_in_rows ws) (spell_rows ws) (certifying (in_row line ns s) ds rs))
-    → CertifiesAlong (open_in_pol 0 p ++ open_in_rows ws) (spell_pol p ++ spell_rows ws) (certifying (in_row line ns start) ds rs)
+    → ((s : State) → policy_ended s ≡ Some (pol_tree p) → CertifiesAlong (open_in_rows ws) (spell_rows ws) (certifying (in_row line ns s) ds rs))
+    → CertifiesAlong (open_in_pol 0 p ++ open_in_rows ws) (spell_pol p ++ spell_rows ws) (certifying (in_row line ns first_state) ds rs)
 row_along p ws line ns ds rs more =
     let l = left_by p in
-    row_policy_along line ns ds rs (open_in_pol 0 p) (open_in_rows ws) (spell_pol p) (spell_rows ws) start l.0 (policy_follows p) l.1 (more l.0 l.2)
+    row_policy_along line ns ds rs (open_in_pol 0 p) (open_in_rows ws) (spell_pol p) (spell_rows ws) first_state l.0 (policy_follows p) l.1 (more l.0 l.2)
 
 -- the rows behind a row's policy
 rows_along : (ws : List WrittenRow) (line : ℕ) (ns : List ℕ) (s : State) (p : Tree) (ds : List Declaration) (rs : List Row)
-    → ended s ≡ Some p → CertifiesAlong (open_in_rows ws) (spell_rows ws) (certifying (in_row line ns s) ds rs)
+    → policy_ended s ≡ Some p → CertifiesAlong (open_in_rows ws) (spell_rows ws) (certifying (in_row line ns s) ds rs)
 rows_along [] line ns s p ds rs e = tt
 rows_along (written_row l n ms q ∷ ws) line ns s p ds rs e =
     let word : Terminal = outside (row_word l) in
     let behind : List Terminal = number n ∷ ((spell_numbers ms ++ colon ∷ spell_pol q) ++ spell_rows ws) in
     let counts : List ℕ = 0 ∷ ((open_in_numbers ms ++ 0 ∷ open_in_pol 0 q) ++ open_in_rows ws) in
     let done : List Row = rs ++ row ns p line ∷ [] in
-    subst (λ o. IsSomeAnd (row_on ds rs ns line o (ended s) word) (λ d. (0 ≤ open_certified d) × (0 ≤ 256 → (open_certified d ≤ 256) × CertifiesAlong counts behind d)))
+    subst (λ o. IsSomeAnd (row_on ds rs ns line o (policy_ended s) word) (λ d. (0 ≤ open_certified d) × (0 ≤ 256 → (open_certified d ≤ 256) × CertifiesAlong counts behind d)))
     (sym (outside_refused s.place s.frames s.terms s.factors (row_word l)))
     (subst (λ o. IsSomeAnd (row_done ds rs ns line o word) (λ d. (0 ≤ open_certified d) × (0 ≤ 256 → (open_certified d ≤ 256) × CertifiesAlong counts behind d))) (sym e)
     (nothing_open (nothing_open

@@ -10,7 +10,7 @@ use Rattle.nk_grammar.specs.declared.decl.GrammarError.TheVariants as error
 use Rattle.nk_grammar.specs.Terminal.{Terminal, terminal_of}
 use Rattle.nk_grammar.specs.File.{declared}
 use Rattle.nk_grammar.specs.Answer.{terminals}
-use Rattle.nk_grammar.specs.Certified.{Certified, certified, rows_of, HasCertificate}
+use Rattle.nk_grammar.specs.Certified.{Certified, certified, rows_said, HasCertificate}
 use Rattle.nk_grammar.specs.CertifiedAnswer.{IsCertifiedDeepToken, IsCertifiedAnswer}
 use Rattle.nk_grammar.specs.CertifiedMachine.{Certifying, certify_one, certify_all, first_certifying, certified_at_end, open_certified, judged_certified, certified_end_at, rest_of_certified, certified_of}
 use Rattle.nk_grammar.proofs.Files.{within, beyond}
@@ -24,7 +24,7 @@ use Rattle.nk_nesting.proofs.Limits.{raises, more_or_not, at_first, further_on, 
 
 -- what a text with a certificate says
 abbrev value_of_text : WrittenCertified → Certified
-value_of_text w = certified (map declared w.decls) (rows_of w.line w.pred w.others)
+value_of_text w = certified (map declared w.decls) (rows_said w.line w.pred w.others)
 
 -- the text of tokens that are one's
 abbrev written_in : (ts : List Terminal) (c : Certified) → HasCertificate ts c → WrittenCertified

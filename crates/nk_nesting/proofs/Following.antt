@@ -8,7 +8,7 @@ use Rattle.nk_grammar.specs.declared.place.Place.TheVariants as place
 use Rattle.nk_grammar.specs.Terminal.{Terminal, Outside, name, number, equal, colon, outside, ports_word, arrow, plus_sign, semicolon, star_sign, closing, field_word, tag_word, switch_word, link_word, let_word}
 use Rattle.nk_grammar.specs.Tree.{Tree, Trees, name_of, not_of, no_part, with_part, sum_from}
 use Rattle.nk_grammar.specs.Grammar.{Pol, Term, Factor, Atom, one_term, plus, one_factor, semi, plain, starred, written_not, written_id, written_drop, written_dup, written_name, written_test, written_range, written_set, written_link, paren, spell_pol, spell_term, spell_factor, spell_atom, terms_of, factors_of, factor_tree, atom_tree, pol_tree}
-use Rattle.nk_grammar.specs.Machine.{Open, group, negation, State, state, start, atom_ended, run, step, ended, HasNoNegation}
+use Rattle.nk_grammar.specs.Machine.{Open, group, negation, State, state, first_state, atom_ended, run, step, policy_ended, HasNoNegation}
 use Rattle.nk_grammar.specs.File.{Declaration, Written, written_field, written_tag, written_switch, written_declared_link, written_let, spell_ports, spell_declaration, spell_file, declared, definition, switch}
 use Rattle.nk_grammar.specs.FileMachine.{Reading, reading, between, in_policy, port_read, policy_on, policy_done, one_more, open_count, read_one}
 use Rattle.nk_grammar.proofs.Spelled.{IsFree, has_star, term_has_star, pol_has_star, early, late, early_late, one_star, step_atom}
@@ -119,10 +119,10 @@ mutual
   )
 
 -- a policy alone
-pub policy_follows : (p : Pol) → Follows (open_in_pol 0 p) (spell_pol p) start
+pub policy_follows : (p : Pol) → Follows (open_in_pol 0 p) (spell_pol p) first_state
 policy_follows p =
-    subst (λ x. Follows x (spell_pol p) start) (append-nil (open_in_pol 0 p))
-    (subst (λ x. Follows (open_in_pol 0 p ++ []) x start) (append-nil (spell_pol p))
+    subst (λ x. Follows x (spell_pol p) first_state) (append-nil (open_in_pol 0 p))
+    (subst (λ x. Follows (open_in_pol 0 p ++ []) x first_state) (append-nil (spell_pol p))
     (pol_follows p [] [] [] (λ t ts us. refl) tt (omega arith) tt))
 
 -- ---- texts
@@ -145,7 +145,7 @@ policy_along w line ds [] js [] r s s' f e h = subst (λ x. ReadsAlong js r (rea
     same x y e = cc
 policy_along w line ds [] js (x ∷ xs) r s s' f e h = absurd f
 policy_along w line ds (k ∷ ks) js [] r s s' f e h = absurd f
-policy_along w line ds (k ∷ ks) js (x ∷ xs) r s s' f e h = by_step (step s x) (ended s) f e (λ s g e. policy_along w line ds ks js xs r s s' g e h)
+policy_along w line ds (k ∷ ks) js (x ∷ xs) r s s' f e h = by_step (step s x) (policy_ended s) f e (λ s g e. policy_along w line ds ks js xs r s s' g e h)
   where
     by_step : (o : Option State) (t : Option Tree)
         → IsSomeAnd o (λ s'. (k ≤ length s'.frames) × (k ≤ 256 → (length s'.frames ≤ 256) × Follows ks xs s'))
@@ -166,13 +166,13 @@ abbrev Goes : List Written → Reading → Type 0
 Goes ws r = ReadsAlong (open_in_file ws) (spell_file ws) r
 
 -- behind a policy that may end
-behind_policy : (w : Word) (line : ℕ) (ds : List Declaration) (s : State) (p : Tree) (ws : List Written) → ended s ≡ Some p
+behind_policy : (w : Word) (line : ℕ) (ds : List Declaration) (s : State) (p : Tree) (ws : List Written) → policy_ended s ≡ Some p
     → Goes ws (reading between (one_more ds (definition w p line))) → Goes ws (reading (in_policy w line s) ds)
 behind_policy w line ds s p ws e h = by_first ws h
   where
     begins : (z : Outside) → read_one (reading (in_policy w line s) ds) (outside z) ≡ read_one (reading between (one_more ds (definition w p line))) (outside z)
     begins z =
-        ap (λ o. policy_on w line ds o (ended s) (outside z)) (outside_refused s.place s.frames s.terms s.factors z)
+        ap (λ o. policy_on w line ds o (policy_ended s) (outside z)) (outside_refused s.place s.frames s.terms s.factors z)
         ∙ ap (λ o. policy_done w line ds o (outside z)) e
 
     by_first : (ws : List Written) → Goes ws (reading between (one_more ds (definition w p line))) → Goes ws (reading (in_policy w line s) ds)
@@ -219,7 +219,7 @@ declaration_along (written_declared_link a m b n) ds ws h =
 declaration_along (written_let line w p) ds ws h =
     let l = left_by p in
     nothing_open (nothing_open (nothing_open
-    (policy_along w line ds (open_in_pol 0 p) (open_in_file ws) (spell_pol p) (spell_file ws) start l.0 (policy_follows p) l.1 (behind_policy w line ds l.0 (pol_tree p) ws l.2 h))))
+    (policy_along w line ds (open_in_pol 0 p) (open_in_file ws) (spell_pol p) (spell_file ws) first_state l.0 (policy_follows p) l.1 (behind_policy w line ds l.0 (pol_tree p) ws l.2 h))))
 
 -- a text
 pub file_along : (ws : List Written) (ds : List Declaration)

@@ -7,7 +7,7 @@ use Rattle.nk_grammar.specs.Terminal.{Terminal, outside, certificate_word, termi
 use Rattle.nk_grammar.specs.Grammar.{Pol}
 use Rattle.nk_grammar.specs.File.{Written, declared, spell_file}
 use Rattle.nk_grammar.specs.Answer.{terminals}
-use Rattle.nk_grammar.specs.Certified.{WrittenRow, written_row, spell_certificate, rows_of, certified, CertifiedGoesOn}
+use Rattle.nk_grammar.specs.Certified.{WrittenRow, written_row, spell_certificate, rows_said, certified, CertifiedGoesOn}
 use Rattle.nk_grammar.specs.CertifiedMachine.{certified_of}
 use Rattle.nk_nesting.specs.Counts.{open_in_pol, open_in_file, GoWith}
 use Rattle.nk_nesting.specs.Limit.{IsOpening, IsFirstAbove}
@@ -61,7 +61,7 @@ RefusesTheCertified257th = (c : WrittenCertified) (before : List Token) (t : Tok
 abbrev pub ReadsCertifiedWithinTheLimit : Type 0
 ReadsCertifiedWithinTheLimit = (ts : List Token) (c : WrittenCertified) → terminals ts ≡ spell_certified c
     → All (λ k. k ≤ 256) (open_in_certified c)
-    → certified_of ts ≡ Ok (certified (map declared c.decls) (rows_of c.line c.pred c.others))
+    → certified_of ts ≡ Ok (certified (map declared c.decls) (rows_said c.line c.pred c.others))
 
 -- such a text begins with the tokens up to this one, a `(` or `~`, and in each such text it is the first that opens the 257th
 pub record OpensTheCertified257th (ts : List Token) (line : ℕ) : Type 0 where

@@ -21,11 +21,11 @@ use Rattle.nk_uniqueness.proofs.Asking.{one_cause, one_told_of_named, one_found_
 use Rattle.nk_compile.proofs.ReasonByName.{never_refused, one_refusal}
 use Rattle.nk_uniqueness.proofs.ByName.{one_compiled}
 use Rattle.nk_uniqueness.proofs.Comparing.{OnePrinted, OneFinding, one_told_for, none_told, one_found_for, none_found}
-use Rattle.nk.specs.Asking.{IsHeld, IsBroken, LacksQuestion, IsAskAnswer, broken_lines}
+use Rattle.nk.specs.Asking.{IsHeldQuery, IsBroken, LacksQuestion, IsAskAnswer, broken_lines}
 use Rattle.nk.specs.CertifiedText.{HoldsCertificate, HasCertifiedFault}
 use Rattle.nk.specs.Checking.{IsValid, IsInvalid, IsFound, IsCheckAnswer, invalid_line}
 use Rattle.nk.specs.Comparing.{IsSame, IsDifference, LacksPolicy, IsEqualAnswer, difference_lines}
-use Rattle.nk.specs.Compiling.{IsPrinted, IsRefusal, IsCompileAnswer}
+use Rattle.nk.specs.Compiling.{IsCompiledText, IsRefusal, IsCompileAnswer}
 use Rattle.nk.specs.Judging.{IsValidFor, IsInvalidFor, IsJudgeAnswer}
 use Rattle.nk.specs.Judging.{IsFoundForAsked}
 use Rattle.nk.specs.Messages.{TellsQuery, refusal_line}
@@ -66,7 +66,7 @@ packets_of law bytes s d program says =
 
 module _ (packets : TextsHavePackets) (name bytes : List ℕ) where
   abbrev Made : List ℕ → Type 0
-  Made = Declared bytes (λ said text. IsPrinted said name text)
+  Made = Declared bytes (λ said text. IsCompiledText said name text)
 
   abbrev Kept : List ℕ → Type 0
   Kept = Declared bytes (λ said text. IsRefusal said name text)
@@ -330,7 +330,7 @@ IsHolding (breaking f) = ⊥
 
 module _ (printed : OnePrinted) (writable : DeclaresWritable) (asked : Asked) (bytes : List ℕ) where
   abbrev HeldText : List ℕ → Type 0
-  HeldText = Declared bytes (λ said text. IsHeld said asked text)
+  HeldText = Declared bytes (λ said text. IsHeldQuery said asked text)
 
   abbrev BrokenText : List ℕ → Type 0
   BrokenText = Declared bytes (λ said text. IsBroken said asked text)

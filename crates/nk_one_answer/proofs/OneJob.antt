@@ -2,7 +2,7 @@
 use Rattle.std.proofs.Common.{◌≡◌, ℕ, ◌++◌, List, inl, inr, length, refl, sym, ap, subst, ◌∙◌}
 use Rattle.std.specs.Prelude.{codes}
 use Rattle.nk_field.specs.Packet.{IsFieldTable}
-use Rattle.nk_names.specs.Accepted.{IsStart}
+use Rattle.nk_names.specs.Accepted.{IsStartPacket}
 use Rattle.nk_names.specs.declared.Program.{Program}
 use Rattle.nk_names.specs.ProgramOf.{said_by}
 use Rattle.nk_names.specs.ReadBack.{DeclaresWritable}
@@ -45,7 +45,7 @@ module _ (program other : Program) (same : said_by program ≡ said_by other) wh
       (subst (λ f. HasTagSets f other.topo k.0 n) (sym (fields_alike program other same)) k.3)) in
       let mine = h.3 in
       mine.2
-      ∙ ap length (one_tag_list h.0 (IsStart program.fields program.topo) mine.0 sets.0 mine.1 sets.1)
+      ∙ ap length (one_tag_list h.0 (IsStartPacket program.fields program.topo) mine.0 sets.0 mine.1 sets.1)
       ∙ sym sets.2
 
   one_tables_line : HavePackets program.fields program.topo → (name a b x y : List ℕ)

@@ -1,5 +1,5 @@
 -- The network of a text: what its program declares of switches and links, or the line of its first fault.
-use Rattle.std.specs.Prelude.{ℕ, Ok, Err, List, [], ◌++◌, codes, decimal}
+use Rattle.std.specs.Prelude.{ℕ, Ok, Err, List, [], codes}
 use Rattle.std.specs.declared.result.Result.{Result}
 use Rattle.nk_lex.specs.declared.token.Token.{Token}
 use Rattle.nk_lex.specs.declared.token.LexError.{LexError}
@@ -12,14 +12,11 @@ use Rattle.nk_grammar.specs.FileMachine.{file_of}
 use Rattle.nk_names.specs.declared.fault.NamesError.{NamesError}
 use Rattle.nk_names.specs.declared.fault.NamesError.TheVariants as naming
 use Rattle.nk_names.specs.ProgramOf.{Said, program_of}
+pub use Rattle.nk_names.specs.Words.{fault_line}
 use Rattle.nk_names.specs.Words.{fault_words}
 use Rattle.nk_topo.specs.Topology.{Topology}
 use Rattle.nk_picture.specs.declared.network.Network.{Network}
 use Rattle.nk_picture.specs.declared.network.Network.TheVariants as network
-
--- the line of a text's fault
-abbrev pub fault_line : ℕ → List ℕ → List ℕ
-fault_line line words = codes "line " ++ decimal line ++ codes ": " ++ words ++ codes "\n"
 
 -- the line of a fault of a text's bytes. Want of memory is no fault of a text and has no line, here as below.
 abbrev pub lexical_line : LexError → List ℕ

@@ -21,14 +21,14 @@ both (Some n) None = None
 both (Some n) (Some m) = Some (place n m)
 
 -- the place of a packet's items: the first is `sw=N`, the second `pt=M`, and what stands behind them says nothing of the place
-abbrev pub place_in : List (List ℕ) → Option Place
-place_in [] = None
-place_in (i ∷ []) = None
-place_in (i ∷ j ∷ is) = both (number_behind (codes "sw=") i) (number_behind (codes "pt=") j)
+abbrev pub place_of_items : List (List ℕ) → Option Place
+place_of_items [] = None
+place_of_items (i ∷ []) = None
+place_of_items (i ∷ j ∷ is) = both (number_behind (codes "sw=") i) (number_behind (codes "pt=") j)
 
 -- the place of a packet's text, whose items stand between commas
-abbrev pub place_of : List ℕ → Option Place
-place_of word = place_in (slice_split (λ b. b == 44) word)
+abbrev pub place_of_word : List ℕ → Option Place
+place_of_word word = place_of_items (slice_split (λ b. b == 44) word)
 
 -- whether a word only says what comes behind it, as `equal` prints it
 abbrev pub is_heading : List ℕ → Bool
@@ -36,7 +36,7 @@ is_heading word = bytes_eq word (codes "start") || bytes_eq word (codes "history
 
 -- the places that a word gives: none for a heading, one for a packet; or it is neither
 abbrev pub places_of : List ℕ → Option (List Place)
-places_of word = if is_heading word then Some [] else option_map (λ p. p ∷ []) (place_of word)
+places_of word = if is_heading word then Some [] else option_map (λ p. p ∷ []) (place_of_word word)
 
 -- what becomes of the places of a word, or that the word of this number is none
 abbrev pub with_places : Option (List Place) → ℕ → (List Place → Result (List Place) ℕ) → Result (List Place) ℕ
@@ -50,8 +50,8 @@ way_after ps n [] = Ok ps
 way_after ps n (w ∷ ws) = with_places (places_of w) (n + 1) (λ qs. way_after (ps ++ qs) (n + 1) ws)
 
 -- the way of all words
-abbrev pub way_of : List (List ℕ) → Result (List Place) ℕ
-way_of words = way_after [] 0 words
+abbrev pub way_of_words : List (List ℕ) → Result (List Place) ℕ
+way_of_words words = way_after [] 0 words
 
 -- a way in memory, or the number of the word that is none
 abbrev pub way_in : Way → Result (List Place) ℕ

@@ -1,7 +1,7 @@
 //! What a run answers, and how the answer is written.
 ghost use Rattle.std.specs.Prelude.{◌≡◌};
 ghost use Rattle.nk_picture.specs.Answer.{answer_in};
-ghost use Rattle.nk_picture.specs.Ends.{Delivers, IsDelivered, LeavesAlone, state_of};
+ghost use Rattle.nk_picture.specs.Ends.{Delivers, IsDelivered, LeavesAlone, stream_state};
 
 use crate::Status;
 use nk_io::{Sink, write_all};
@@ -26,8 +26,8 @@ pub enum Reply {
 /// Sends the answer to its sink, and leaves the other as it is. It takes no memory.
 pub(crate) fn deliver<O: Sink, E: Sink>(reply: &Reply, out: &mut O, err: &mut E) -> Status
     ensures delivered { Delivers (answer_in reply.now)
-        (state_of O.taken O.faults out.old) (state_of O.taken O.faults out.new)
-        (state_of E.taken E.faults err.old) (state_of E.taken E.faults err.new) result }
+        (stream_state O.taken O.faults out.old) (stream_state O.taken O.faults out.new)
+        (stream_state E.taken E.faults err.old) (stream_state E.taken E.faults err.new) result }
     ensures alone { LeavesAlone result (out.new ≡ out.old) (err.new ≡ err.old) }
 {
     match reply {
@@ -42,7 +42,7 @@ pub(crate) fn deliver<O: Sink, E: Sink>(reply: &Reply, out: &mut O, err: &mut E)
 
 /// Sends the bytes, and answers the status where all of them went out.
 fn send<K: Sink>(sink: &mut K, bytes: &[u8], status: Status) -> Status
-    ensures { IsDelivered (state_of K.taken K.faults sink.old) (state_of K.taken K.faults sink.new)
+    ensures { IsDelivered (stream_state K.taken K.faults sink.old) (stream_state K.taken K.faults sink.new)
         bytes.now status result }
 {
     match write_all(sink, bytes) {

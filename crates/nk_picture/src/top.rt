@@ -1,7 +1,7 @@
 //! The top call.
 ghost use Rattle.std.specs.Prelude.{◌≡◌, false, Ok, IfOk, map, string_bytes};
 ghost use Rattle.nk_picture.specs.Answer.{answer_in, to_network};
-ghost use Rattle.nk_picture.specs.Ends.{Ends, IsMeant, LeavesAlone, asks_for_text, state_of};
+ghost use Rattle.nk_picture.specs.Ends.{Ends, IsMeant, LeavesAlone, asks_for_text, stream_state};
 ghost use Rattle.nk_picture.specs.Network.{network_of};
 ghost use Rattle.nk_picture.specs.Way as specs;
 
@@ -26,11 +26,11 @@ pub fn draw<S: Source, O: Sink, E: Sink>(
 ) -> Status
     // An answer was meant for a cause, and then sent, or its sink failed at it.
     ensures ends { Ends (map (λ w. string_bytes w) words.now)
-        (state_of S.left S.faults source.old) (state_of S.left S.faults source.new)
-        (state_of O.taken O.faults out.old) (state_of O.taken O.faults out.new)
-        (state_of E.taken E.faults err.old) (state_of E.taken E.faults err.new) result }
+        (stream_state S.left S.faults source.old) (stream_state S.left S.faults source.new)
+        (stream_state O.taken O.faults out.old) (stream_state O.taken O.faults out.new)
+        (stream_state E.taken E.faults err.old) (stream_state E.taken E.faults err.new) result }
     // No call was made on the source where a word is neither heading nor packet.
-    ensures unread { asks_for_text (specs.way_of (map (λ w. string_bytes w) words.now)) ≡ false
+    ensures unread { asks_for_text (specs.way_of_words (map (λ w. string_bytes w) words.now)) ≡ false
         → source.new ≡ source.old }
     // No call was made on the sink that the answer doesn't go to.
     ensures alone { LeavesAlone result (out.new ≡ out.old) (err.new ≡ err.old) }
@@ -41,9 +41,9 @@ pub fn draw<S: Source, O: Sink, E: Sink>(
 
 /// What the run means to say. Nothing is written yet.
 fn reply_to_words<S: Source>(alloc: Global, words: &[String], source: &mut S) -> Reply
-    ensures meant { IsMeant (specs.way_of (map (λ w. string_bytes w) words.now))
-        (state_of S.left S.faults source.old) (state_of S.left S.faults source.new) (answer_in result) }
-    ensures unread { asks_for_text (specs.way_of (map (λ w. string_bytes w) words.now)) ≡ false
+    ensures meant { IsMeant (specs.way_of_words (map (λ w. string_bytes w) words.now))
+        (stream_state S.left S.faults source.old) (stream_state S.left S.faults source.new) (answer_in result) }
+    ensures unread { asks_for_text (specs.way_of_words (map (λ w. string_bytes w) words.now)) ≡ false
         → source.new ≡ source.old }
 {
     match way_of(alloc, words) {
@@ -59,7 +59,7 @@ fn reply_to_words<S: Source>(alloc: Global, words: &[String], source: &mut S) ->
 /// The same of a way.
 fn reply_to_way<S: Source>(alloc: Global, way: &[Place], source: &mut S) -> Reply
     ensures { IsMeant (Ok way.now)
-        (state_of S.left S.faults source.old) (state_of S.left S.faults source.new) (answer_in result) }
+        (stream_state S.left S.faults source.old) (stream_state S.left S.faults source.new) (answer_in result) }
 {
     match read_all(alloc, source, LONGEST) {
         Ok(bytes) => match reply_to_text(alloc, way, &bytes) {

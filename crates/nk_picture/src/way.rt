@@ -26,7 +26,7 @@ pub(crate) enum Way {
 /// The way of the words: the place of each packet, in order. The words `start` and `history` are left out. The only error is
 /// that memory ran out.
 pub(crate) fn way_of(alloc: Global, words: &[String]) -> Result<Way, AllocError>
-    ensures { IfOk result (λ w. way_in w ≡ specs.way_of (map (λ w. string_bytes w) words.now)) }
+    ensures { IfOk result (λ w. way_in w ≡ specs.way_of_words (map (λ w. string_bytes w) words.now)) }
 {
     let mut places = Vec::new(alloc);
     for (i, word) in words.iter().enumerate() {
@@ -62,7 +62,7 @@ fn is_heading(word: &str) -> bool
 
 /// The place of a packet's text, if it has one.
 fn place_of(alloc: Global, word: &str) -> Result<Option<Place>, AllocError>
-    ensures { IfOk result (λ p. p ≡ specs.place_of word.now) }
+    ensures { IfOk result (λ p. p ≡ specs.place_of_word word.now) }
 {
     let items = items_of(alloc, word)?;
     Ok(place_in(items.as_slice()))
@@ -77,7 +77,7 @@ fn items_of<'a>(alloc: Global, text: &'a str) -> Result<Vec<&'a str>, AllocError
 
 /// The place of a packet's items, if they have one.
 fn place_in(items: &[&str]) -> Option<Place>
-    ensures { result ≡ specs.place_in (map (λ i. i.now) items.now) }
+    ensures { result ≡ specs.place_of_items (map (λ i. i.now) items.now) }
 {
     match items {
         [first, second, ..] => {

@@ -16,13 +16,13 @@ use Rattle.nk_cert.specs.Verdicts.{Finding, IsFinding}
 use Rattle.nk_cert.proofs.Soundness.{shows_equality}
 use Rattle.nk_cert.proofs.Together.{sides_of}
 use Rattle.nk_cert.specs.Comparison.{IsRelated}
-use Rattle.nk_query.specs.Asked.{Question, apart_of, waypoint_of, are_predicates, question_policy, Breaks, NoneBreaks, IsBreaking, IsLeastBreak}
+use Rattle.nk_query.specs.Asked.{Question, apart_of, waypoint_of, rest_are_predicates, question_policy, BreaksQuestion, NoneBreaks, IsBreaking, IsLeastBreak}
 use Rattle.nk_query.specs.Answers.{asked_policy, IsFitFor, IsJudgedFor}
 use Rattle.nk_query.proofs.Breaking.{numbered_gives, apart_breaks, waypoint_breaks}
 
 -- a question, its dups numbered, has exactly the histories that break
-pub question_breaks : (x : Question) → are_predicates x ≡ true → (pk : Packet) (w : List Packet) (last : Packet)
-    → Gives (asked_policy x) pk w last ↔ Breaks x pk w last
+pub question_breaks : (x : Question) → rest_are_predicates x ≡ true → (pk : Packet) (w : List Packet) (last : Packet)
+    → Gives (asked_policy x) pk w last ↔ BreaksQuestion x pk w last
 question_breaks (apart_of p from target) h pk w last =
     let b = both_true (is_predicate from) (is_predicate target) h in
     numbered_gives (question_policy (apart_of p from target)) 1 _ pk w last (apart_breaks p from target b.0 b.1 pk w last)
@@ -31,7 +31,7 @@ question_breaks (waypoint_of p from middle target) h pk w last =
     let c = both_true (is_predicate from) (is_predicate middle) b.0 in
     numbered_gives (question_policy (waypoint_of p from middle target)) 1 _ pk w last (waypoint_breaks p from middle target c.0 b.1 pk w last)
 
-module _ (fields : FieldTable) (x : Question) (predicates : are_predicates x ≡ true) where
+module _ (fields : FieldTable) (x : Question) (predicates : rest_are_predicates x ≡ true) where
   -- where it gives the same as `drop` none breaks
   pub none_breaks : AreSame fields (asked_policy x) drop_policy → NoneBreaks fields x
   none_breaks same pk w last ok b = (same pk ok w last).0 ((question_breaks x predicates pk w last).1 b)

@@ -14,8 +14,8 @@ use Rattle.nk_names.specs.Named.{policy_named}
 use Rattle.nk_names.specs.ProgramValue.{IsProgram, IsLet}
 use Rattle.nk_names.proofs.Good.{few_dups, dups_marked, marked_again, over_marked, negates_marked}
 use Rattle.nk_cert.proofs.Named.{let_named}
-use Rattle.nk_query.specs.Asked.{Asked, apart, waypoint, Question, apart_of, waypoint_of, NamesQuestion, are_predicates, question_policy}
-use Rattle.nk_query.specs.Answers.{CanBeAsked, asked_policy, IsMade, IsQuestion, IsFitFor}
+use Rattle.nk_query.specs.Asked.{Asked, apart, waypoint, Question, apart_of, waypoint_of, NamesQuestion, rest_are_predicates, question_policy}
+use Rattle.nk_query.specs.Answers.{CanBeAsked, asked_policy, MakesQuestion, IsQuestion, IsFitFor}
 use Rattle.nk_query.specs.declared.error.QueryError.{QueryError}
 use Rattle.nk_query.specs.declared.error.QueryError.TheVariants.{NoMemory, NoPolicy, NotAPredicate, TooLarge}
 use Rattle.nk_query.proofs.Staying.{avoiding_uses, avoiding_negates}
@@ -45,7 +45,7 @@ waypoint_fit fields p from middle target k a m b is can =
     (a.complements, ((is, m.complements), (avoiding_negates middle is m.complements p k.complements, ((is, m.complements), (b.complements, tt)))))
 
 -- the middle one of those that have to be predicates is one
-middle_is : (p from middle target : Policy) → are_predicates (waypoint_of p from middle target) ≡ true → is_predicate middle ≡ true
+middle_is : (p from middle target : Policy) → rest_are_predicates (waypoint_of p from middle target) ≡ true → is_predicate middle ≡ true
 middle_is p from middle target h =
     (both_true (is_predicate from) (is_predicate middle) (both_true (is_predicate from && is_predicate middle) (is_predicate target) h).0).1
 
@@ -62,7 +62,7 @@ named_fit program (waypoint name from middle target) (apart_of p a b) ok n can =
 
 -- what is made of the question of named policies is made of the query
 pub named_made : (program : Program) (asked : Asked) (x : Question) → NamesQuestion program asked x
-    → (r : Result Pol QueryError) → IsMade x r → IsQuestion program asked r
+    → (r : Result Pol QueryError) → MakesQuestion x r → IsQuestion program asked r
 named_made program asked x n (Ok q) m = (x, record { names = n; can = m.0 }, m.1)
 named_made program asked x n (Err NoMemory) m = tt
 named_made program asked x n (Err NoPolicy) m = absurd m
@@ -71,7 +71,7 @@ named_made program asked x n (Err TooLarge) m = (x, n, m)
 
 -- and it can be compared
 pub made_fit : (program : Program) (asked : Asked) (x : Question) → IsProgram program.fields program.topo program.lets → NamesQuestion program asked x
-    → (r : Result Pol QueryError) → IsMade x r → IfOk r (λ q. IsFitFor program.fields (tree_of q))
+    → (r : Result Pol QueryError) → MakesQuestion x r → IfOk r (λ q. IsFitFor program.fields (tree_of q))
 made_fit program asked x ok n (Ok q) m = subst (λ t. IsFitFor program.fields t) (sym m.1) (named_fit program asked x ok n m.0)
 made_fit program asked x ok n (Err e) m = tt
 

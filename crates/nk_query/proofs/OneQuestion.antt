@@ -6,8 +6,8 @@ use Rattle.nk_names.specs.declared.Program.{Program}
 use Rattle.nk_names.specs.Named.{policy_named}
 use Rattle.nk_names.specs.ProgramOf.{said_by}
 use Rattle.nk_names.proofs.Alike.{named_alike, one_policy}
-use Rattle.nk_query.specs.Asked.{Asked, apart, waypoint, Question, apart_of, waypoint_of, NamesQuestion, LacksName, are_predicates, question_policy}
-use Rattle.nk_query.specs.Answers.{IsNamedQuestion, IsCause}
+use Rattle.nk_query.specs.Asked.{Asked, apart, waypoint, Question, apart_of, waypoint_of, NamesQuestion, LacksName, rest_are_predicates, question_policy}
+use Rattle.nk_query.specs.Answers.{IsNamedQuestion, IsHindranceByName}
 use Rattle.nk_query.specs.declared.error.QueryError.{QueryError}
 use Rattle.nk_query.specs.declared.error.QueryError.TheVariants.{NoMemory, NoPolicy, NotAPredicate, TooLarge}
 
@@ -52,12 +52,12 @@ module _ (program other : Program) (same : said_by program ≡ said_by other) wh
   never_lacks (waypoint name from middle target) (apart_of p a b) h l = h
 
   -- nothing but want of memory keeps a question that can be made from being asked
-  pub no_cause : (asked : Asked) (x : Question) (cause : QueryError) → IsNamedQuestion program asked x → IsCause other asked cause → cause ≡ NoMemory
+  pub no_cause : (asked : Asked) (x : Question) (cause : QueryError) → IsNamedQuestion program asked x → IsHindranceByName other asked cause → cause ≡ NoMemory
   no_cause asked x NoMemory h c = refl
   no_cause asked x NoPolicy h c = absurd (never_lacks asked x h.names c)
   no_cause asked x NotAPredicate h c =
       let e = one_question asked x c.0 h.names c.1 in
-      absurd (true_false (sym h.can.predicates ∙ ap are_predicates e ∙ c.2))
+      absurd (true_false (sym h.can.predicates ∙ ap rest_are_predicates e ∙ c.2))
   no_cause asked x TooLarge h c =
       let e = one_question asked x c.0 h.names c.1 in
       let small : size_of (question_policy x) ≤ 1048576 = h.can.small in

@@ -15,7 +15,7 @@ use Rattle.nk_cert.specs.Verdicts.{Finding, valid, IsFinding}
 use Rattle.nk_cert.specs.Values.{certificate_value, finding_of}
 use Rattle.nk_cert.specs.declared.certificate.Verdict.{Verdict}
 use Rattle.nk_cert.specs.Comparison.{whose, IsRelated}
-use Rattle.nk_query.specs.Asked.{Asked, apart, waypoint, Question, NamesQuestion, LacksName, are_predicates, question_policy, NoneBreaks, IsLeastBreak}
+use Rattle.nk_query.specs.Asked.{Asked, apart, waypoint, Question, NamesQuestion, LacksName, rest_are_predicates, question_policy, NoneBreaks, IsLeastBreak}
 use Rattle.nk_query.specs.declared.query.Query.{Query}
 use Rattle.nk_query.specs.declared.query.Query.TheVariants.{Apart, Waypoint}
 use Rattle.nk_query.specs.declared.query.Answer.{Answer}
@@ -24,13 +24,13 @@ use Rattle.nk_query.specs.declared.error.QueryError.{QueryError}
 use Rattle.nk_query.specs.declared.error.QueryError.TheVariants.{NoMemory, NoPolicy, NotAPredicate, TooLarge}
 
 -- the query that is held
-abbrev pub asked_of : Query → Asked
-asked_of (Apart name from target) = apart name.now from.now target.now
-asked_of (Waypoint name from middle target) = waypoint name.now from.now middle.now target.now
+abbrev pub asked_in : Query → Asked
+asked_in (Apart name from target) = apart name.now from.now target.now
+asked_in (Waypoint name from middle target) = waypoint name.now from.now middle.now target.now
 
 -- The question can be made: the policies that have to be are predicates, and its policy has at most 1,048,576 elements.
 pub record CanBeAsked (x : Question) : Type 0 where
-  pub predicates : are_predicates x ≡ true
+  pub predicates : rest_are_predicates x ≡ true
   pub small : size_of (question_policy x) ≤ 1048576
 
 -- The question of these names, which can be made.
@@ -47,26 +47,26 @@ asked_policy x = marked_from (question_policy x) 1
 abbrev pub IsHindrance : Question → QueryError → Type 0
 IsHindrance x NoMemory = ⊤
 IsHindrance x NoPolicy = ⊥
-IsHindrance x NotAPredicate = are_predicates x ≡ false
-IsHindrance x TooLarge = (are_predicates x ≡ true) × (1048576 < size_of (question_policy x))
+IsHindrance x NotAPredicate = rest_are_predicates x ≡ false
+IsHindrance x TooLarge = (rest_are_predicates x ≡ true) × (1048576 < size_of (question_policy x))
 
 -- why a query isn't answered: one of its names is no policy's, or else the question that they name is hindered so
-abbrev pub IsCause : Program → Asked → QueryError → Type 0
-IsCause program asked NoMemory = ⊤
-IsCause program asked NoPolicy = LacksName program asked
-IsCause program asked NotAPredicate = (x : Question) × NamesQuestion program asked x × IsHindrance x NotAPredicate
-IsCause program asked TooLarge = (x : Question) × NamesQuestion program asked x × IsHindrance x TooLarge
+abbrev pub IsHindranceByName : Program → Asked → QueryError → Type 0
+IsHindranceByName program asked NoMemory = ⊤
+IsHindranceByName program asked NoPolicy = LacksName program asked
+IsHindranceByName program asked NotAPredicate = (x : Question) × NamesQuestion program asked x × IsHindrance x NotAPredicate
+IsHindranceByName program asked TooLarge = (x : Question) × NamesQuestion program asked x × IsHindrance x TooLarge
 
 -- what is made of a question about policies
-abbrev pub IsMade : Question → Result Pol QueryError → Type 0
-IsMade x (Ok q) = CanBeAsked x × (tree_of q ≡ asked_policy x)
-IsMade x (Err e) = IsHindrance x e
+abbrev pub MakesQuestion : Question → Result Pol QueryError → Type 0
+MakesQuestion x (Ok q) = CanBeAsked x × (tree_of q ≡ asked_policy x)
+MakesQuestion x (Err e) = IsHindrance x e
 
 -- what is made of a query: exactly the policy of the question of these names, or the cause that there is none
 abbrev pub IsQuestion : Program → Asked → Result Pol QueryError → Type 0
 IsQuestion program asked (Ok q) =
     (x : Question) × IsNamedQuestion program asked x × (tree_of q ≡ asked_policy x)
-IsQuestion program asked (Err e) = IsCause program asked e
+IsQuestion program asked (Err e) = IsHindranceByName program asked e
 
 -- The policy can be compared with others over these fields.
 pub record IsFitFor (fields : FieldTable) (q : Policy) : Type 0 where
@@ -85,7 +85,7 @@ IsAnswer fields x (Breaks f) = IsLeastBreak fields x (found_of f) × (whose f.si
 -- what asking a query answers
 abbrev pub IsAsked : Program → Asked → Result Answer QueryError → Type 0
 IsAsked program asked (Ok a) = (x : Question) × IsNamedQuestion program asked x × IsAnswer program.fields x a
-IsAsked program asked (Err e) = IsCause program asked e
+IsAsked program asked (Err e) = IsHindranceByName program asked e
 
 -- of a certificate that no history breaks: it is one for the question and `drop`, so none does; or a row fails first
 pub record IsJudgedFor (fields : FieldTable) (x : Question) (c : CertificateValue) (finding : Finding) : Type 0 where
@@ -96,4 +96,4 @@ pub record IsJudgedFor (fields : FieldTable) (x : Question) (c : CertificateValu
 abbrev pub IsQueryChecked : Program → Asked → CertificateValue → Result Verdict QueryError → Type 0
 IsQueryChecked program asked c (Ok v) =
     (x : Question) × IsNamedQuestion program asked x × IsJudgedFor program.fields x c (finding_of v)
-IsQueryChecked program asked c (Err e) = IsCause program asked e
+IsQueryChecked program asked c (Err e) = IsHindranceByName program asked e

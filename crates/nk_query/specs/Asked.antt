@@ -46,9 +46,9 @@ LacksName program (waypoint name from middle target) =
     ⊎ (policy_named program target ≡ None)))
 
 -- all but the first are predicates
-abbrev pub are_predicates : Question → Bool
-are_predicates (apart_of p from target) = is_predicate from && is_predicate target
-are_predicates (waypoint_of p from middle target) = is_predicate from && is_predicate middle && is_predicate target
+abbrev pub rest_are_predicates : Question → Bool
+rest_are_predicates (apart_of p from target) = is_predicate from && is_predicate target
+rest_are_predicates (waypoint_of p from middle target) = is_predicate from && is_predicate middle && is_predicate target
 
 -- the policy whose histories are those that break
 abbrev pub question_policy : Question → Policy
@@ -56,19 +56,19 @@ question_policy (apart_of p from target) = apart_question p from target
 question_policy (waypoint_of p from middle target) = waypoint_question p from middle target
 
 -- the history breaks the query
-abbrev pub Breaks : Question → Packet → List Packet → Packet → Type 0
-Breaks (apart_of p from target) pk w last = BreaksApart p from target pk w last
-Breaks (waypoint_of p from middle target) pk w last = BreaksWaypoint p from middle target pk w last
+abbrev pub BreaksQuestion : Question → Packet → List Packet → Packet → Type 0
+BreaksQuestion (apart_of p from target) pk w last = BreaksApart p from target pk w last
+BreaksQuestion (waypoint_of p from middle target) pk w last = BreaksWaypoint p from middle target pk w last
 
 -- no history from a packet in range does
 abbrev pub NoneBreaks : FieldTable → Question → Type 0
 NoneBreaks fields question =
-    (pk : Packet) (w : List Packet) (last : Packet) → IsPacket fields pk → Breaks question pk w last → ⊥
+    (pk : Packet) (w : List Packet) (last : Packet) → IsPacket fields pk → BreaksQuestion question pk w last → ⊥
 
 -- it starts from a packet in range, and breaks
 abbrev pub IsBreaking : FieldTable → Question → Found → Type 0
 IsBreaking fields question found =
-    IsPacket fields found.start × Breaks question found.start found.records found.last
+    IsPacket fields found.start × BreaksQuestion question found.start found.records found.last
 
 -- it is the least of all that do
 abbrev pub IsLeastBreak : FieldTable → Question → Found → Type 0

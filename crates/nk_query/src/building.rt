@@ -3,7 +3,7 @@ ghost use Rattle.std.specs.Prelude.{◌≡◌, ◌-◌, ◌^◌, ◌≤◌, IfOk
 ghost use Rattle.nk_policy.specs.Policy.{marked_from, size_of, MarksBelow};
 ghost use Rattle.nk_policy.specs.Tree.{tree_of};
 ghost use Rattle.nk_query.specs.Asked.{apart_of, waypoint_of};
-ghost use Rattle.nk_query.specs.Answers.{IsMade};
+ghost use Rattle.nk_query.specs.Answers.{MakesQuestion};
 ghost use Rattle.nk_query.specs.Questions.{apart_question, waypoint_question};
 
 use crate::avoided::{avoided, complement};
@@ -16,7 +16,7 @@ const MOST: u64 = 1_048_576;
 
 /// The policy whose histories are those of `p` that start where `from` holds and end where `target` does.
 pub(crate) fn apart(alloc: Global, p: &Pol, from: &Pol, target: &Pol) -> Result<Pol, QueryError>
-    ensures { IsMade (apart_of (tree_of p.now) (tree_of from.now) (tree_of target.now)) result }
+    ensures { MakesQuestion (apart_of (tree_of p.now) (tree_of from.now) (tree_of target.now)) result }
 {
     if !is_predicate(from) || !is_predicate(target) {
         return Err(QueryError::NotAPredicate);
@@ -39,7 +39,7 @@ pub(crate) fn waypoint(
     target: &Pol,
 ) -> Result<Pol, QueryError>
     requires marks { MarksBelow (tree_of p.now) (2 ^ 32 - 1) }
-    ensures { IsMade (waypoint_of (tree_of p.now) (tree_of from.now) (tree_of middle.now) (tree_of target.now)) result }
+    ensures { MakesQuestion (waypoint_of (tree_of p.now) (tree_of from.now) (tree_of middle.now) (tree_of target.now)) result }
 {
     if !is_predicate(from) || !is_predicate(middle) || !is_predicate(target) {
         return Err(QueryError::NotAPredicate);

@@ -3,8 +3,8 @@ ghost use Rattle.std.specs.Prelude.{◌≡◌, true, IfOk};
 ghost use Rattle.nk_policy.specs.Tree.{tree_of};
 ghost use Rattle.nk_cert.specs.Verdicts.{HasPredicates};
 ghost use Rattle.nk_cert.specs.Values.{certificate_value, finding_of};
-ghost use Rattle.nk_query.specs.Asked.{Question, are_predicates};
-ghost use Rattle.nk_query.specs.Answers.{asked_of, asked_policy, IsFitFor, IsJudgedFor, IsQueryChecked};
+ghost use Rattle.nk_query.specs.Asked.{Question, rest_are_predicates};
+ghost use Rattle.nk_query.specs.Answers.{asked_in, asked_policy, IsFitFor, IsJudgedFor, IsQueryChecked};
 
 use crate::asking::dropping;
 use crate::error::QueryError;
@@ -29,7 +29,7 @@ pub fn check_query(
     certificate: &Certificate,
 ) -> Result<Verdict, QueryError>
     requires { HasPredicates (certificate_value certificate.now) }
-    ensures { IsQueryChecked program.now (asked_of query.now) (certificate_value certificate.now) result }
+    ensures { IsQueryChecked program.now (asked_in query.now) (certificate_value certificate.now) result }
 {
     match question(alloc, program, query) {
         Ok(q) => Ok(verdict_of(alloc, &program.fields, &q, certificate)?),
@@ -46,7 +46,7 @@ fn verdict_of(
 ) -> Result<Verdict, AllocError>
     requires fit { IsFitFor fields.now (tree_of q.now) }
     requires predicates { HasPredicates (certificate_value certificate.now) }
-    ensures { IfOk result (λ v. (x : Question) → are_predicates x ≡ true → tree_of q.now ≡ asked_policy x
+    ensures { IfOk result (λ v. (x : Question) → rest_are_predicates x ≡ true → tree_of q.now ≡ asked_policy x
         → IsJudgedFor fields.now x (certificate_value certificate.now) (finding_of v)) }
 {
     let nothing = dropping(alloc);

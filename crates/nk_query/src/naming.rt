@@ -2,7 +2,7 @@
 ghost use Rattle.std.specs.Prelude.{IfOk};
 ghost use Rattle.nk_policy.specs.Tree.{tree_of};
 ghost use Rattle.nk_query.specs.Asked.{apart as asks_apart, waypoint as asks_waypoint};
-ghost use Rattle.nk_query.specs.Answers.{asked_of, IsQuestion, IsFitFor};
+ghost use Rattle.nk_query.specs.Answers.{asked_in, IsQuestion, IsFitFor};
 
 use crate::building::{apart, waypoint};
 use crate::error::QueryError;
@@ -18,7 +18,7 @@ use std::alloc::Global;
 /// more than 256 deep. The first of these is refused: a name that is no policy's; a policy that has to be a predicate and
 /// isn't one; a question with more than 1,048,576 elements. The only other error is that memory ran out.
 pub fn question(alloc: Global, program: &Program, query: &Query) -> Result<Pol, QueryError>
-    ensures is { IsQuestion program.now (asked_of query.now) result }
+    ensures is { IsQuestion program.now (asked_in query.now) result }
     ensures fit { IfOk result (λ q. IsFitFor program.now.fields (tree_of q)) }
 {
     match query {

@@ -4,7 +4,7 @@ use Rattle.std.specs.Prelude.{◌==◌, slice_get, Contains}
 use Rattle.nk_field.proofs.Lists.{In, in_from_contains, contains_from_in, in_mapped, from_mapped}
 use Rattle.nk_policy.specs.Policy.{Policy}
 use Rattle.nk_names.specs.declared.Program.{Program}
-use Rattle.nk_names.specs.Accepted.{IsStart}
+use Rattle.nk_names.specs.Accepted.{IsStartPacket}
 use Rattle.nk_table.specs.declared.Tables.{Tables}
 use Rattle.nk_table.specs.Hops.{Copy, left_after}
 use Rattle.nk_compile.specs.Carries.{Carries}
@@ -17,12 +17,12 @@ use Rattle.nk_flight.proofs.Owing.{eq_true}
 use Rattle.nk_schedules.specs.Schedules.{IsOf, IsEachOnceOf, IsNoOther}
 
 -- what leaves the tables leaves once
-pub leave_once : (program : Program) (p : Policy) (t : Tables) (k : ℕ) (pk : List ℕ) → Carries program p t → IsStart program.fields program.topo pk
+pub leave_once : (program : Program) (p : Policy) (t : Tables) (k : ℕ) (pk : List ℕ) → Carries program p t → IsStartPacket program.fields program.topo pk
     → LeaveOnce t k pk (all_erased t (left_after t k pk))
 leave_once program p t k pk carries start = record { once = carries.once k pk start; exactly = λ h. (λ c. c, λ c. c) }
 
 -- where each history that leaves the tables has left once, or is owed by one copy, so has each of the policy's
-pub of_policy : (program : Program) (p : Policy) (t : Tables) (k : ℕ) (pk : List ℕ) (left copies : List Copy) → Carries program p t → IsStart program.fields program.topo pk
+pub of_policy : (program : Program) (p : Policy) (t : Tables) (k : ℕ) (pk : List ℕ) (left copies : List Copy) → Carries program p t → IsStartPacket program.fields program.topo pk
     → IsEachOnce t k (all_erased t (left_after t k pk)) left copies → IsEachOnceOf p pk t k left copies
 of_policy program p t k pk left copies carries start each =
     let all = all_erased t (left_after t k pk) in
@@ -52,7 +52,7 @@ none_else p t pk hs copies each = record {
 
 -- each of the policy's histories has left once, or is owed by one copy alone
 pub each_once_of : (program : Program) (p : Policy) (t : Tables) (es : List Event) (i k : ℕ) (pk : List ℕ) → Carries program p t
-    → slice_get (after_events es (nothing_in_flight t)).packets i ≡ Some pk → IsStart program.fields program.topo pk
+    → slice_get (after_events es (nothing_in_flight t)).packets i ≡ Some pk → IsStartPacket program.fields program.topo pk
     → IsEachOnceOf p pk t k (all_erased t (with_crossings k (left_from (i + 1) (after_events es (nothing_in_flight t)).left))) (flying_from (i + 1) (after_events es (nothing_in_flight t)).flying)
 each_once_of program p t es i k pk carries e start =
     let s = after_events es (nothing_in_flight t) in
@@ -61,7 +61,7 @@ each_once_of program p t es i k pk carries e start =
 
 -- nothing else has left
 pub no_other : (program : Program) (p : Policy) (t : Tables) (es : List Event) (i : ℕ) (pk : List ℕ) → Carries program p t
-    → slice_get (after_events es (nothing_in_flight t)).packets i ≡ Some pk → IsStart program.fields program.topo pk
+    → slice_get (after_events es (nothing_in_flight t)).packets i ≡ Some pk → IsStartPacket program.fields program.topo pk
     → IsNoOther p pk (all_erased t (left_from (i + 1) (after_events es (nothing_in_flight t)).left))
 no_other program p t es i pk carries e start =
     let s = after_events es (nothing_in_flight t) in

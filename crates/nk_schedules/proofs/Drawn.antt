@@ -4,7 +4,7 @@ use Rattle.std.specs.Prelude.{slice_get}
 use Rattle.nk_field.specs.Packet.{IsPacket, IsUntagged}
 use Rattle.nk_topo.specs.Topology.{IsLocated}
 use Rattle.nk_names.specs.declared.Program.{Program}
-use Rattle.nk_names.specs.Accepted.{IsStart}
+use Rattle.nk_names.specs.Accepted.{IsStartPacket}
 use Rattle.nk_update.specs.Plans.{Pair, pair_of}
 use Rattle.nk_update.specs.Steps.{plan_of}
 use Rattle.nk_update.specs.Tags.{IsEntering}
@@ -27,7 +27,7 @@ module _ (program : Program) (old new : List ℕ) (r : TablePair) (both : IsComp
   stages = stages_of (plan_of pair)
 
   -- the tables have the program's fields and topology
-  enters : (pk : List ℕ) → IsStart program.fields program.topo pk → IsEntering r.old pk
+  enters : (pk : List ℕ) → IsStartPacket program.fields program.topo pk → IsEntering r.old pk
   enters pk start = record {
     packet = subst (λ f. IsPacket f pk) (sym both.printed_old.same_fields) start.packet;
     located = subst (λ t. IsLocated t pk) (sym both.printed_old.same_topology) start.located;
@@ -44,10 +44,10 @@ module _ (program : Program) (old new : List ℕ) (r : TablePair) (both : IsComp
     same : drawn ≡ after_updates stages events (at_the_start stages)
     same = turns_are_updates stages seed turns pk (at_the_start stages)
 
-    all_enter : IsStart program.fields program.topo pk → AreEntering r.old events
+    all_enter : IsStartPacket program.fields program.topo pk → AreEntering r.old events
     all_enter start = turns_enter r.old stages seed turns pk (at_the_start stages) (enters pk start)
 
-  pub each_by_policy_drawn : (seed turns i k : ℕ) (pk : List ℕ) (v : Version) → IsStart program.fields program.topo pk
+  pub each_by_policy_drawn : (seed turns i k : ℕ) (pk : List ℕ) (v : Version) → IsStartPacket program.fields program.topo pk
       → slice_get (drawn seed turns pk).flight.packets i ≡ Some pk → (drawn seed turns pk).versions (i + 1) ≡ Some v
       → IsEachOnceOf (policy_by both.p both.q v) pk (tables_by pair v) k
       (all_erased (tables_by pair v) (with_crossings k (left_from (i + 1) (drawn seed turns pk).flight.left))) (flying_from (i + 1) (drawn seed turns pk).flight.flying)
@@ -58,7 +58,7 @@ module _ (program : Program) (old new : List ℕ) (r : TablePair) (both : IsComp
       (sym (same seed turns pk))
       (λ e is. each_by_policy program old new r both (events seed turns pk) i k pk v (all_enter seed turns pk start) e start is)
 
-  pub none_but_its_policy_drawn : (seed turns i : ℕ) (pk : List ℕ) (v : Version) → IsStart program.fields program.topo pk
+  pub none_but_its_policy_drawn : (seed turns i : ℕ) (pk : List ℕ) (v : Version) → IsStartPacket program.fields program.topo pk
       → slice_get (drawn seed turns pk).flight.packets i ≡ Some pk → (drawn seed turns pk).versions (i + 1) ≡ Some v
       → IsNoOther (policy_by both.p both.q v) pk (all_erased (tables_by pair v) (left_from (i + 1) (drawn seed turns pk).flight.left))
   none_but_its_policy_drawn seed turns i pk v start =
@@ -67,7 +67,7 @@ module _ (program : Program) (old new : List ℕ) (r : TablePair) (both : IsComp
       (sym (same seed turns pk))
       (λ e is. none_but_its_policy program old new r both (events seed turns pk) i pk v (all_enter seed turns pk start) e start is)
 
-  pub one_copy_drawn : (seed turns i : ℕ) (pk : List ℕ) → IsStart program.fields program.topo pk
+  pub one_copy_drawn : (seed turns i : ℕ) (pk : List ℕ) → IsStartPacket program.fields program.topo pk
       → slice_get (drawn seed turns pk).flight.packets i ≡ Some pk → (drawn seed turns pk).versions (i + 1) ≡ None
       → (flying_from (i + 1) (drawn seed turns pk).flight.flying ≡ record { records = []; packet = pk } ∷ []) × (left_from (i + 1) (drawn seed turns pk).flight.left ≡ [])
   one_copy_drawn seed turns i pk start =

@@ -2,7 +2,7 @@
 use Rattle.std.proofs.Common.{◌≡◌, ℕ, ◌+◌, Some, None, List, [], ◌∷◌, subst}
 use Rattle.std.specs.Prelude.{slice_get}
 use Rattle.nk_names.specs.declared.Program.{Program}
-use Rattle.nk_names.specs.Accepted.{IsStart}
+use Rattle.nk_names.specs.Accepted.{IsStartPacket}
 use Rattle.nk_table.specs.Hops.{left_after}
 use Rattle.nk_update.specs.Plans.{Pair, pair_of}
 use Rattle.nk_update.specs.Steps.{plan_of}
@@ -33,7 +33,7 @@ module _ (program : Program) (old new : List ℕ) (r : TablePair) (both : IsComp
 
   -- each of its policy's histories has left once, or is owed by one copy alone
   pub each_by_policy : (es : List UpdateEvent) (i k : ℕ) (pk : List ℕ) (v : Version) → AreEntering r.old es
-      → slice_get (after es).flight.packets i ≡ Some pk → IsStart program.fields program.topo pk → (after es).versions (i + 1) ≡ Some v
+      → slice_get (after es).flight.packets i ≡ Some pk → IsStartPacket program.fields program.topo pk → (after es).versions (i + 1) ≡ Some v
       → IsEachOnceOf (policy_by both.p both.q v) pk (tables_by pair v) k
       (all_erased (tables_by pair v) (with_crossings k (left_from (i + 1) (after es).flight.left))) (flying_from (i + 1) (after es).flight.flying)
   each_by_policy es i k pk v enter e start is =
@@ -45,7 +45,7 @@ module _ (program : Program) (old new : List ℕ) (r : TablePair) (both : IsComp
 
   -- nothing else has left
   pub none_but_its_policy : (es : List UpdateEvent) (i : ℕ) (pk : List ℕ) (v : Version) → AreEntering r.old es
-      → slice_get (after es).flight.packets i ≡ Some pk → IsStart program.fields program.topo pk → (after es).versions (i + 1) ≡ Some v
+      → slice_get (after es).flight.packets i ≡ Some pk → IsStartPacket program.fields program.topo pk → (after es).versions (i + 1) ≡ Some v
       → IsNoOther (policy_by both.p both.q v) pk (all_erased (tables_by pair v) (left_from (i + 1) (after es).flight.left))
   none_but_its_policy es i pk v enter e start is =
       none_else (policy_by both.p both.q v) (tables_by pair v) pk (left_from (i + 1) (after es).flight.left) (flying_from (i + 1) (after es).flight.flying)

@@ -2,7 +2,7 @@
 ghost use Rattle.std.specs.Prelude.{◌≡◌, ◌+◌, ℕ, Some, None, List, [], ◌∷◌, slice_get};
 ghost use Rattle.nk_policy.specs.Policy.{Policy};
 ghost use Rattle.nk_names.specs.declared.Program.{Program};
-ghost use Rattle.nk_names.specs.Accepted.{IsStart};
+ghost use Rattle.nk_names.specs.Accepted.{IsStartPacket};
 ghost use Rattle.nk_table.specs.declared.Tables.{Tables};
 ghost use Rattle.nk_update.specs.Plans.{pair_of};
 ghost use Rattle.nk_update.specs.Steps.{plan_of};
@@ -23,11 +23,11 @@ ghost use Rattle.nk_schedules.specs.Schedules.{IsEachOnceOf, IsNoOther, policy_b
 pub fn each_history_of_the_policy_once()
     ensures each { (program : Program) (p : Policy) (t : Tables) (events : List Event) (i k : ℕ) (pk : List ℕ)
         → let s = after_events events (nothing_in_flight t) in
-        Carries program p t → slice_get s.packets i ≡ Some pk → IsStart program.fields program.topo pk
+        Carries program p t → slice_get s.packets i ≡ Some pk → IsStartPacket program.fields program.topo pk
         → IsEachOnceOf p pk t k (all_erased t (with_crossings k (left_from (i + 1) s.left))) (flying_from (i + 1) s.flying) }
     ensures left { (program : Program) (p : Policy) (t : Tables) (events : List Event) (i : ℕ) (pk : List ℕ)
         → let s = after_events events (nothing_in_flight t) in
-        Carries program p t → slice_get s.packets i ≡ Some pk → IsStart program.fields program.topo pk
+        Carries program p t → slice_get s.packets i ≡ Some pk → IsStartPacket program.fields program.topo pk
         → IsNoOther p pk (all_erased t (left_from (i + 1) s.left)) }
 {}
 
@@ -41,7 +41,7 @@ pub fn each_packet_keeps_to_one_policy()
         (events : List UpdateEvent) (i k : ℕ) (pk : List ℕ) (v : Version)
         → let p = pair_of r.old r.new r.old_tags in let g = stages_of (plan_of p) in let s = after_updates g events (at_the_start g) in
         let t = tables_by p v in
-        AreEntering r.old events → slice_get s.flight.packets i ≡ Some pk → IsStart program.fields program.topo pk
+        AreEntering r.old events → slice_get s.flight.packets i ≡ Some pk → IsStartPacket program.fields program.topo pk
         → s.versions (i + 1) ≡ Some v
         → IsEachOnceOf (policy_by both.p both.q v) pk t k (all_erased t (with_crossings k (left_from (i + 1) s.flight.left)))
         (flying_from (i + 1) s.flight.flying) }
@@ -49,7 +49,7 @@ pub fn each_packet_keeps_to_one_policy()
         (events : List UpdateEvent) (i : ℕ) (pk : List ℕ) (v : Version)
         → let p = pair_of r.old r.new r.old_tags in let g = stages_of (plan_of p) in let s = after_updates g events (at_the_start g) in
         let t = tables_by p v in
-        AreEntering r.old events → slice_get s.flight.packets i ≡ Some pk → IsStart program.fields program.topo pk
+        AreEntering r.old events → slice_get s.flight.packets i ≡ Some pk → IsStartPacket program.fields program.topo pk
         → s.versions (i + 1) ≡ Some v
         → IsNoOther (policy_by both.p both.q v) pk (all_erased t (left_from (i + 1) s.flight.left)) }
     ensures unstepped { (program : Program) (old new : List ℕ) (r : TablePair) (both : IsCompiledPair program old new r)
@@ -66,18 +66,18 @@ pub fn a_drawn_update_keeps_to_one_policy()
         (seed turns i k : ℕ) (pk : List ℕ) (v : Version)
         → let p = pair_of r.old r.new r.old_tags in let g = stages_of (plan_of p) in let s = after_turns g seed turns pk (at_the_start g) in
         let t = tables_by p v in
-        IsStart program.fields program.topo pk → slice_get s.flight.packets i ≡ Some pk → s.versions (i + 1) ≡ Some v
+        IsStartPacket program.fields program.topo pk → slice_get s.flight.packets i ≡ Some pk → s.versions (i + 1) ≡ Some v
         → IsEachOnceOf (policy_by both.p both.q v) pk t k (all_erased t (with_crossings k (left_from (i + 1) s.flight.left)))
         (flying_from (i + 1) s.flight.flying) }
     ensures left { (program : Program) (old new : List ℕ) (r : TablePair) (both : IsCompiledPair program old new r)
         (seed turns i : ℕ) (pk : List ℕ) (v : Version)
         → let p = pair_of r.old r.new r.old_tags in let g = stages_of (plan_of p) in let s = after_turns g seed turns pk (at_the_start g) in
         let t = tables_by p v in
-        IsStart program.fields program.topo pk → slice_get s.flight.packets i ≡ Some pk → s.versions (i + 1) ≡ Some v
+        IsStartPacket program.fields program.topo pk → slice_get s.flight.packets i ≡ Some pk → s.versions (i + 1) ≡ Some v
         → IsNoOther (policy_by both.p both.q v) pk (all_erased t (left_from (i + 1) s.flight.left)) }
     ensures unstepped { (program : Program) (old new : List ℕ) (r : TablePair) (both : IsCompiledPair program old new r)
         (seed turns i : ℕ) (pk : List ℕ)
         → let p = pair_of r.old r.new r.old_tags in let g = stages_of (plan_of p) in let s = after_turns g seed turns pk (at_the_start g) in
-        IsStart program.fields program.topo pk → slice_get s.flight.packets i ≡ Some pk → s.versions (i + 1) ≡ None
+        IsStartPacket program.fields program.topo pk → slice_get s.flight.packets i ≡ Some pk → s.versions (i + 1) ≡ None
         → (flying_from (i + 1) s.flight.flying ≡ record { records = []; packet = pk } ∷ []) × (left_from (i + 1) s.flight.left ≡ []) }
 {}

@@ -19,10 +19,10 @@ use Rattle.nk_switches.specs.declared.stop.ClassStop.{ClassStop}
 use Rattle.nk_switches.specs.declared.stop.TagState.{TagState}
 use Rattle.nk_switches.specs.declared.stop.SwitchStates.{SwitchStates}
 use Rattle.nk_switches.specs.Matched.{Matched}
-use Rattle.nk_switches.specs.States.{IsStateAt}
+use Rattle.nk_switches.specs.States.{IsStateAtSwitch}
 use Rattle.nk_switches.specs.Tagged.{members_of, LeadsWith, SendsBy, IsTagTable}
 use Rattle.nk_switches.specs.Made.{TagTree, rows_of_trees, IsTagAt, HasPlaces, IsPrintableState, ArePrintableStates, IsTreeBy, IsTableBy}
-use Rattle.nk_switches.specs.Classed.{class_of, acting_tag, LeadsTo, numbered, IsTagWithin, IsActingAt, IsClassAt, IsClassStop, IsClassTreeAt, IsClassTableAt, HaveActing, HaveClasses, IsActingState, IsClassState, AreClassStates}
+use Rattle.nk_switches.specs.Classed.{class_of, acting_tag, LeadsTo, numbered_target, IsTagWithin, IsActingAt, IsClassAt, IsClassStop, IsClassTreeAt, IsClassTableAt, HaveActing, HaveClasses, IsActingState, IsClassState, AreClassStates}
 use Rattle.nk_switches.proofs.Fronting.{acting_id}
 use Rattle.nk_switches.proofs.Growing.{declared_same, leads_grown, stay_grown, members_kept, sets_longer}
 use Rattle.nk_switches.proofs.Matching.{of_second, matched_with, matched_through}
@@ -55,13 +55,13 @@ pub stop_classes : (st : Held) (ss : List (List ℕ)) (states tags : List ℕ) (
 stop_classes st ss states tags tag s k i d lt = class_places st ss states tags tag s.switch (get_or s.classes i d) (k i d lt)
 
 -- the number of a target by its tag
-index_numbered : (classes : List ℕ) (table : List (Option ℕ)) (u : ℕ) → get_or (map (numbered classes) table) u None ≡ numbered classes (get_or table u None)
+index_numbered : (classes : List ℕ) (table : List (Option ℕ)) (u : ℕ) → get_or (map (numbered_target classes) table) u None ≡ numbered_target classes (get_or table u None)
 index_numbered classes [] u = refl
 index_numbered classes (o ∷ table) zero = refl
 index_numbered classes (o ∷ table) (suc u) = index_numbered classes table u
 
 -- where a number is, a tag is
-from_numbered : (classes : List ℕ) (o : Option ℕ) (c : ℕ) → numbered classes o ≡ Some c → (t : ℕ) × (o ≡ Some t) × (c ≡ class_of classes t)
+from_numbered : (classes : List ℕ) (o : Option ℕ) (c : ℕ) → numbered_target classes o ≡ Some c → (t : ℕ) × (o ≡ Some t) × (c ≡ class_of classes t)
 from_numbered classes None c e = absurd cc
 from_numbered classes (Some t) c e = (t, refl, same_some c (class_of classes t) (sym e))
 
@@ -84,11 +84,11 @@ tags_within count ss tags classes table items is many same =
 module _ (first st : Held) (old ss : List (List ℕ)) (states tags classes : List ℕ) (tag : ℕ) (g : Grows first st) (grew : SetsGrow old ss) (ids : AreIds first states)
     (known : All (λ s. s < length old) tags) (differ : Differ ss) (ascend : Ascend ss) where
   -- the set state of a tag's states, by the sets of the beginning
-  of_state : (sw t d : ℕ) → HasPlaces ss (length states) tags t → IsStateAt st ss states (members_of ss tags t) sw d → IsStateAt st ss states (members_of old tags t) sw d
-  of_state sw t d has k = subst (λ m. IsStateAt st ss states m sw d) (members_kept old ss tags t grew known has.within) k
+  of_state : (sw t d : ℕ) → HasPlaces ss (length states) tags t → IsStateAtSwitch st ss states (members_of ss tags t) sw d → IsStateAtSwitch st ss states (members_of old tags t) sw d
+  of_state sw t d has k = subst (λ m. IsStateAtSwitch st ss states m sw d) (members_kept old ss tags t grew known has.within) k
 
   -- a tag's diagram can be printed
-  tag_printable : 2 ≤ tag → AreTidy st → (sw t d : ℕ) → IsTagAt first old states tags tag sw t → HasPlaces ss (length states) tags t → IsStateAt st ss states (members_of ss tags t) sw d → IsPrintable st tag sw d
+  tag_printable : 2 ≤ tag → AreTidy st → (sw t d : ℕ) → IsTagAt first old states tags tag sw t → HasPlaces ss (length states) tags t → IsStateAtSwitch st ss states (members_of ss tags t) sw d → IsPrintable st tag sw d
   tag_printable past tidy sw t d at has k =
       state_printable st ss states (members_of old tags t) tag sw d past tidy differ ascend (of_state sw t d has k)
       (stay_grown first st states (members_of old tags t) g ids at.places tag sw at.stay)
@@ -157,10 +157,10 @@ module _ (first st : Held) (old ss : List (List ℕ)) (states tags classes : Lis
   module _ (by_tag : List (Option ℕ)) (is : IsTagTable (length tags) ss tags by_tag) where
     -- the numbers of targets
     abbrev table : List (Option ℕ)
-    table = map (numbered classes) by_tag
+    table = map (numbered_target classes) by_tag
 
     -- where a tag's diagram sends by them, its states lead
-    one_sends : (sw t d : ℕ) → IsTagAt first old states tags tag sw t → HasPlaces ss (length states) tags t → IsStateAt st ss states (members_of ss tags t) sw d →
+    one_sends : (sw t d : ℕ) → IsTagAt first old states tags tag sw t → HasPlaces ss (length states) tags t → IsStateAtSwitch st ss states (members_of ss tags t) sw d →
         (pk y : List ℕ) (c : ℕ) → IsPacket st pk → slice_index pk 0 ≡ sw → SendsBy st table d pk y c ↔ LeadsTo first old states tags classes (members_of old tags t) pk y c
     one_sends sw t d at has k pk y c p here =
         let state = of_state sw t d has k in
@@ -170,7 +170,7 @@ module _ (first st : Held) (old ss : List (List ℕ)) (states tags classes : Lis
               (n.0, (leads_back members at.places pk y n.0).0 (sends_leads st old ss states tags members sw d by_tag differ ascend grew known (sets_longer old ss grew) is state pk y n.0 p here (s.0, s.1, n.1)), n.2),
           λ l.
               let s = leads_sends st old ss states tags members sw d by_tag differ ascend grew known (sets_longer old ss grew) is state pk y l.0 p here ((leads_back members at.places pk y l.0).1 l.1) in
-              (s.0, s.1, index_numbered classes by_tag s.0 ∙ ap (numbered classes) s.2 ∙ ap Some (sym l.2)),
+              (s.0, s.1, index_numbered classes by_tag s.0 ∙ ap (numbered_target classes) s.2 ∙ ap Some (sym l.2)),
         )
 
     -- one leaf or the other

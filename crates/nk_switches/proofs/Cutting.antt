@@ -10,7 +10,7 @@ use Rattle.nk_algebra.specs.Unions.{AreIds}
 use Rattle.nk_determ.specs.Exact.{AreExact, Sends}
 use Rattle.nk_determ.specs.States.{SomeLeads, AreLedTo, StateLeads, HaveEach}
 use Rattle.nk_determ.proofs.StatesAt.{at_state, from_state, met_same}
-use Rattle.nk_switches.specs.States.{IsStateAt}
+use Rattle.nk_switches.specs.States.{IsStateAtSwitch}
 
 -- what states at these places have at one value of the switch
 abbrev pub cut_each : Held → List ℕ → List ℕ → ℕ → ℕ → List ℕ → List Out
@@ -45,7 +45,7 @@ module _ (old mid new : Held) (states members cut : List ℕ) (sw : ℕ) (first 
       ((pk y : List ℕ) → IsPacket mid pk → Sends new d pk y 0 ↔ SomeLeads mid cut pk y 0) →
       ((pk y : List ℕ) (i : ℕ) → IsPacket mid pk → Sends new d pk y (i + 1) → AreLedTo sets mid cut pk y i) →
       ((pk y : List ℕ) (l : ℕ) → IsPacket mid pk → 0 < l → SomeLeads mid cut pk y l → (i : ℕ) × Sends new d pk y (i + 1)) →
-      IsStateAt new sets states members sw d
+      IsStateAtSwitch new sets states members sw d
   state_cut sets d id exact ends leads led = record {
     id = id;
     exact = exact;

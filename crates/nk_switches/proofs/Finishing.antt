@@ -15,9 +15,9 @@ use Rattle.nk_switches.specs.declared.stop.Stop.{Stop}
 use Rattle.nk_switches.specs.declared.stop.TagState.{TagState}
 use Rattle.nk_switches.specs.declared.stop.SwitchStates.{SwitchStates}
 use Rattle.nk_switches.specs.Matched.{Matched}
-use Rattle.nk_switches.specs.States.{IsStateAt}
+use Rattle.nk_switches.specs.States.{IsStateAtSwitch}
 use Rattle.nk_switches.specs.Tagged.{members_of, LeadsWith, SendsBy, IsTagTable}
-use Rattle.nk_switches.specs.Made.{TagTree, rows_of_trees, IsTagAt, IsStop, IsTagTree, IsTableAt, IsTagState, AreStatesAt, IsPrintableState, ArePrintableStates, IsTreeBy, IsTableBy, HavePlaces}
+use Rattle.nk_switches.specs.Made.{TagTree, rows_of_trees, IsTagAt, IsStop, IsTagTree, IsTableAt, IsTagState, AreStatesAt, IsPrintableState, ArePrintableStates, IsTreeBy, IsTableBy, TagsHavePlaces}
 use Rattle.nk_switches.proofs.Growing.{declared_same, leads_grown, stay_grown, members_kept, sets_longer}
 use Rattle.nk_switches.proofs.Matching.{of_second, matched_maps, matched_with, matched_through}
 use Rattle.nk_switches.proofs.Printing.{state_printable}
@@ -25,7 +25,7 @@ use Rattle.nk_switches.proofs.Tagging.{sends_leads, leads_sends}
 use Rattle.nk_switches.proofs.Trees.{buckets_same}
 
 -- the places of a stop's states
-pub stop_places : (st : Held) (ss : List (List ℕ)) (states tags : List ℕ) (tag : ℕ) (s : Stop) → IsStop st ss states tags tag s → HavePlaces ss (length states) tags s
+pub stop_places : (st : Held) (ss : List (List ℕ)) (states tags : List ℕ) (tag : ℕ) (s : Stop) → IsStop st ss states tags tag s → TagsHavePlaces ss (length states) tags s
 stop_places st ss states tags tag s h k d lt = let a = h k d lt in record { within = a.within; places = a.places }
 
 module _ (first st : Held) (old ss : List (List ℕ)) (states tags : List ℕ) (tag : ℕ) (g : Grows first st) (grew : SetsGrow old ss) (ids : AreIds first states)
@@ -38,8 +38,8 @@ module _ (first st : Held) (old ss : List (List ℕ)) (states tags : List ℕ) (
       (subst (λ l. In l e.tag) k.tags_are (in_mapped (λ (x : TagState). x.tag) tag_states.tag_states e i))
 
   -- the set state of its states, by the sets of the beginning
-  of_state : (sw : ℕ) (e : TagState) → IsTagState st ss states tags sw e → IsStateAt st ss states (members_of old tags e.tag) sw e.diagram
-  of_state sw e k = subst (λ m. IsStateAt st ss states m sw e.diagram) (members_kept old ss tags e.tag grew known k.within) k.state
+  of_state : (sw : ℕ) (e : TagState) → IsTagState st ss states tags sw e → IsStateAtSwitch st ss states (members_of old tags e.tag) sw e.diagram
+  of_state sw e k = subst (λ m. IsStateAtSwitch st ss states m sw e.diagram) (members_kept old ss tags e.tag grew known k.within) k.state
 
   -- a stop's diagrams can be printed
   pub stop_printable : 2 ≤ tag → AreTidy st → (s : Stop) (tag_states : SwitchStates) → IsStop first old states tags tag s → AreStatesAt st ss states tags s tag_states → ArePrintableStates st tag tag_states

@@ -17,7 +17,7 @@ use Rattle.nk_switches.specs.declared.stop.ClassStop.{ClassStop}
 use Rattle.nk_switches.specs.declared.stop.SwitchStates.{SwitchStates}
 use Rattle.nk_switches.specs.declared.stop.TagState.{TagState}
 use Rattle.nk_switches.specs.Matched.{Matched}
-use Rattle.nk_switches.specs.States.{IsStateAt}
+use Rattle.nk_switches.specs.States.{IsStateAtSwitch}
 use Rattle.nk_switches.specs.Tagged.{members_of}
 use Rattle.nk_switches.specs.Made.{HasPlaces}
 use Rattle.nk_switches.specs.Classed.{IsActingTag, HaveActing, HaveClasses, IsInFront, IsActingState, IsClassState, AreClassStates}
@@ -68,9 +68,9 @@ acting_id st ss states tags tag sw (a ∷ rest) other d k = k.5.id
 
 module _ (st new : Held) (ss more : List (List ℕ)) (states tags : List ℕ) (tag sw : ℕ) (g : Grows st new) (s : SetsGrow ss more) (ids : AreIds st states) (known : All (λ n. n < length ss) tags) where
   -- a tag's diagram in a later store
-  kept : (t d : ℕ) → HasPlaces ss (length states) tags t → IsStateAt st ss states (members_of ss tags t) sw d → IsStateAt new more states (members_of more tags t) sw d
+  kept : (t d : ℕ) → HasPlaces ss (length states) tags t → IsStateAtSwitch st ss states (members_of ss tags t) sw d → IsStateAtSwitch new more states (members_of more tags t) sw d
   kept t d has k =
-      subst (λ m. IsStateAt new more states m sw d) (sym (members_kept ss more tags t s known has.within))
+      subst (λ m. IsStateAtSwitch new more states m sw d) (sym (members_kept ss more tags t s known has.within))
       (state_grown st new states (members_of ss tags t) g ids has.places ss more sw d s k)
 
   -- a diagram in front of another in a later store
@@ -105,14 +105,14 @@ module _ (st new : Held) (ss more : List (List ℕ)) (states tags : List ℕ) (t
 -- one more tag in front
 pub acting_more : (st new : Held) (ss more : List (List ℕ)) (states tags : List ℕ) (tag sw : ℕ) (acting : List ActingTag) (i : ℕ) (a : ActingTag) (other rest d : ℕ) →
     Grows st new → SetsGrow ss more → AreIds st states → All (λ n. n < length ss) tags → drop i acting ≡ a ∷ drop (i + 1) acting → HasPlaces ss (length states) tags a.tag →
-    ((e : ℕ) × IsStateAt new more states (members_of ss tags a.tag) sw e × IsInFront new tag a e rest d) →
+    ((e : ℕ) × IsStateAtSwitch new more states (members_of ss tags a.tag) sw e × IsInFront new tag a e rest d) →
     IsActingState st ss states tags tag sw (drop (i + 1) acting) other rest → IsActingState new more states tags tag sw (drop i acting) other d
 acting_more st new ss more states tags tag sw acting i a other rest d g s ids known at has one k =
     subst (λ l. IsActingState new more states tags tag sw l other d) (sym at) (
       one.0,
       rest,
       has_places ss more tags (length states) a.tag s known has,
-      subst (λ m. IsStateAt new more states m sw one.0) (sym (members_kept ss more tags a.tag s known has.within)) one.1,
+      subst (λ m. IsStateAtSwitch new more states m sw one.0) (sym (members_kept ss more tags a.tag s known has.within)) one.1,
       acting_grown st new ss more states tags tag sw g s ids known (drop (i + 1) acting) other rest k,
       one.2,
     )
@@ -149,9 +149,9 @@ class_stops_more st new ss more states tags tag stops i s one all longer g grew 
 
 -- the diagram of a tag's states before another one
 pub front_made : (a b c d : Held) (ss more : List (List ℕ)) (states tags : List ℕ) (tag sw : ℕ) (x : ActingTag) (e here rest r : ℕ) → Grows a b → Grows b c → Grows c d →
-    AreIds a states → IsActingTag a ss (length states) tags x → IsId a rest → IsStateAt b more states (members_of ss tags x.tag) sw e →
+    AreIds a states → IsActingTag a ss (length states) tags x → IsId a rest → IsStateAtSwitch b more states (members_of ss tags x.tag) sw e →
     HasLeaves c here (λ pk. look b x.packets (set pk tag 0)) → HasLeaves d r (λ pk. cond (is_in c here pk) (look c e pk) (look c rest pk)) →
-    (n : ℕ) × IsStateAt d more states (members_of ss tags x.tag) sw n × IsInFront d tag x n rest r
+    (n : ℕ) × IsStateAtSwitch d more states (members_of ss tags x.tag) sw n × IsInFront d tag x n rest r
 front_made a b c d ss more states tags tag sw x e here rest r ab bc cd ids at idr state cut made = (
   e,
   state_grown b d states (members_of ss tags x.tag) (grows_on b c d bc cd) (λ k lt. ab.ids (get_or states k 0) (ids k lt)) at.has.places more more sw e ([], sym (append-nil more)) state,
@@ -168,10 +168,10 @@ front_made a b c d ss more states tags tag sw x e here rest r ab bc cd ids at id
 
 -- behind all tags the other one acts
 pub acting_last : (st : Held) (ss more : List (List ℕ)) (states tags : List ℕ) (tag sw : ℕ) (acting : List ActingTag) (i other d : ℕ) → SetsGrow ss more → All (λ n. n < length ss) tags →
-    i ≡ length acting → HasPlaces ss (length states) tags other → IsStateAt st more states (members_of ss tags other) sw d → IsActingState st more states tags tag sw (drop i acting) other d
+    i ≡ length acting → HasPlaces ss (length states) tags other → IsStateAtSwitch st more states (members_of ss tags other) sw d → IsActingState st more states tags tag sw (drop i acting) other d
 acting_last st ss more states tags tag sw acting i other d s known is has state =
     subst (λ l. IsActingState st more states tags tag sw l other d) (sym (drop_all i acting (omega (arith, is))))
-    (has_places ss more tags (length states) other s known has, subst (λ m. IsStateAt st more states m sw d) (sym (members_kept ss more tags other s known has.within)) state)
+    (has_places ss more tags (length states) other s known has, subst (λ m. IsStateAtSwitch st more states m sw d) (sym (members_kept ss more tags other s known has.within)) state)
 
 -- the tags from a place on
 pub from_place : (acting items : List ActingTag) (i : ℕ) (a : ActingTag) → items ≡ acting → i < length items → a ≡ get_or items i a → drop i acting ≡ a ∷ drop (i + 1) acting

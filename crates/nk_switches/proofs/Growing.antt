@@ -11,8 +11,8 @@ use Rattle.nk_determ.specs.Exact.{IsExact, Sends}
 use Rattle.nk_determ.specs.Sets.{SetsGrow}
 use Rattle.nk_determ.specs.States.{StateLeads}
 use Rattle.nk_switches.specs.declared.stop.TagState.{TagState}
-use Rattle.nk_switches.specs.States.{IsStateAt, StayAt}
-use Rattle.nk_switches.specs.Tagged.{set_of, members_of}
+use Rattle.nk_switches.specs.States.{IsStateAtSwitch, StayAt}
+use Rattle.nk_switches.specs.Tagged.{set_of_tag, members_of}
 use Rattle.nk_switches.specs.Made.{IsPrintableState}
 
 -- what holds of each element holds of a member
@@ -45,7 +45,7 @@ sets_grow_on a b c g h = (g.0 ++ h.0, h.1 ∙ ap (λ l. l ++ h.0) g.1 ∙ append
 
 -- a tag whose set is there keeps it
 pub tag_set_kept : (ss more : List (List ℕ)) (tags : List ℕ) (t : ℕ) → SetsGrow ss more → All (λ s. s < length ss) tags → t < length tags →
-    set_of more tags t ≡ set_of ss tags t
+    set_of_tag more tags t ≡ set_of_tag ss tags t
 tag_set_kept ss more tags t g known lt = set_kept ss more (get_or tags t 0) g (known t 0 lt)
 
 -- and its states
@@ -76,7 +76,7 @@ module _ (st new : Held) (states members : List ℕ) (g : Grows st new) (ids : A
   before pk p = subst (λ m. InRange m pk) g.maxes p
 
   -- a state stays the state
-  pub state_grown : (ss more : List (List ℕ)) (sw d : ℕ) → SetsGrow ss more → IsStateAt st ss states members sw d → IsStateAt new more states members sw d
+  pub state_grown : (ss more : List (List ℕ)) (sw d : ℕ) → SetsGrow ss more → IsStateAtSwitch st ss states members sw d → IsStateAtSwitch new more states members sw d
   state_grown ss more sw d s k = record {
     id = g.ids d k.id;
     exact = λ pk p. subst (Every (λ o. IsExact pk o.act)) (sym (g.leaves d pk k.id)) (k.exact pk (before pk p));

@@ -15,7 +15,7 @@ use Rattle.nk_determ.specs.Sets.{Differ, Ascend}
 use Rattle.nk_determ.specs.States.{StateLeads, IsLedTo}
 use Rattle.nk_determ.proofs.Laws.{exact_one}
 use Rattle.nk_extract.specs.RowsOf.{IsPrintable}
-use Rattle.nk_switches.specs.States.{IsStateAt, StayAt}
+use Rattle.nk_switches.specs.States.{IsStateAtSwitch, StayAt}
 use Rattle.nk_switches.proofs.Exacting.{Misses, applied_set, changes_there, keeping_misses, exact_stays}
 
 -- a list that isn't empty has a member
@@ -36,7 +36,7 @@ set_back : (pk : List ℕ) (f v : ℕ) → slice_set (slice_set pk f v) f (slice
 set_back pk f v = set-set pk f v (slice_index pk f) ∙ set-get_or pk f 0
 
 module _ (st : Held) (ss : List (List ℕ)) (states members : List ℕ) (tag sw d : ℕ) (past : 2 ≤ tag) (tidy : AreTidy st) (differ : Differ ss) (ascend : Ascend ss)
-    (state : IsStateAt st ss states members sw d) (stay : StayAt st tag sw states members) where
+    (state : IsStateAtSwitch st ss states members sw d) (stay : StayAt st tag sw states members) where
   -- at a packet of the switch some state leads where the diagram sends
   leads_there : (pk y : List ℕ) (t : ℕ) → IsPacket st pk → slice_index pk 0 ≡ sw → Sends st d pk y t → (l : ℕ) × StateLeads st states members pk y l
   leads_there pk y zero p here s = (0, (state.ends pk y p here).0 s)

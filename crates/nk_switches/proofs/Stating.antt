@@ -10,9 +10,9 @@ use Rattle.nk_switches.specs.declared.stop.Stop.{Stop}
 use Rattle.nk_switches.specs.declared.stop.TagState.{TagState}
 use Rattle.nk_switches.specs.declared.stop.SwitchStates.{SwitchStates}
 use Rattle.nk_switches.specs.Matched.{Matched}
-use Rattle.nk_switches.specs.States.{IsStateAt}
+use Rattle.nk_switches.specs.States.{IsStateAtSwitch}
 use Rattle.nk_switches.specs.Tagged.{members_of}
-use Rattle.nk_switches.specs.Made.{HasPlaces, HavePlaces, IsTagState, AreStatesAt}
+use Rattle.nk_switches.specs.Made.{HasPlaces, TagsHavePlaces, IsTagState, AreStatesAt}
 use Rattle.nk_switches.proofs.Growing.{members_kept, places_kept, state_grown}
 use Rattle.nk_switches.proofs.Matching.{matched_push, matched_weaker}
 
@@ -25,7 +25,7 @@ pub has_places : (ss more : List (List ℕ)) (tags : List ℕ) (count t : ℕ) �
 has_places ss more tags count t g known h = record { within = h.within; places = places_kept ss more tags count t g known h.within h.places }
 
 -- of each switch
-pub have_places : (ss more : List (List ℕ)) (tags : List ℕ) (count : ℕ) (s : Stop) → SetsGrow ss more → All (λ s. s < length ss) tags → HavePlaces ss count tags s → HavePlaces more count tags s
+pub have_places : (ss more : List (List ℕ)) (tags : List ℕ) (count : ℕ) (s : Stop) → SetsGrow ss more → All (λ s. s < length ss) tags → TagsHavePlaces ss count tags s → TagsHavePlaces more count tags s
 have_places ss more tags count s g known h k d lt = has_places ss more tags count (get_or s.tags k d) g known (h k d lt)
 
 -- a tag's diagram is one in a later store
@@ -35,7 +35,7 @@ tag_state_grown st new ss more states tags sw e g s ids known k = record {
   within = k.within;
   places = places_kept ss more tags (length states) e.tag s known k.within k.places;
   state =
-      subst (λ m. IsStateAt new more states m sw e.diagram) (sym (members_kept ss more tags e.tag s known k.within))
+      subst (λ m. IsStateAtSwitch new more states m sw e.diagram) (sym (members_kept ss more tags e.tag s known k.within))
       (state_grown st new states (members_of ss tags e.tag) g ids k.places ss more sw e.diagram s k.state);
 }
 
@@ -47,7 +47,7 @@ pub record AreSoFar (st : Held) (ss : List (List ℕ)) (states tags : List ℕ) 
 -- one more
 pub states_more : (st new : Held) (ss more : List (List ℕ)) (states tags : List ℕ) (sw : ℕ) (ts : List ℕ) (i t d : ℕ) (tag_states longer : List TagState) →
     Grows st new → SetsGrow ss more → AreIds st states → All (λ s. s < length ss) tags → i < length ts → t ≡ get_or ts i t →
-    longer ≡ tag_states ++ (record { tag = t; diagram = d }) ∷ [] → HasPlaces ss (length states) tags t → IsStateAt new more states (members_of ss tags t) sw d →
+    longer ≡ tag_states ++ (record { tag = t; diagram = d }) ∷ [] → HasPlaces ss (length states) tags t → IsStateAtSwitch new more states (members_of ss tags t) sw d →
     AreSoFar st ss states tags sw (take i ts) tag_states → AreSoFar new more states tags sw (take (i + 1) ts) longer
 states_more st new ss more states tags sw ts i t d tag_states longer g s ids known lt at is has state k = record {
   tags_are =
@@ -63,7 +63,7 @@ states_more st new ss more states tags sw ts i t d tag_states longer g s ids kno
       (record {
         within = has.within;
         places = places_kept ss more tags (length states) t s known has.within has.places;
-        state = subst (λ m. IsStateAt new more states m sw d) (sym (members_kept ss more tags t s known has.within)) state;
+        state = subst (λ m. IsStateAtSwitch new more states m sw d) (sym (members_kept ss more tags t s known has.within)) state;
       }));
 }
 

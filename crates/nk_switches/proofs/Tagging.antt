@@ -4,8 +4,8 @@ use Rattle.std.specs.Prelude.{slice_index, Contains, All}
 use Rattle.nk_store.specs.Held.{Held, IsPacket}
 use Rattle.nk_determ.specs.Exact.{Sends}
 use Rattle.nk_determ.specs.Sets.{Differ, Ascend, SetsGrow}
-use Rattle.nk_switches.specs.States.{IsStateAt}
-use Rattle.nk_switches.specs.Tagged.{set_of, LeadsWith, SendsBy, IsTagTable, AreOnce}
+use Rattle.nk_switches.specs.States.{IsStateAtSwitch}
+use Rattle.nk_switches.specs.Tagged.{set_of_tag, LeadsWith, SendsBy, IsTagTable, AreOnce}
 use Rattle.nk_switches.proofs.Growing.{tag_set_kept}
 use Rattle.nk_switches.proofs.Printing.{some_member, one_set}
 
@@ -19,9 +19,9 @@ once_kept ss more tags g known once i j a b some e = once i j a b (λ none. some
 
 module _ (st : Held) (first ss : List (List ℕ)) (states tags members : List ℕ) (sw d : ℕ) (table : List (Option ℕ)) (differ : Differ ss) (ascend : Ascend ss)
     (grew : SetsGrow first ss) (known : All (λ s. s < length first) tags) (more : length first ≤ length ss)
-    (is : IsTagTable (length tags) ss tags table) (state : IsStateAt st ss states members sw d) where
+    (is : IsTagTable (length tags) ss tags table) (state : IsStateAtSwitch st ss states members sw d) where
   -- a tag's set is the one of the beginning
-  same_set : (i : ℕ) → i < length tags → get_or ss (get_or tags i 0) [] ≡ set_of first tags i
+  same_set : (i : ℕ) → i < length tags → get_or ss (get_or tags i 0) [] ≡ set_of_tag first tags i
   same_set i lt = tag_set_kept first ss tags i grew known lt
 
   -- where the table sends is where the states lead with a tag
@@ -44,7 +44,7 @@ module _ (st : Held) (first ss : List (List ℕ)) (states tags members : List �
   leads_sends pk y zero p here h = (0, (state.ends pk y p here).1 h, is.zero_is)
   leads_sends pk y (suc t) p here h =
       let same = same_set t h.0 in
-      let m = some_member (set_of first tags t) h.1 in
+      let m = some_member (set_of_tag first tags t) h.1 in
       let q = (h.2 m.0).0 m.1 in
       let i = state.led pk y m.0 p here q.0 q.1 in
       let l = state.leads pk y i.0 p here i.1 in

@@ -13,7 +13,7 @@ use Rattle.nk_switches.specs.declared.stop.ClassStop.{ClassStop}
 use Rattle.nk_switches.specs.declared.stop.SwitchStates.{SwitchStates}
 use Rattle.nk_switches.specs.declared.stop.TagState.{TagState}
 use Rattle.nk_switches.specs.Matched.{Matched}
-use Rattle.nk_switches.specs.States.{IsStateAt}
+use Rattle.nk_switches.specs.States.{IsStateAtSwitch}
 use Rattle.nk_switches.specs.Tagged.{members_of, LeadsWith}
 use Rattle.nk_switches.specs.Made.{TagTree, rows_of_trees, IsTagAt, HasPlaces}
 
@@ -32,9 +32,9 @@ abbrev pub LeadsTo : Held → List (List ℕ) → List ℕ → List ℕ → List
 LeadsTo st ss states tags classes members pk y c = (t : ℕ) × LeadsWith st ss states tags members pk y t × (c ≡ class_of classes t)
 
 -- the number of a target's tag, if it has one
-abbrev pub numbered : List ℕ → Option ℕ → Option ℕ
-numbered classes None = None
-numbered classes (Some t) = Some (class_of classes t)
+abbrev pub numbered_target : List ℕ → Option ℕ → Option ℕ
+numbered_target classes None = None
+numbered_target classes (Some t) = Some (class_of classes t)
 
 -- a target's tag, if it has one, is 0 or one of so many others
 abbrev pub IsTagWithin : ℕ → Option ℕ → Type 0
@@ -95,11 +95,11 @@ pub record IsInFront (st : Held) (tag : ℕ) (a : ActingTag) (e rest d : ℕ) : 
 
 -- the diagram does at each packet of the switch what the states of the tag that acts there do
 abbrev pub IsActingState : Held → List (List ℕ) → List ℕ → List ℕ → ℕ → ℕ → List ActingTag → ℕ → ℕ → Type 0
-IsActingState st ss states tags tag sw [] other d = HasPlaces ss (length states) tags other × IsStateAt st ss states (members_of ss tags other) sw d
+IsActingState st ss states tags tag sw [] other d = HasPlaces ss (length states) tags other × IsStateAtSwitch st ss states (members_of ss tags other) sw d
 IsActingState st ss states tags tag sw (a ∷ more) other d =
     (e : ℕ) × (rest : ℕ)
     × HasPlaces ss (length states) tags a.tag
-    × IsStateAt st ss states (members_of ss tags a.tag) sw e
+    × IsStateAtSwitch st ss states (members_of ss tags a.tag) sw e
     × IsActingState st ss states tags tag sw more other rest
     × IsInFront st tag a e rest d
 

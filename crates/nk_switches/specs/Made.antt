@@ -14,7 +14,7 @@ use Rattle.nk_switches.specs.declared.stop.Stop.{Stop}
 use Rattle.nk_switches.specs.declared.stop.TagState.{TagState}
 use Rattle.nk_switches.specs.declared.stop.SwitchStates.{SwitchStates}
 use Rattle.nk_switches.specs.Matched.{Matched}
-use Rattle.nk_switches.specs.States.{IsStateAt, StayAt}
+use Rattle.nk_switches.specs.States.{IsStateAtSwitch, StayAt}
 use Rattle.nk_switches.specs.Tagged.{members_of, LeadsWith, SendsBy}
 
 -- a tag beside its tree
@@ -42,8 +42,8 @@ pub record HasPlaces (ss : List (List ℕ)) (count : ℕ) (tags : List ℕ) (t :
   pub places : All (λ l. l < count) (members_of ss tags t)
 
 -- so are those of a switch's tags
-abbrev pub HavePlaces : List (List ℕ) → ℕ → List ℕ → Stop → Type 0
-HavePlaces ss count tags s = All (HasPlaces ss count tags) s.tags
+abbrev pub TagsHavePlaces : List (List ℕ) → ℕ → List ℕ → Stop → Type 0
+TagsHavePlaces ss count tags s = All (HasPlaces ss count tags) s.tags
 
 -- the reduced tree of the bucket lists of where a tag's states lead at the packets of a switch
 pub record IsTagTree (st : Held) (ss : List (List ℕ)) (states tags : List ℕ) (tag sw : ℕ) (e : TagTree) : Type 0 where
@@ -65,7 +65,7 @@ pub record IsTableAt (st : Held) (ss : List (List ℕ)) (diagrams tags : List �
 pub record IsTagState (st : Held) (ss : List (List ℕ)) (states tags : List ℕ) (sw : ℕ) (e : TagState) : Type 0 where
   pub within : e.tag ≤ length tags
   pub places : All (λ l. l < length states) (members_of ss tags e.tag)
-  pub state : IsStateAt st ss states (members_of ss tags e.tag) sw e.diagram
+  pub state : IsStateAtSwitch st ss states (members_of ss tags e.tag) sw e.diagram
 
 -- the diagrams of a switch's tags
 pub record AreStatesAt (st : Held) (ss : List (List ℕ)) (states tags : List ℕ) (s : Stop) (tag_states : SwitchStates) : Type 0 where

@@ -6,7 +6,7 @@ use Rattle.nk_determ.specs.States.{StateLeads, IsLedTo}
 
 -- The diagram of these states at the packets of a switch: to target 0 it sends where one of them does, and what they send to
 -- labels it sends once, to 1 + the number of the set of all these labels.
-pub record IsStateAt (st : Held) (ss : List (List ℕ)) (states members : List ℕ) (sw d : ℕ) : Type 0 where
+pub record IsStateAtSwitch (st : Held) (ss : List (List ℕ)) (states members : List ℕ) (sw d : ℕ) : Type 0 where
   pub id : IsId st d
   pub exact : AreExact st d
   pub ends : (pk y : List ℕ) → IsPacket st pk → slice_index pk 0 ≡ sw → Sends st d pk y 0 ↔ StateLeads st states members pk y 0

@@ -1,13 +1,12 @@
 //! The diagrams of the classes of all switches.
-ghost use Rattle.std.specs.Prelude.{◌≡◌, ◌<◌, ℕ, List as Items, cond, All, IfOk, length, slice_set};
-ghost use Rattle.nk_store.specs.Held.{IsId, IsWhole, Grows, HasLeaves, look};
+ghost use Rattle.std.specs.Prelude.{◌<◌, ℕ, cond, All, IfOk, length};
+ghost use Rattle.nk_store.specs.Held.{IsId, Grows, HasLeaves, look};
 ghost use Rattle.nk_algebra.specs.PacketSets.{is_in};
 ghost use Rattle.nk_algebra.specs.Unions.{AreIds};
 ghost use Rattle.nk_determ.specs.Sets.{SetsGrow};
 ghost use Rattle.nk_switches.specs.Matched.{Matched};
-ghost use Rattle.nk_switches.specs.States.{IsStateAt};
+ghost use Rattle.nk_switches.specs.States.{IsStateAtSwitch};
 ghost use Rattle.nk_switches.specs.Tagged.{members_of};
-ghost use Rattle.nk_switches.specs.Made.{HasPlaces};
 ghost use Rattle.nk_switches.specs.Classed.{HaveActing, HaveClasses, IsActingTag, IsInFront, IsActingState, AreClassStates};
 
 use crate::stop::{ActingTag, ClassHere, ClassStop, SwitchStates, TagState};
@@ -50,7 +49,7 @@ fn in_front(
     requires field { tag < 18 }
     ensures grows { Grows st.old st.new }
     ensures sets { SetsGrow ss.old ss.new }
-    ensures front { IfOk result (λ d. (e : ℕ) × IsStateAt st.new ss.new states.now (members_of ss.old tags.now a.tag) sw e × IsInFront st.new tag a e rest d) }
+    ensures front { IfOk result (λ d. (e : ℕ) × IsStateAtSwitch st.new ss.new states.now (members_of ss.old tags.now a.tag) sw e × IsInFront st.new tag a e rest d) }
 {
     let e = tag_state(st, ss, states, tags, sw, a.tag)?;
     let here = restrict(st, a.packets, tag, 0)?;

@@ -1,10 +1,10 @@
 //! States cut to one switch.
 ghost use Rattle.std.specs.Prelude.{◌≡◌, ◌<◌, All, IfOk, length, slice_index, slice_set};
-ghost use Rattle.nk_store.specs.Held.{IsId, Grows, look};
+ghost use Rattle.nk_store.specs.Held.{Grows, look};
 ghost use Rattle.nk_algebra.specs.Unions.{AreIds};
 ghost use Rattle.nk_determ.specs.Sets.{SetsGrow};
 ghost use Rattle.nk_determ.specs.States.{HaveEach};
-ghost use Rattle.nk_switches.specs.States.{IsStateAt};
+ghost use Rattle.nk_switches.specs.States.{IsStateAtSwitch};
 
 use nk_algebra::restrict;
 use nk_determ::{Sets, state_of};
@@ -25,7 +25,7 @@ pub fn state_at(
     requires places { All (λ l. l < length states.now) members.now }
     ensures grows { Grows st.old st.new }
     ensures sets { SetsGrow ss.old ss.new }
-    ensures state { IfOk result (λ d. IsStateAt st.new ss.new states.now members.now sw d) }
+    ensures state { IfOk result (λ d. IsStateAtSwitch st.new ss.new states.now members.now sw d) }
 {
     let cut = cut_states(st, states, members, sw)?;
     let d = state_of(st, ss, cut.as_slice())?;

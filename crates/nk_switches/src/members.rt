@@ -1,5 +1,5 @@
 //! The states that a tag stands for, and the tags of targets.
-ghost use Rattle.std.specs.Prelude.{◌≡◌, ℕ, ◌+◌, ◌<◌, ◌≤◌, None, List as Items, [], ◌∷◌, All, IfOk, OnOk, length, map, slice_index, slice_index_or, slice_set};
+ghost use Rattle.std.specs.Prelude.{◌≡◌, ℕ, ◌+◌, ◌<◌, ◌≤◌, None, [], ◌∷◌, All, IfOk, length, map, slice_index_or};
 ghost use Rattle.nk_switches.specs.Tagged.{members_of, IsTagTable, AreOnce};
 
 use nk_determ::{SetId, Sets};

@@ -1,6 +1,5 @@
 //! The tables of all switches.
 ghost use Rattle.std.specs.Prelude.{◌≡◌, ℕ, ◌<◌, Some, All, IfOk, length};
-ghost use Rattle.nk_store.specs.Held.{Grows};
 ghost use Rattle.nk_algebra.specs.Unions.{AreIds};
 ghost use Rattle.nk_extract.specs.RowsOf.{IsFrame};
 ghost use Rattle.nk_switches.specs.Matched.{Matched};

@@ -4,9 +4,9 @@ ghost use Rattle.nk_store.specs.Held.{Grows};
 ghost use Rattle.nk_algebra.specs.Unions.{AreIds};
 ghost use Rattle.nk_determ.specs.Sets.{SetsGrow};
 ghost use Rattle.nk_switches.specs.Matched.{Matched};
-ghost use Rattle.nk_switches.specs.States.{IsStateAt};
+ghost use Rattle.nk_switches.specs.States.{IsStateAtSwitch};
 ghost use Rattle.nk_switches.specs.Tagged.{members_of};
-ghost use Rattle.nk_switches.specs.Made.{AreStatesAt, HavePlaces};
+ghost use Rattle.nk_switches.specs.Made.{AreStatesAt, TagsHavePlaces};
 
 use crate::at_switch::state_at;
 use crate::members::members;
@@ -31,7 +31,7 @@ pub fn tag_state(
     requires places { All (λ l. l < length states.now) (members_of ss.old tags.now tag) }
     ensures grows { Grows st.old st.new }
     ensures sets { SetsGrow ss.old ss.new }
-    ensures state { IfOk result (λ d. IsStateAt st.new ss.new states.now (members_of ss.old tags.now tag) sw d) }
+    ensures state { IfOk result (λ d. IsStateAtSwitch st.new ss.new states.now (members_of ss.old tags.now tag) sw d) }
 {
     let places = members(st.alloc(), ss, tags, states.len(), tag)?;
     let d = state_at(st, ss, states, places.as_slice(), sw)?;
@@ -48,7 +48,7 @@ fn switch_states(
 ) -> Result<SwitchStates, AllocError>
     requires states { AreIds st.old states.now }
     requires known { All (λ s. s < length ss.old) tags.now }
-    requires places { HavePlaces ss.old (length states.now) tags.now stop.now }
+    requires places { TagsHavePlaces ss.old (length states.now) tags.now stop.now }
     ensures grows { Grows st.old st.new }
     ensures sets { SetsGrow ss.old ss.new }
     ensures tag_states { IfOk result (AreStatesAt st.new ss.new states.now tags.now stop.now) }
@@ -74,7 +74,7 @@ pub fn all_states(
 ) -> Result<List<SwitchStates>, AllocError>
     requires states { AreIds st.old states.now }
     requires known { All (λ s. s < length ss.old) tags.now }
-    requires places { All (HavePlaces ss.old (length states.now) tags.now) stops.now }
+    requires places { All (TagsHavePlaces ss.old (length states.now) tags.now) stops.now }
     ensures grows { Grows st.old st.new }
     ensures sets { SetsGrow ss.old ss.new }
     ensures tag_states { IfOk result (Matched (AreStatesAt st.new ss.new states.now tags.now) stops.now) }

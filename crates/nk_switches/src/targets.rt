@@ -1,6 +1,6 @@
 //! The numbers of targets, where tags share those of their classes.
-ghost use Rattle.std.specs.Prelude.{◌≡◌, ℕ, ◌≤◌, Some, All, IfOk, length, map};
-ghost use Rattle.nk_switches.specs.Classed.{class_of, numbered, IsTagWithin};
+ghost use Rattle.std.specs.Prelude.{◌≡◌, ◌≤◌, Some, All, IfOk, length, map};
+ghost use Rattle.nk_switches.specs.Classed.{class_of, numbered_target, IsTagWithin};
 
 use nk_field::List;
 use std::alloc::{AllocError, Global};
@@ -12,7 +12,7 @@ pub fn class_targets(
     classes: &[u64],
 ) -> Result<List<Option<u64>>, AllocError>
     requires within { All (IsTagWithin (length classes.now)) table.now }
-    ensures { IfOk result (λ r. r ≡ map (numbered classes.now) table.now) }
+    ensures { IfOk result (λ r. r ≡ map (numbered_target classes.now) table.now) }
 {
     let mut numbers = List::new(alloc);
     for tag in table {
@@ -24,7 +24,7 @@ pub fn class_targets(
 /// The number of a tag's class, if there is a tag.
 fn number_of(classes: &[u64], tag: Option<u64>) -> Option<u64>
     requires within { IsTagWithin (length classes.now) tag }
-    ensures { result ≡ numbered classes.now tag }
+    ensures { result ≡ numbered_target classes.now tag }
 {
     match tag {
         None => None,

@@ -26,13 +26,13 @@ use Rattle.nk_tabgrammar.specs.declared.stage.Declaring.TheVariants as declaring
 use Rattle.nk_tabgrammar.specs.declared.stage.Grouping.TheVariants as grouping
 use Rattle.nk_tabgrammar.specs.declared.stage.InRow.TheVariants as in_row
 use Rattle.nk_tabgrammar.specs.Terminal.{Terminal, name, number, mark}
-use Rattle.nk_tabgrammar.specs.Spelling.{GoesOn}
+use Rattle.nk_tabgrammar.specs.Spelling.{TableTextGoesOn}
 use Rattle.nk_tabgrammar.specs.Machine.{Reading, reading, opened, opened_table, no_number, with_declaration, with_row, with_match, row_written, bucket_done, next_reading, text_ended}
 use Rattle.nk_tabgrammar.proofs.Spelled.{Fits, IsAt, Leads, leads, ends, spelled}
 
 -- a state that can be completed
 abbrev Completes : Reading → Type 0
-Completes r = Fits r.stage r.text r.table → GoesOn (spelled r.stage r.text r.table)
+Completes r = Fits r.stage r.text r.table → TableTextGoesOn (spelled r.stage r.text r.table)
 
 -- one that may end
 ended : (s : Stage) (x : WrittenTables) (c : WrittenTable) (y : WrittenTables) → text_ended s x c ≡ Some y → Completes (reading s x c)

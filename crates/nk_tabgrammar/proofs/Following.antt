@@ -29,7 +29,7 @@ use Rattle.nk_tabgrammar.specs.declared.stage.Grouping.TheVariants as grouping
 use Rattle.nk_tabgrammar.specs.declared.stage.InRow.TheVariants as in_row
 use Rattle.nk_tabgrammar.specs.Terminal.{Terminal, name, number, mark, is_mark, terminal_from, terminal_of, with_name, with_number}
 use Rattle.nk_tabgrammar.specs.Machine.{Reading, begin, begin_group, begin_match, begin_row, begin_target, bucket_done, bucket_on, link_on, next_reading, place_step, quad_step, read_one, text_ended, written_at_end}
-use Rattle.nk_tabgrammar.specs.States.{MaybeStep, after, after_in, after_link, at_end, bucket_state, in_bucket, is_kind, link_state, or_else, state_of, step_if}
+use Rattle.nk_tabgrammar.specs.States.{MaybeStep, after_token, after_in, after_link, at_end, bucket_state, in_bucket, is_kind, link_state, or_else, state_of_stage, step_if}
 use Rattle.nk_tabgrammar.specs.States as states
 
 -- a token is a name, a number, or a mark of another kind
@@ -80,7 +80,7 @@ by_kind P w n m t = by t.kind t.line t.value t.text
 
 -- what the machine comes to has the state that a step has
 abbrev Leads : Option Reading → MaybeStep → Type 0
-Leads o s = option_map (λ r. state_of r.stage) o ≡ option_map (λ p. p.0) s
+Leads o s = option_map (λ r. state_of_stage r.stage) o ≡ option_map (λ p. p.0) s
 
 -- a token of a kind, a name or a number may come
 module _ {A B : Type 0} (g : A → Option Reading) (h : B → MaybeStep) (t : Token) where
@@ -186,7 +186,7 @@ link_follows x c (quad.ToColon a m b) t = number_only (link_on x c) t _ _ _ _ (�
 -- a bucket
 module _ (x : WrittenTables) (c : WrittenTable) (o : Owner) (at : BucketState → State) (whole : State) (e : Tells) (t : Token)
     (is : (p : Place) → in_bucket o (bucket_state p) ≡ at (bucket_state p))
-    (ends : (b : WrittenBucket) → state_of (bucket_done x c o b).stage ≡ whole) where
+    (ends : (b : WrittenBucket) → state_of_stage (bucket_done x c o b).stage ≡ whole) where
   abbrev into : Option (BucketState × Tells) → MaybeStep
   into p = option_map (λ p. (at p.0, p.1)) p
 
@@ -204,14 +204,14 @@ module _ (x : WrittenTables) (c : WrittenTable) (o : Owner) (at : BucketState �
   bucket_follows (place.Left ps w) = mark_or (bucket_on x c o) t kind.CloseBracket refl refl _ _ _ _ None (ap Some (ends _)) refl
 
 owned_follows : (x : WrittenTables) (c : WrittenTable) (o : Owner) (p : Place) (t : Token)
-    → Leads (bucket_on x c o (place_step p (terminal_of t))) (after (in_bucket o (bucket_state p)) t.kind)
+    → Leads (bucket_on x c o (place_step p (terminal_of t))) (after_token (in_bucket o (bucket_state p)) t.kind)
 owned_follows x c (owner.First n) p t = bucket_follows x c (owner.First n) state.InGroup state.BucketRead tells.GroupBucket t (λ p. refl) (λ b. refl) p
 owned_follows x c (owner.Next g) p t = bucket_follows x c (owner.Next g) state.InGroup state.BucketRead tells.GroupBucket t (λ p. refl) (λ b. refl) p
 owned_follows x c (owner.Row n ms) p t = bucket_follows x c (owner.Row n ms) state.InRow state.Rows tells.RowBucket t (λ p. refl) (λ b. refl) p
 
 -- one more token
 stage_follows : (s : Stage) (x : WrittenTables) (c : WrittenTable) (t : Token)
-    → Leads (next_reading s x c (terminal_of t)) (after (state_of s) t.kind)
+    → Leads (next_reading s x c (terminal_of t)) (after_token (state_of_stage s) t.kind)
 stage_follows stage.Start x c t = mark_only same t kind.Tables refl refl _ _ _ _ refl refl
 stage_follows stage.Version x c t = number_only same t _ _ _ _ (λ n. refl) refl
 stage_follows stage.Between x c t = begins x c tells.Nothing t
@@ -246,7 +246,7 @@ stage_follows (stage.InRow (in_row.Target p ms)) x c t = target_begins x c p ms 
 stage_follows (stage.InRow (in_row.TargetGroup p ms)) x c t = number_only same t _ _ _ _ (λ n. refl) refl
 
 -- the end
-end_follows : (s : Stage) (x : WrittenTables) (c : WrittenTable) → is_some (text_ended s x c) ≡ is_some (at_end (state_of s))
+end_follows : (s : Stage) (x : WrittenTables) (c : WrittenTable) → is_some (text_ended s x c) ≡ is_some (at_end (state_of_stage s))
 end_follows stage.Start x c = refl
 end_follows stage.Version x c = refl
 end_follows stage.Between x c = refl
@@ -281,6 +281,6 @@ end_follows (stage.InRow (in_row.TargetGroup p ms)) x c = refl
 
 -- the states are the stages
 pub follows : (r : Reading)
-    → ((t : Token) → option_map (λ s. state_of s.stage) (read_one r (terminal_of t)) ≡ option_map (λ p. p.0) (after (state_of r.stage) t.kind))
-    × (is_some (written_at_end r) ≡ is_some (at_end (state_of r.stage)))
+    → ((t : Token) → option_map (λ s. state_of_stage s.stage) (read_one r (terminal_of t)) ≡ option_map (λ p. p.0) (after_token (state_of_stage r.stage) t.kind))
+    × (is_some (written_at_end r) ≡ is_some (at_end (state_of_stage r.stage)))
 follows r = (stage_follows r.stage r.text r.table, end_follows r.stage r.text r.table)

@@ -5,7 +5,7 @@ use Rattle.std.proofs.lemmas.Bool.Decides.{eqb_tells}
 use Rattle.std.proofs.Common.{⊎_elim}
 use Rattle.nk_lex.specs.declared.kind.Kind.{Kind}
 use Rattle.nk_lex.specs.declared.kind.Kind.TheVariants as kind
-use Rattle.nk_tabgrammar.specs.Terminal.{Terminal, name, number, mark, place_of, is_mark}
+use Rattle.nk_tabgrammar.specs.Terminal.{Terminal, name, number, mark, kind_place, is_mark}
 
 -- the kind at a place
 abbrev kind_at : ℕ → Kind
@@ -50,7 +50,7 @@ kind_at n =
     else kind.CloseBracket
 
 -- is the kind that has it
-kind_there : (k : Kind) → kind_at (place_of k) ≡ k
+kind_there : (k : Kind) → kind_at (kind_place k) ≡ k
 kind_there kind.Name = refl
 kind_there kind.Number = refl
 kind_there kind.Field = refl
@@ -91,7 +91,7 @@ kind_there kind.OpenBracket = refl
 kind_there kind.CloseBracket = refl
 
 -- kinds of one place are one
-same_kind : (k l : Kind) → place_of k ≡ place_of l → k ≡ l
+same_kind : (k l : Kind) → kind_place k ≡ kind_place l → k ≡ l
 same_kind k l e = sym (kind_there k) ∙ ap kind_at e ∙ kind_there l
 
 -- equal numbers, by their test
@@ -103,6 +103,6 @@ same_number m n e = ⊎_elim (λ s. s.1) (λ s. absurd (differ (sym e ∙ s.0)))
 
 -- what passes the test for a kind is a token of it
 pub mark_is : (k : Kind) (t : Terminal) → is_mark k t ≡ true → t ≡ mark k
-mark_is k (mark l) e = ap mark (sym (same_kind k l (same_number (place_of k) (place_of l) e)))
+mark_is k (mark l) e = ap mark (sym (same_kind k l (same_number (kind_place k) (kind_place l) e)))
 mark_is k (name w) e = absurd cc
 mark_is k (number n) e = absurd cc

@@ -31,8 +31,8 @@ use Rattle.nk_tabgrammar.specs.Terminal.{Terminal, name, number, mark, terminal_
 use Rattle.nk_tabgrammar.specs.Spelling.{spell_port, spell_declaration, spell_length, spell_match, spell_set, spell_bucket, spell_target, spell_row, spell_group, spell_table, spell_text, way_token}
 use Rattle.nk_tabgrammar.specs.Machine.{Reading, read_all, read_one, first_reading, written_at_end}
 use Rattle.nk_tabgrammar.specs.Answer.{terminals, IsAnswer}
-use Rattle.nk_tabgrammar.specs.States.{MaybeStep, after, after_in, at_end, state_of}
-use Rattle.nk_tabgrammar.specs.Telling.{Telling, alone, by_number, told_by, told_bucket, told_declaration, told_group, told_length, told_match, told_row, told_set, told_table, told_target, told_text, told_way, worded, tellings_from, tellings_of}
+use Rattle.nk_tabgrammar.specs.States.{MaybeStep, after_token, after_in, at_end, state_of_stage}
+use Rattle.nk_tabgrammar.specs.Telling.{Telling, told_alone, told_by_number, told_by, told_bucket, told_declaration, told_group, told_length, told_match, told_row, told_set, told_table, told_target, told_text, told_way, worded, tellings_from, tellings_of}
 use Rattle.nk_tabgrammar.proofs.Answering.{answers, rest_reads}
 use Rattle.nk_tabgrammar.proofs.Following.{by_kind, follows}
 use Rattle.nk_tabgrammar.proofs.Spelled.{none_some, some_same}
@@ -50,11 +50,11 @@ kind_of t = by_kind (λ k t. kind_in t ≡ k) (λ w. refl) (λ n. refl) (λ k _ 
 
 abbrev tell_from : List Terminal → State → Option (List Telling)
 tell_from [] s = option_map (λ e. told_by e None) (at_end s)
-tell_from (t ∷ ts) s = option_and_then (λ p. option_map (λ l. told_by p.1 (worded t) ++ l) (tell_from ts p.0)) (after s (kind_in t))
+tell_from (t ∷ ts) s = option_and_then (λ p. option_map (λ l. told_by p.1 (worded t) ++ l) (tell_from ts p.0)) (after_token s (kind_in t))
 
 same_tellings : (ts : List Token) (s : State) → tellings_from ts s ≡ tell_from (terminals ts) s
 same_tellings [] s = refl
-same_tellings (t ∷ ts) s = by_step (after s t.kind) (λ r. same_tellings ts r) ∙ ap (λ k. option_and_then go_on (after s k)) (sym (kind_of t))
+same_tellings (t ∷ ts) s = by_step (after_token s t.kind) (λ r. same_tellings ts r) ∙ ap (λ k. option_and_then go_on (after_token s k)) (sym (kind_of t))
   where
     go_on : State × Tells → Option (List Telling)
     go_on p = option_map (λ l. told_by p.1 (worded (terminal_of t)) ++ l) (tell_from (terminals ts) p.0)
@@ -83,7 +83,7 @@ nothing s = record { go = λ vs. none_before (tell_from vs s) }
 
 -- one token, then others
 next : (t : Terminal) {s : State} (r : State) (e : Tells) {q : State} {us : List Terminal} {l : List Telling}
-    → after s (kind_in t) ≡ Some (r, e) → Leads us l r q → Leads (t ∷ us) (told_by e (worded t) ++ l) s q
+    → after_token s (kind_in t) ≡ Some (r, e) → Leads us l r q → Leads (t ∷ us) (told_by e (worded t) ++ l) s q
 next t {s} r e {q} {us} {l} h more = record {
   go = λ vs.
       ap (option_and_then (λ p. option_map (λ m. told_by p.1 (worded t) ++ m) (tell_from (us ++ vs) p.0))) h
@@ -108,24 +108,24 @@ each f g s one (x ∷ xs) = behind (one x) (each f g s one xs)
 -- ---- buckets
 
 module _ (at : BucketState → State) (whole : State) (ends : Tells)
-    (is : (b : BucketState) (k : Kind) → after (at b) k ≡ after_in at whole ends b k)
-    (told : told_by ends None ≡ alone ends ∷ []) where
+    (is : (b : BucketState) (k : Kind) → after_token (at b) k ≡ after_in at whole ends b k)
+    (told : told_by ends None ≡ told_alone ends ∷ []) where
   set_tells : (p : Pair) → Leads (spell_set p) (told_set p) (at bucket.Sets) (at bucket.Sets)
   set_tells p =
       next (name p.name) (at bucket.Named) tells.SetName (is bucket.Sets kind.Name)
       (next (mark kind.Assign) (at bucket.Assigned) tells.Nothing (is bucket.Named kind.Assign)
       (next (number p.number) (at bucket.Sets) tells.SetValue (is bucket.Assigned kind.Number) (nothing (at bucket.Sets))))
 
-  bracket_tells : Leads (mark kind.CloseBracket ∷ []) (alone ends ∷ []) (at bucket.Left) whole
+  bracket_tells : Leads (mark kind.CloseBracket ∷ []) (told_alone ends ∷ []) (at bucket.Left) whole
   bracket_tells =
       subst (λ l. Leads (mark kind.CloseBracket ∷ []) (l ++ []) (at bucket.Left) whole) told
       (next (mark kind.CloseBracket) whole ends (is bucket.Left kind.CloseBracket) (nothing whole))
 
-  way_tells : (w : Way) → Leads (way_token w ∷ mark kind.CloseBracket ∷ []) (told_way w ∷ alone ends ∷ []) (at bucket.Out) whole
+  way_tells : (w : Way) → Leads (way_token w ∷ mark kind.CloseBracket ∷ []) (told_way w ∷ told_alone ends ∷ []) (at bucket.Out) whole
   way_tells way.Back = next (mark kind.In) (at bucket.Left) tells.OutBack (is bucket.Out kind.In) bracket_tells
   way_tells (way.Port n) = next (number n) (at bucket.Left) tells.OutPort (is bucket.Out kind.Number) bracket_tells
 
-  bucket_tells : (s : State) → after s kind.OpenBracket ≡ Some (at bucket.Sets, tells.Nothing)
+  bucket_tells : (s : State) → after_token s kind.OpenBracket ≡ Some (at bucket.Sets, tells.Nothing)
       → (b : WrittenBucket) → Leads (spell_bucket b) (told_bucket ends b) s whole
   bucket_tells s h b =
       next (mark kind.OpenBracket) (at bucket.Sets) tells.Nothing h
@@ -136,7 +136,7 @@ module _ (at : BucketState → State) (whole : State) (ends : Tells)
 
 -- matches and the arrow, then a target
 matches_tell : (ms : List WrittenMatch) (s : State) {us : List Terminal} {l : List Telling}
-    → after s kind.Name ≡ Some (state.Row row.Named, tells.MatchName) → after s kind.Arrow ≡ Some (state.Row row.Target, tells.Nothing)
+    → after_token s kind.Name ≡ Some (state.Row row.Named, tells.MatchName) → after_token s kind.Arrow ≡ Some (state.Row row.Target, tells.Nothing)
     → Leads us l (state.Row row.Target) state.Rows
     → Leads (flat_map spell_match ms ++ mark kind.Arrow ∷ us) (flat_map told_match ms ++ l) s state.Rows
 matches_tell [] s named arrow more = next (mark kind.Arrow) (state.Row row.Target) tells.Nothing arrow more
@@ -172,7 +172,7 @@ row_tells r =
 
 -- a group's number and its buckets
 abbrev group_front : WrittenGroup → List Telling
-group_front g = by_number tells.Group g.number ∷ (told_bucket tells.GroupBucket g.first ++ flat_map (told_bucket tells.GroupBucket) g.more)
+group_front g = told_by_number tells.Group g.number ∷ (told_bucket tells.GroupBucket g.first ++ flat_map (told_bucket tells.GroupBucket) g.more)
 
 group_tells : (g : WrittenGroup) → Leads (spell_group g) (group_front g) state.Groups state.BucketRead
 group_tells g =
@@ -182,7 +182,7 @@ group_tells g =
     (behind (in_group state.FirstBucket refl g.first)
     (each spell_bucket (told_bucket tells.GroupBucket) state.BucketRead (in_group state.BucketRead refl) g.more))))
   where
-    in_group : (s : State) → after s kind.OpenBracket ≡ Some (state.InGroup bucket.Sets, tells.Nothing)
+    in_group : (s : State) → after_token s kind.OpenBracket ≡ Some (state.InGroup bucket.Sets, tells.Nothing)
         → (b : WrittenBucket) → Leads (spell_bucket b) (told_bucket tells.GroupBucket b) s state.BucketRead
     in_group s h b = bucket_tells state.InGroup state.BucketRead tells.GroupBucket (λ b k. refl) refl s h b
 
@@ -203,11 +203,11 @@ rows_tables rs ts = flat_map spell_row rs ++ flat_map spell_table ts
 
 group_ends : (gs : List WrittenGroup) (rs : List WrittenRow) (ts : List WrittenTable)
     → tell_from (flat_map spell_group gs ++ rows_tables rs ts) state.BucketRead
-    ≡ option_map (λ m. alone tells.GroupEnds ∷ m) (tell_from (flat_map spell_group gs ++ rows_tables rs ts) state.Groups)
+    ≡ option_map (λ m. told_alone tells.GroupEnds ∷ m) (tell_from (flat_map spell_group gs ++ rows_tables rs ts) state.Groups)
 group_ends [] [] [] = refl
-group_ends [] [] (t ∷ ts) = ended (alone tells.GroupEnds) _
-group_ends [] (r ∷ rs) ts = ended (alone tells.GroupEnds) _
-group_ends (g ∷ gs) rs ts = ended (alone tells.GroupEnds) _
+group_ends [] [] (t ∷ ts) = ended (told_alone tells.GroupEnds) _
+group_ends [] (r ∷ rs) ts = ended (told_alone tells.GroupEnds) _
+group_ends (g ∷ gs) rs ts = ended (told_alone tells.GroupEnds) _
 
 groups_tell : (gs : List WrittenGroup) (rs : List WrittenRow) (ts : List WrittenTable) (l : List Telling)
     → tell_from (rows_tables rs ts) state.Groups ≡ Some l
@@ -217,8 +217,8 @@ groups_tell (g ∷ gs) rs ts l h =
     ap (λ us. tell_from us state.Groups) (append_assoc (spell_group g) (flat_map spell_group gs) (rows_tables rs ts))
     ∙ (group_tells g).go (flat_map spell_group gs ++ rows_tables rs ts)
     ∙ ap (option_map (λ m. group_front g ++ m))
-    (group_ends gs rs ts ∙ ap (option_map (λ m. alone tells.GroupEnds ∷ m)) (groups_tell gs rs ts l h))
-    ∙ ap Some (regroup (group_front g) (alone tells.GroupEnds) (flat_map told_group gs) l)
+    (group_ends gs rs ts ∙ ap (option_map (λ m. told_alone tells.GroupEnds ∷ m)) (groups_tell gs rs ts l h))
+    ∙ ap Some (regroup (group_front g) (told_alone tells.GroupEnds) (flat_map told_group gs) l)
 
 -- where no group begins, rows may
 from_groups : (rs : List WrittenRow) (ts : List WrittenTable) → tell_from (rows_tables rs ts) state.Groups ≡ tell_from (rows_tables rs ts) state.Rows
@@ -229,7 +229,7 @@ from_groups (r ∷ rs) ts = refl
 tables_tell : (ts : List WrittenTable) → tell_from (flat_map spell_table ts) state.Rows ≡ Some (flat_map told_table ts)
 tables_tell [] = refl
 tables_tell (t ∷ ts) =
-    ap (λ o. option_map (λ l. [] ++ l) (option_map (λ l. (by_number tells.Table t.switch ∷ []) ++ l) o))
+    ap (λ o. option_map (λ l. [] ++ l) (option_map (λ l. (told_by_number tells.Table t.switch ∷ []) ++ l) o))
     (ap (λ us. tell_from us state.Groups) (append_assoc (flat_map spell_group t.groups) (flat_map spell_row t.rows) (flat_map spell_table ts))
     ∙ groups_tell t.groups t.rows ts (flat_map told_row t.rows ++ flat_map told_table ts)
     (from_groups t.rows ts ∙ (each spell_row told_row state.Rows row_tells t.rows).go (flat_map spell_table ts)
@@ -243,14 +243,14 @@ from_between (t ∷ ts) = refl
 
 -- ---- declarations
 
-ports_tell : (ps : List Number) → Leads (flat_map spell_port ps) (map (by_number tells.Port) ps) state.PortRead state.PortRead
+ports_tell : (ps : List Number) → Leads (flat_map spell_port ps) (map (told_by_number tells.Port) ps) state.PortRead state.PortRead
 ports_tell [] = nothing state.PortRead
 ports_tell (p ∷ ps) =
     next (mark kind.Comma) state.NextPort tells.Nothing refl (next (number p) state.PortRead tells.Port refl (ports_tell ps))
 
 -- a switch and its ports
 abbrev switch_front : Number → Number → List Number → List Telling
-switch_front n p ps = by_number tells.Switch n ∷ by_number tells.Port p ∷ map (by_number tells.Port) ps
+switch_front n p ps = told_by_number tells.Switch n ∷ told_by_number tells.Port p ∷ map (told_by_number tells.Port) ps
 
 switch_tells : (n p : Number) (ps : List Number) → Leads (spell_declaration (declared.Switch n p ps)) (switch_front n p ps) state.Between state.PortRead
 switch_tells n p ps =
@@ -276,13 +276,13 @@ declarations_tables ds ts = flat_map spell_declaration ds ++ flat_map spell_tabl
 
 switch_ends : (ds : List Declaration) (ts : List WrittenTable)
     → tell_from (declarations_tables ds ts) state.PortRead
-    ≡ option_map (λ m. alone tells.SwitchEnds ∷ m) (tell_from (declarations_tables ds ts) state.Between)
+    ≡ option_map (λ m. told_alone tells.SwitchEnds ∷ m) (tell_from (declarations_tables ds ts) state.Between)
 switch_ends [] [] = refl
-switch_ends [] (t ∷ ts) = ended (alone tells.SwitchEnds) _
-switch_ends (declared.Field w n ∷ ds) ts = ended (alone tells.SwitchEnds) _
-switch_ends (declared.Tag w ∷ ds) ts = ended (alone tells.SwitchEnds) _
-switch_ends (declared.Switch n p ps ∷ ds) ts = ended (alone tells.SwitchEnds) _
-switch_ends (declared.Link a m b n ∷ ds) ts = ended (alone tells.SwitchEnds) _
+switch_ends [] (t ∷ ts) = ended (told_alone tells.SwitchEnds) _
+switch_ends (declared.Field w n ∷ ds) ts = ended (told_alone tells.SwitchEnds) _
+switch_ends (declared.Tag w ∷ ds) ts = ended (told_alone tells.SwitchEnds) _
+switch_ends (declared.Switch n p ps ∷ ds) ts = ended (told_alone tells.SwitchEnds) _
+switch_ends (declared.Link a m b n ∷ ds) ts = ended (told_alone tells.SwitchEnds) _
 
 -- a declaration that is whole with its last token
 declaration_tells : (d : Declaration) (ds : List Declaration) (ts : List WrittenTable)
@@ -312,14 +312,14 @@ declarations_tell (declared.Switch n p ps ∷ ds) ts =
     ap (λ us. tell_from us state.Between) (append_assoc (spell_declaration (declared.Switch n p ps)) (flat_map spell_declaration ds) (flat_map spell_table ts))
     ∙ (switch_tells n p ps).go (declarations_tables ds ts)
     ∙ ap (option_map (λ m. switch_front n p ps ++ m))
-    (switch_ends ds ts ∙ ap (option_map (λ m. alone tells.SwitchEnds ∷ m)) (declarations_tell ds ts))
-    ∙ ap Some (regroup (switch_front n p ps) (alone tells.SwitchEnds) (flat_map told_declaration ds) (flat_map told_table ts))
+    (switch_ends ds ts ∙ ap (option_map (λ m. told_alone tells.SwitchEnds ∷ m)) (declarations_tell ds ts))
+    ∙ ap Some (regroup (switch_front n p ps) (told_alone tells.SwitchEnds) (flat_map told_declaration ds) (flat_map told_table ts))
 
 -- ---- a text
 
 text_tells : (x : WrittenTables) → tell_from (spell_text x) state.Start ≡ Some (told_text x)
 text_tells x =
-    ap (λ o. option_map (λ l. [] ++ l) (option_map (λ l. (by_number tells.Version x.version ∷ []) ++ l) o))
+    ap (λ o. option_map (λ l. [] ++ l) (option_map (λ l. (told_by_number tells.Version x.version ∷ []) ++ l) o))
     (declarations_tell x.declarations x.tables)
 
 -- tokens that spell a text tell what is written
@@ -332,7 +332,7 @@ map_some f None b e = absurd (none_some b e)
 map_some f (Some a) b e = (a, refl)
 
 -- what the states take to an end, the machine takes
-accepts : (ts : List Token) (r : Reading) (s : State) → state_of r.stage ≡ s → (l : List Telling) → tellings_from ts s ≡ Some l
+accepts : (ts : List Token) (r : Reading) (s : State) → state_of_stage r.stage ≡ s → (l : List Telling) → tellings_from ts s ≡ Some l
     → (x : WrittenTables) × (option_and_then written_at_end (read_all (terminals ts) r) ≡ Some x)
 accepts [] r s is l e = found (written_at_end r) (at_end s) ((follows r).1 ∙ ap (λ q. is_some (at_end q)) is) e
   where
@@ -342,20 +342,20 @@ accepts [] r s is l e = found (written_at_end r) (at_end s) ((follows r).1 ∙ a
     found None None a b = absurd (none_some l b)
     found None (Some q) a b = absurd cc
 accepts (t ∷ ts) r s is l e =
-    by_step (read_one r (terminal_of t)) (after s t.kind) ((follows r).0 t ∙ ap (λ q. option_map (λ p. p.0) (after q t.kind)) is) e
+    by_step (read_one r (terminal_of t)) (after_token s t.kind) ((follows r).0 t ∙ ap (λ q. option_map (λ p. p.0) (after_token q t.kind)) is) e
     (λ q u same m f. accepts ts q u same m f)
   where
-    by_step : (o : Option Reading) (q : MaybeStep) → option_map (λ r. state_of r.stage) o ≡ option_map (λ p. p.0) q
+    by_step : (o : Option Reading) (q : MaybeStep) → option_map (λ r. state_of_stage r.stage) o ≡ option_map (λ p. p.0) q
         → option_and_then (λ p. option_map (λ l. told_by p.1 (worded (terminal_of t)) ++ l) (tellings_from ts p.0)) q ≡ Some l
-        → ((r : Reading) (s : State) → state_of r.stage ≡ s → (m : List Telling) → tellings_from ts s ≡ Some m
+        → ((r : Reading) (s : State) → state_of_stage r.stage ≡ s → (m : List Telling) → tellings_from ts s ≡ Some m
         → (x : WrittenTables) × (option_and_then written_at_end (read_all (terminals ts) r) ≡ Some x))
         → (x : WrittenTables) × (option_and_then written_at_end (option_and_then (read_all (terminals ts)) o) ≡ Some x)
     by_step None None a b go = absurd (none_some l b)
     by_step None (Some p) a b go = absurd (none_some p.0 a)
-    by_step (Some r) None a b go = absurd (none_some (state_of r.stage) (sym a))
+    by_step (Some r) None a b go = absurd (none_some (state_of_stage r.stage) (sym a))
     by_step (Some r) (Some p) a b go =
         let told = map_some (λ m. told_by p.1 (worded (terminal_of t)) ++ m) (tellings_from ts p.0) l b in
-        go r p.0 (some_same (state_of r.stage) p.0 a) told.0 told.1
+        go r p.0 (some_same (state_of_stage r.stage) p.0 a) told.0 told.1
 
 -- the states take tokens to an end exactly where they spell a text, and tell what is written
 pub tells_texts : (ts : List Token) (l : List Telling)

@@ -6,7 +6,7 @@ use Rattle.nk_tabgrammar.specs.declared.written.WrittenTables.{WrittenTables}
 use Rattle.nk_tabgrammar.specs.declared.written.ReadError.{ReadError}
 use Rattle.nk_tabgrammar.specs.declared.written.ReadError.TheVariants as error
 use Rattle.nk_tabgrammar.specs.Terminal.{Terminal, terminal_of}
-use Rattle.nk_tabgrammar.specs.Spelling.{spell_text, GoesOn}
+use Rattle.nk_tabgrammar.specs.Spelling.{spell_text, TableTextGoesOn}
 use Rattle.nk_tabgrammar.specs.Machine.{written_of}
 use Rattle.nk_lex.specs.Spans.{last_line}
 
@@ -21,13 +21,13 @@ pub record IsUnexpectedToken (ts : List Token) (line : ℕ) : Type 0 where
   pub rest : List Token
   pub parts : ts ≡ before ++ token ∷ rest
   pub line_is : line ≡ token.line
-  pub goes_on : GoesOn (terminals before)
-  pub stops : GoesOn (terminals (before ++ token ∷ [])) → ⊥
+  pub goes_on : TableTextGoesOn (terminals before)
+  pub stops : TableTextGoesOn (terminals (before ++ token ∷ [])) → ⊥
 
 -- a text goes on with the tokens, and they are none
 pub record IsUnexpectedEnd (ts : List Token) (line : ℕ) : Type 0 where
   pub line_is : line ≡ last_line 1 ts
-  pub goes_on : GoesOn (terminals ts)
+  pub goes_on : TableTextGoesOn (terminals ts)
   pub no_text : (x : WrittenTables) → terminals ts ≡ spell_text x → ⊥
 
 -- what is written, or the first fault
@@ -37,13 +37,13 @@ IsAnswer ts (Err (error.Unexpected line)) = IsUnexpectedToken ts line ⊎ IsUnex
 IsAnswer ts (Err e) = ⊥
 
 -- what reading answers is that
-abbrev pub AnswersTexts : Type 0
-AnswersTexts = (ts : List Token) → IsAnswer ts (written_of ts)
+abbrev pub AnswersTableTexts : Type 0
+AnswersTableTexts = (ts : List Token) → IsAnswer ts (written_of ts)
 
 -- tokens that spell what is written are read as it
-abbrev pub ReadsTexts : Type 0
-ReadsTexts = (ts : List Token) (x : WrittenTables) → terminals ts ≡ spell_text x → written_of ts ≡ Ok x
+abbrev pub ReadsTableTexts : Type 0
+ReadsTableTexts = (ts : List Token) (x : WrittenTables) → terminals ts ≡ spell_text x → written_of ts ≡ Ok x
 
 -- nothing else has the same spelling
-abbrev pub IsUnique : Type 0
-IsUnique = (x y : WrittenTables) → spell_text x ≡ spell_text y → x ≡ y
+abbrev pub IsUniquelySpelled : Type 0
+IsUniquelySpelled = (x y : WrittenTables) → spell_text x ≡ spell_text y → x ≡ y

@@ -92,5 +92,5 @@ spell_text x =
     mark kind.Tables ∷ number x.version ∷ (flat_map spell_declaration x.declarations ++ flat_map spell_table x.tables)
 
 -- a text goes on with these tokens
-abbrev pub GoesOn : List Terminal → Type 0
-GoesOn ts = (more : List Terminal) × (x : WrittenTables) × (ts ++ more ≡ spell_text x)
+abbrev pub TableTextGoesOn : List Terminal → Type 0
+TableTextGoesOn ts = (more : List Terminal) × (x : WrittenTables) × (ts ++ more ≡ spell_text x)

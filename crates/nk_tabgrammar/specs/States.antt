@@ -25,7 +25,7 @@ use Rattle.nk_tabgrammar.specs.declared.stage.Declaring.TheVariants as declaring
 use Rattle.nk_tabgrammar.specs.declared.stage.Grouping.TheVariants as grouping
 use Rattle.nk_tabgrammar.specs.declared.stage.InRow.TheVariants as in_row
 use Rattle.nk_lex.specs.declared.token.Token.{Token}
-use Rattle.nk_tabgrammar.specs.Terminal.{place_of, terminal_of}
+use Rattle.nk_tabgrammar.specs.Terminal.{kind_place, terminal_of}
 use Rattle.nk_tabgrammar.specs.Machine.{Reading, read_one, written_at_end}
 
 -- what may come behind a token, and what the token tells; none where no text goes on with it
@@ -34,7 +34,7 @@ MaybeStep = Option (State × Tells)
 
 -- the token is of this kind
 abbrev pub is_kind : Kind → Kind → Bool
-is_kind k l = place_of k == place_of l
+is_kind k l = kind_place k == kind_place l
 
 -- where the token is of this kind, this comes of it
 abbrev pub step_if : Kind → Kind → State → Tells → MaybeStep
@@ -133,18 +133,18 @@ after_plain state.FirstBucket k = step_if kind.OpenBracket k (state.InGroup buck
 after_plain s k = None
 
 -- one more token
-abbrev pub after : State → Kind → MaybeStep
-after state.Between k = begin k tells.Nothing
-after state.PortRead k = or_else (step_if kind.Comma k state.NextPort tells.Nothing) (begin k tells.SwitchEnds)
-after (state.Link at) k = after_link at k
-after state.Groups k = begin_group k tells.Nothing
-after state.BucketRead k =
+abbrev pub after_token : State → Kind → MaybeStep
+after_token state.Between k = begin k tells.Nothing
+after_token state.PortRead k = or_else (step_if kind.Comma k state.NextPort tells.Nothing) (begin k tells.SwitchEnds)
+after_token (state.Link at) k = after_link at k
+after_token state.Groups k = begin_group k tells.Nothing
+after_token state.BucketRead k =
     or_else (step_if kind.OpenBracket k (state.InGroup bucket.Sets) tells.Nothing) (begin_group k tells.GroupEnds)
-after (state.InGroup at) k = after_in state.InGroup state.BucketRead tells.GroupBucket at k
-after state.Rows k = begin_row k tells.Nothing
-after (state.Row at) k = after_row at k
-after (state.InRow at) k = after_in state.InRow state.Rows tells.RowBucket at k
-after s k = after_plain s k
+after_token (state.InGroup at) k = after_in state.InGroup state.BucketRead tells.GroupBucket at k
+after_token state.Rows k = begin_row k tells.Nothing
+after_token (state.Row at) k = after_row at k
+after_token (state.InRow at) k = after_in state.InRow state.Rows tells.RowBucket at k
+after_token s k = after_plain s k
 
 -- what the end tells, where the text may end
 abbrev pub at_end : State → Option Tells
@@ -178,40 +178,40 @@ in_bucket (owner.First n) at = state.InGroup at
 in_bucket (owner.Next g) at = state.InGroup at
 in_bucket (owner.Row p ms) at = state.InRow at
 
-abbrev pub state_of : Stage → State
-state_of stage.Start = state.Start
-state_of stage.Version = state.Version
-state_of stage.Between = state.Between
-state_of (stage.Declared declaring.Field) = state.Field
-state_of (stage.Declared (declaring.FieldNamed w)) = state.FieldNamed
-state_of (stage.Declared declaring.Tag) = state.Tag
-state_of (stage.Declared declaring.Switch) = state.Switch
-state_of (stage.Declared (declaring.SwitchNumbered n)) = state.SwitchNumbered
-state_of (stage.Declared (declaring.FirstPort n)) = state.FirstPort
-state_of (stage.Declared (declaring.NextPort n p ps)) = state.NextPort
-state_of (stage.Declared (declaring.PortRead n p ps)) = state.PortRead
-state_of (stage.Declared (declaring.Link q)) = state.Link (link_state q)
-state_of stage.Table = state.Table
-state_of stage.Groups = state.Groups
-state_of (stage.Grouped grouping.Group) = state.Group
-state_of (stage.Grouped (grouping.GroupNumbered n)) = state.GroupNumbered
-state_of (stage.Grouped (grouping.FirstBucket n)) = state.FirstBucket
-state_of (stage.Grouped (grouping.BucketRead g)) = state.BucketRead
-state_of (stage.InBucket o p) = in_bucket o (bucket_state p)
-state_of stage.Rows = state.Rows
-state_of (stage.InRow in_row.Row) = state.Row row.Row
-state_of (stage.InRow (in_row.RowNumbered p)) = state.Row row.Numbered
-state_of (stage.InRow (in_row.Matches p ms)) = state.Row row.Matches
-state_of (stage.InRow (in_row.MatchNamed p ms w)) = state.Row row.Named
-state_of (stage.InRow (in_row.MatchTested p ms w)) = state.Row row.Tested
-state_of (stage.InRow (in_row.MatchValued p ms w n)) = state.Row row.Valued
-state_of (stage.InRow (in_row.MatchSlashed p ms w n)) = state.Row row.Slashed
-state_of (stage.InRow (in_row.Target p ms)) = state.Row row.Target
-state_of (stage.InRow (in_row.TargetGroup p ms)) = state.Row row.TargetGroup
+abbrev pub state_of_stage : Stage → State
+state_of_stage stage.Start = state.Start
+state_of_stage stage.Version = state.Version
+state_of_stage stage.Between = state.Between
+state_of_stage (stage.Declared declaring.Field) = state.Field
+state_of_stage (stage.Declared (declaring.FieldNamed w)) = state.FieldNamed
+state_of_stage (stage.Declared declaring.Tag) = state.Tag
+state_of_stage (stage.Declared declaring.Switch) = state.Switch
+state_of_stage (stage.Declared (declaring.SwitchNumbered n)) = state.SwitchNumbered
+state_of_stage (stage.Declared (declaring.FirstPort n)) = state.FirstPort
+state_of_stage (stage.Declared (declaring.NextPort n p ps)) = state.NextPort
+state_of_stage (stage.Declared (declaring.PortRead n p ps)) = state.PortRead
+state_of_stage (stage.Declared (declaring.Link q)) = state.Link (link_state q)
+state_of_stage stage.Table = state.Table
+state_of_stage stage.Groups = state.Groups
+state_of_stage (stage.Grouped grouping.Group) = state.Group
+state_of_stage (stage.Grouped (grouping.GroupNumbered n)) = state.GroupNumbered
+state_of_stage (stage.Grouped (grouping.FirstBucket n)) = state.FirstBucket
+state_of_stage (stage.Grouped (grouping.BucketRead g)) = state.BucketRead
+state_of_stage (stage.InBucket o p) = in_bucket o (bucket_state p)
+state_of_stage stage.Rows = state.Rows
+state_of_stage (stage.InRow in_row.Row) = state.Row row.Row
+state_of_stage (stage.InRow (in_row.RowNumbered p)) = state.Row row.Numbered
+state_of_stage (stage.InRow (in_row.Matches p ms)) = state.Row row.Matches
+state_of_stage (stage.InRow (in_row.MatchNamed p ms w)) = state.Row row.Named
+state_of_stage (stage.InRow (in_row.MatchTested p ms w)) = state.Row row.Tested
+state_of_stage (stage.InRow (in_row.MatchValued p ms w n)) = state.Row row.Valued
+state_of_stage (stage.InRow (in_row.MatchSlashed p ms w n)) = state.Row row.Slashed
+state_of_stage (stage.InRow (in_row.Target p ms)) = state.Row row.Target
+state_of_stage (stage.InRow (in_row.TargetGroup p ms)) = state.Row row.TargetGroup
 
 -- at each stage a token goes on exactly where the states do, and to the stage's state; and texts end at the same ones
 abbrev pub FollowStages : Type 0
 FollowStages =
     (r : Reading)
-    → ((t : Token) → option_map (λ s. state_of s.stage) (read_one r (terminal_of t)) ≡ option_map (λ p. p.0) (after (state_of r.stage) t.kind))
-    × (is_some (written_at_end r) ≡ is_some (at_end (state_of r.stage)))
+    → ((t : Token) → option_map (λ s. state_of_stage s.stage) (read_one r (terminal_of t)) ≡ option_map (λ p. p.0) (after_token (state_of_stage r.stage) t.kind))
+    × (is_some (written_at_end r) ≡ is_some (at_end (state_of_stage r.stage)))

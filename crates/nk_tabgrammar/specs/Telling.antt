@@ -25,67 +25,67 @@ use Rattle.nk_tabgrammar.specs.declared.states.Tells.TheVariants as tells
 use Rattle.nk_tabgrammar.specs.Terminal.{Terminal, name, number, mark, terminal_of}
 use Rattle.nk_tabgrammar.specs.Spelling.{spell_text}
 use Rattle.nk_tabgrammar.specs.Answer.{terminals}
-use Rattle.nk_tabgrammar.specs.States.{after, at_end}
+use Rattle.nk_tabgrammar.specs.States.{after_token, at_end}
 
 -- what is told, and the name or number that tells it, where one does
 abbrev pub Telling : Type 0
 Telling = Tells × Option Terminal
 
-abbrev pub by_name : Tells → Word → Telling
-by_name e w = (e, Some (name w))
+abbrev pub told_by_name : Tells → Word → Telling
+told_by_name e w = (e, Some (name w))
 
-abbrev pub by_number : Tells → Number → Telling
-by_number e n = (e, Some (number n))
+abbrev pub told_by_number : Tells → Number → Telling
+told_by_number e n = (e, Some (number n))
 
-abbrev pub alone : Tells → Telling
-alone e = (e, None)
+abbrev pub told_alone : Tells → Telling
+told_alone e = (e, None)
 
 -- ---- of what is written
 
 abbrev pub told_declaration : Declaration → List Telling
-told_declaration (declared.Field w n) = by_name tells.FieldName w ∷ by_number tells.FieldMax n ∷ []
-told_declaration (declared.Tag w) = by_name tells.Tag w ∷ []
+told_declaration (declared.Field w n) = told_by_name tells.FieldName w ∷ told_by_number tells.FieldMax n ∷ []
+told_declaration (declared.Tag w) = told_by_name tells.Tag w ∷ []
 told_declaration (declared.Switch n p ps) =
-    by_number tells.Switch n ∷ by_number tells.Port p ∷ (map (by_number tells.Port) ps ++ alone tells.SwitchEnds ∷ [])
+    told_by_number tells.Switch n ∷ told_by_number tells.Port p ∷ (map (told_by_number tells.Port) ps ++ told_alone tells.SwitchEnds ∷ [])
 told_declaration (declared.Link a m b n) =
-    by_number tells.LinkSwitch a ∷ by_number tells.LinkPort m ∷ by_number tells.LinkToSwitch b ∷ by_number tells.LinkToPort n ∷ []
+    told_by_number tells.LinkSwitch a ∷ told_by_number tells.LinkPort m ∷ told_by_number tells.LinkToSwitch b ∷ told_by_number tells.LinkToPort n ∷ []
 
 abbrev pub told_set : Pair → List Telling
-told_set p = by_name tells.SetName p.name ∷ by_number tells.SetValue p.number ∷ []
+told_set p = told_by_name tells.SetName p.name ∷ told_by_number tells.SetValue p.number ∷ []
 
 abbrev pub told_way : Way → Telling
-told_way way.Back = alone tells.OutBack
-told_way (way.Port n) = by_number tells.OutPort n
+told_way way.Back = told_alone tells.OutBack
+told_way (way.Port n) = told_by_number tells.OutPort n
 
 -- a bucket, and what its end tells
 abbrev pub told_bucket : Tells → WrittenBucket → List Telling
-told_bucket ends b = flat_map told_set b.sets ++ told_way b.way ∷ alone ends ∷ []
+told_bucket ends b = flat_map told_set b.sets ++ told_way b.way ∷ told_alone ends ∷ []
 
 abbrev pub told_group : WrittenGroup → List Telling
 told_group g =
-    (by_number tells.Group g.number ∷ (told_bucket tells.GroupBucket g.first ++ flat_map (told_bucket tells.GroupBucket) g.more))
-    ++ alone tells.GroupEnds ∷ []
+    (told_by_number tells.Group g.number ∷ (told_bucket tells.GroupBucket g.first ++ flat_map (told_bucket tells.GroupBucket) g.more))
+    ++ told_alone tells.GroupEnds ∷ []
 
 abbrev pub told_length : Option Number → List Telling
 told_length None = []
-told_length (Some n) = by_number tells.MatchLength n ∷ []
+told_length (Some n) = told_by_number tells.MatchLength n ∷ []
 
 abbrev pub told_match : WrittenMatch → List Telling
-told_match m = by_name tells.MatchName m.name ∷ by_number tells.MatchValue m.number ∷ told_length m.length
+told_match m = told_by_name tells.MatchName m.name ∷ told_by_number tells.MatchValue m.number ∷ told_length m.length
 
 abbrev pub told_target : WrittenTarget → List Telling
 told_target (target.Bucket b) = told_bucket tells.RowBucket b
-told_target (target.Group n) = by_number tells.RowGroup n ∷ []
-told_target target.Discard = alone tells.RowDrop ∷ []
+told_target (target.Group n) = told_by_number tells.RowGroup n ∷ []
+told_target target.Discard = told_alone tells.RowDrop ∷ []
 
 abbrev pub told_row : WrittenRow → List Telling
-told_row r = by_number tells.Row r.priority ∷ (flat_map told_match r.matches ++ told_target r.target)
+told_row r = told_by_number tells.Row r.priority ∷ (flat_map told_match r.matches ++ told_target r.target)
 
 abbrev pub told_table : WrittenTable → List Telling
-told_table t = by_number tells.Table t.switch ∷ (flat_map told_group t.groups ++ flat_map told_row t.rows)
+told_table t = told_by_number tells.Table t.switch ∷ (flat_map told_group t.groups ++ flat_map told_row t.rows)
 
 abbrev pub told_text : WrittenTables → List Telling
-told_text x = by_number tells.Version x.version ∷ (flat_map told_declaration x.declarations ++ flat_map told_table x.tables)
+told_text x = told_by_number tells.Version x.version ∷ (flat_map told_declaration x.declarations ++ flat_map told_table x.tables)
 
 -- ---- of tokens
 
@@ -103,7 +103,7 @@ told_by e t = (e, t) ∷ []
 abbrev pub tellings_from : List Token → State → Option (List Telling)
 tellings_from [] s = option_map (λ e. told_by e None) (at_end s)
 tellings_from (t ∷ ts) s =
-    option_and_then (λ p. option_map (λ l. told_by p.1 (worded (terminal_of t)) ++ l) (tellings_from ts p.0)) (after s t.kind)
+    option_and_then (λ p. option_map (λ l. told_by p.1 (worded (terminal_of t)) ++ l) (tellings_from ts p.0)) (after_token s t.kind)
 
 abbrev pub tellings_of : List Token → Option (List Telling)
 tellings_of ts = tellings_from ts state.Start

@@ -22,49 +22,49 @@ abbrev pub terminal_of : Token → Terminal
 terminal_of t = terminal_from t.kind t.line t.value t.text
 
 -- the place of a kind among all kinds
-abbrev pub place_of : Kind → ℕ
-place_of kind.Name = 0
-place_of kind.Number = 1
-place_of kind.Field = 2
-place_of kind.Tag = 3
-place_of kind.Switch = 4
-place_of kind.Ports = 5
-place_of kind.Link = 6
-place_of kind.Let = 7
-place_of kind.Certificate = 8
-place_of kind.Row = 9
-place_of kind.Start = 10
-place_of kind.Id = 11
-place_of kind.Drop = 12
-place_of kind.Dup = 13
-place_of kind.Tables = 14
-place_of kind.Table = 15
-place_of kind.Group = 16
-place_of kind.Out = 17
-place_of kind.In = 18
-place_of kind.Virtual = 19
-place_of kind.Fabric = 20
-place_of kind.By = 21
-place_of kind.Plus = 22
-place_of kind.Semicolon = 23
-place_of kind.Star = 24
-place_of kind.Tilde = 25
-place_of kind.OpenParen = 26
-place_of kind.CloseParen = 27
-place_of kind.Equal = 28
-place_of kind.Assign = 29
-place_of kind.FatArrow = 30
-place_of kind.Arrow = 31
-place_of kind.Colon = 32
-place_of kind.Comma = 33
-place_of kind.Slash = 34
-place_of kind.DotDot = 35
-place_of kind.OpenBracket = 36
-place_of kind.CloseBracket = 37
+abbrev pub kind_place : Kind → ℕ
+kind_place kind.Name = 0
+kind_place kind.Number = 1
+kind_place kind.Field = 2
+kind_place kind.Tag = 3
+kind_place kind.Switch = 4
+kind_place kind.Ports = 5
+kind_place kind.Link = 6
+kind_place kind.Let = 7
+kind_place kind.Certificate = 8
+kind_place kind.Row = 9
+kind_place kind.Start = 10
+kind_place kind.Id = 11
+kind_place kind.Drop = 12
+kind_place kind.Dup = 13
+kind_place kind.Tables = 14
+kind_place kind.Table = 15
+kind_place kind.Group = 16
+kind_place kind.Out = 17
+kind_place kind.In = 18
+kind_place kind.Virtual = 19
+kind_place kind.Fabric = 20
+kind_place kind.By = 21
+kind_place kind.Plus = 22
+kind_place kind.Semicolon = 23
+kind_place kind.Star = 24
+kind_place kind.Tilde = 25
+kind_place kind.OpenParen = 26
+kind_place kind.CloseParen = 27
+kind_place kind.Equal = 28
+kind_place kind.Assign = 29
+kind_place kind.FatArrow = 30
+kind_place kind.Arrow = 31
+kind_place kind.Colon = 32
+kind_place kind.Comma = 33
+kind_place kind.Slash = 34
+kind_place kind.DotDot = 35
+kind_place kind.OpenBracket = 36
+kind_place kind.CloseBracket = 37
 
 -- a token of this kind, which is no name and no number
 abbrev pub is_mark : Kind → Terminal → Bool
-is_mark k (mark l) = place_of k == place_of l
+is_mark k (mark l) = kind_place k == kind_place l
 is_mark k (name w) = false
 is_mark k (number n) = false
 

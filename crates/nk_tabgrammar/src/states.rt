@@ -1,6 +1,6 @@
 //! What may come next in a text of tables, without what was read, and what a token tells there. Nothing here takes memory.
 ghost use Rattle.std.specs.Prelude.{◌≡◌, Some};
-ghost use Rattle.nk_tabgrammar.specs.States.{after, after_in, after_link, after_open, after_plain, after_row, at_end, begin, begin_group, begin_match, begin_row, begin_target};
+ghost use Rattle.nk_tabgrammar.specs.States.{after_token, after_in, after_link, after_open, after_plain, after_row, at_end, begin, begin_group, begin_match, begin_row, begin_target};
 ghost use Rattle.nk_tabgrammar.specs.declared.states.State.TheVariants as state;
 ghost use Rattle.nk_tabgrammar.specs.declared.states.Tells.TheVariants as tells;
 
@@ -357,7 +357,7 @@ impl State {
 
     /// What may come behind a token of this kind, and what the token tells; none where no text goes on with it.
     pub fn after(self, kind: Kind) -> Option<Step>
-        ensures { result ≡ after self kind }
+        ensures { result ≡ after_token self kind }
     {
         match self {
             State::InRow(at) => after_in_row(at, kind),

@@ -10,7 +10,7 @@ use Rattle.nk_table.specs.declared.Bucket.{Bucket}
 use Rattle.nk_table.specs.declared.Exit.{Exit}
 use Rattle.nk_table.specs.declared.Exit.TheVariants as exit
 use Rattle.nk_table.specs.declared.Target.TheVariants as does
-use Rattle.nk_declare.specs.Declarations.{place_in, most_in}
+use Rattle.nk_declare.specs.Declarations.{place_of_field, most_in}
 use Rattle.nk_tabgrammar.specs.declared.written.Pair.{Pair}
 use Rattle.nk_tabgrammar.specs.declared.written.Way.{Way}
 use Rattle.nk_tabgrammar.specs.declared.written.Way.TheVariants as way
@@ -23,7 +23,7 @@ use Rattle.nk_tabgrammar.specs.declared.stage.PlaceNext.TheVariants as then_plac
 use Rattle.nk_tabgrammar.specs.declared.stage.Owner.{Owner}
 use Rattle.nk_tabgrammar.specs.declared.stage.Owner.TheVariants as owner
 use Rattle.nk_tabgrammar.specs.declared.stage.Stage.TheVariants as stage
-use Rattle.nk_tabgrammar.specs.Terminal.{mark, place_of, terminal_of}
+use Rattle.nk_tabgrammar.specs.Terminal.{mark, kind_place, terminal_of}
 use Rattle.nk_tabgrammar.specs.Machine.{bucket_done, bucket_on, next_reading, row_written, with_row}
 use Rattle.nk_tabgrammar.specs.declared.states.BucketState.{BucketState}
 use Rattle.nk_tabgrammar.specs.declared.states.BucketState.TheVariants as bucket
@@ -31,9 +31,9 @@ use Rattle.nk_tabgrammar.specs.declared.states.State.{State}
 use Rattle.nk_tabgrammar.specs.declared.states.State.TheVariants as state
 use Rattle.nk_tabgrammar.specs.declared.states.Tells.{Tells}
 use Rattle.nk_tabgrammar.specs.declared.states.Tells.TheVariants as tells
-use Rattle.nk_tabgrammar.specs.States.{MaybeStep, after, after_in, bucket_state, in_bucket, or_else, state_of}
+use Rattle.nk_tabgrammar.specs.States.{MaybeStep, after_token, after_in, bucket_state, in_bucket, or_else, state_of_stage}
 use Rattle.nk_tabtext.specs.Values.{bucket_with, line_above, row_with}
-use Rattle.nk_tabtext.specs.Progress.{group_bucket_told, row_bucket_told, out_back_told, FillingValue, PartialValue, KnownValue, number_in, word_in}
+use Rattle.nk_tabtext.specs.Progress.{group_bucket_told, row_bucket_told, out_back_told, FillingValue, PartialValue, KnownValue, number_of_token, word_of_token}
 use Rattle.nk_tabtext.proofs.Sofar.{then_same, unless_assoc}
 use Rattle.nk_tabtext.proofs.Stages.{Sofar, so_far, with_sets, rowed_so, filled_so, assigned_so, named_so, left_so, is_assigned, word_fault, row_more_bucket, first_bucket_more, bucket_more, pair_more}
 use Rattle.nk_tabtext.proofs.Fitting.{Fits, IsField, Owns, Rows, gives_filling, gives_on, gives_still}
@@ -54,7 +54,7 @@ tells_of (owner.Row q ms) = tells.RowBucket
 abbrev after_bucket : Owner → BucketState → Kind → MaybeStep
 after_bucket o at l = after_in (in_bucket o) (whole_of o) (tells_of o) at l
 
-is_after : (o : Owner) (at : BucketState) (l : Kind) → after (in_bucket o at) l ≡ after_bucket o at l
+is_after : (o : Owner) (at : BucketState) (l : Kind) → after_token (in_bucket o at) l ≡ after_bucket o at l
 is_after (owner.First n) at l = refl
 is_after (owner.Next g) at l = refl
 is_after (owner.Row q ms) at l = refl
@@ -77,23 +77,23 @@ step_sets x c o ps k t h =
       refl,
       (
         h.0,
-        gives_on (assigned_so x c o ps) (named_so x c o ps (word_in t)) (λ v. checked_ok (word_fault v.said.fields 2 (is_assigned v.sets) (word_in t)) v)
-            (λ v p. Owns x c o v.sets v p) (λ v p. Owns x c o v.sets v p × IsField (word_in t) v p) k tells.SetName t refl
-            (λ v p d. gives_filling (λ v p. Owns x c o v.sets v p × IsField (word_in t) v p) (word_fault v.said.fields 2 (is_assigned v.sets) (word_in t))
-            (word_fault p.declaring.said.fields 2 (is_assigned p.filling.sets) (word_in t)) v p
-            (record p.filling { field = place_in p.declaring.said.fields (word_in t); max = most_in p.declaring.said.fields (word_in t) })
-            (ap (λ s. word_fault s.fields 2 (is_assigned v.sets) (word_in t)) (sym (owns_said x c o v.sets v p d))
-            ∙ ap (λ l. word_fault p.declaring.said.fields 2 (is_assigned l) (word_in t)) (sym (owns_sets x c o v.sets v p d))) (
-              owns_still x c o v.sets v.sets v.out v p (record p.filling { field = place_in p.declaring.said.fields (word_in t); max = most_in p.declaring.said.fields (word_in t) }) d
+        gives_on (assigned_so x c o ps) (named_so x c o ps (word_of_token t)) (λ v. checked_ok (word_fault v.said.fields 2 (is_assigned v.sets) (word_of_token t)) v)
+            (λ v p. Owns x c o v.sets v p) (λ v p. Owns x c o v.sets v p × IsField (word_of_token t) v p) k tells.SetName t refl
+            (λ v p d. gives_filling (λ v p. Owns x c o v.sets v p × IsField (word_of_token t) v p) (word_fault v.said.fields 2 (is_assigned v.sets) (word_of_token t))
+            (word_fault p.declaring.said.fields 2 (is_assigned p.filling.sets) (word_of_token t)) v p
+            (record p.filling { field = place_of_field p.declaring.said.fields (word_of_token t); max = most_in p.declaring.said.fields (word_of_token t) })
+            (ap (λ s. word_fault s.fields 2 (is_assigned v.sets) (word_of_token t)) (sym (owns_said x c o v.sets v p d))
+            ∙ ap (λ l. word_fault p.declaring.said.fields 2 (is_assigned l) (word_of_token t)) (sym (owns_sets x c o v.sets v p d))) (
+              owns_still x c o v.sets v.sets v.out v p (record p.filling { field = place_of_field p.declaring.said.fields (word_of_token t); max = most_in p.declaring.said.fields (word_of_token t) }) d
                   (record { switch = refl; groups = refl; rows = refl; number = refl; buckets = refl; priority = refl; matches = refl }) (owns_sets x c o v.sets v p d),
-              (ap (λ s. place_in s.fields (word_in t)) (owns_said x c o v.sets v p d), ap (λ s. most_in s.fields (word_in t)) (owns_said x c o v.sets v p d)),
+              (ap (λ s. place_of_field s.fields (word_of_token t)) (owns_said x c o v.sets v p d), ap (λ s. most_in s.fields (word_of_token t)) (owns_said x c o v.sets v p d)),
             )) h.1,
       ),
     )
     tt
-    (λ l m. none_through (Follows k t) (λ z. option_map (at_part o) z) (place_of kind.Name == place_of l) (next_reading (stage.InBucket o (place.Sets ps)) x c (mark l))
-    (Some (bucket.Named, tells.SetName)) (if place_of kind.Out == place_of l then Some (bucket.Out, tells.Nothing) else None) m.named
-    (both_through (Follows k t) (bucket_on x c o) (λ z. option_map (at_part o) z) (place_of kind.Out == place_of l) (then_place.Going (place.Out ps)) then_place.Refused
+    (λ l m. none_through (Follows k t) (λ z. option_map (at_part o) z) (kind_place kind.Name == kind_place l) (next_reading (stage.InBucket o (place.Sets ps)) x c (mark l))
+    (Some (bucket.Named, tells.SetName)) (if kind_place kind.Out == kind_place l then Some (bucket.Out, tells.Nothing) else None) m.named
+    (both_through (Follows k t) (bucket_on x c o) (λ z. option_map (at_part o) z) (kind_place kind.Out == kind_place l) (then_place.Going (place.Out ps)) then_place.Refused
     (Some (bucket.Out, tells.Nothing)) None
     (refl, (h.0, gives_still (assigned_so x c o ps) (λ v p. Owns x c o v.sets v p) (λ v p. Owns x c o v.sets v p) k t (λ v p d. d) h.1)) tt))
 
@@ -101,7 +101,7 @@ step_named : (x : WrittenTables) (c : WrittenTable) (o : Owner) (ps : List Pair)
     → Both (Follows k t) (next_reading (stage.InBucket o (place.Named ps w)) x c (terminal_of t)) (after_bucket o bucket.Named t.kind)
 step_named x c o ps w k t h =
     by_token (Follows k t) (next_reading (stage.InBucket o (place.Named ps w)) x c) (after_bucket o bucket.Named) t tt tt
-    (λ l m. both_through (Follows k t) (bucket_on x c o) (λ z. option_map (at_part o) z) (place_of kind.Assign == place_of l) (then_place.Going (place.Assigned ps w)) then_place.Refused
+    (λ l m. both_through (Follows k t) (bucket_on x c o) (λ z. option_map (at_part o) z) (kind_place kind.Assign == kind_place l) (then_place.Going (place.Assigned ps w)) then_place.Refused
     (Some (bucket.Assigned, tells.Nothing)) None
     (refl, (h.0, gives_still (named_so x c o ps w) (λ v p. Owns x c o v.sets v p × IsField w v p) (λ v p. Owns x c o v.sets v p × IsField w v p) k t (λ v p d. d) h.1)) tt)
 
@@ -112,18 +112,18 @@ step_assigned x c o ps w k t h =
       refl,
       (
         h.0,
-        gives_on (named_so x c o ps w) (assigned_so x c o (ps ++ record { name = w; number = number_in t } ∷ []))
-            (λ v. checked_ok (line_above (most_in v.said.fields w) (number_in t)) (with_sets v (act_then v.sets ((place_in v.said.fields w, t.value) ∷ [])) exit.Back))
-            (λ v p. Owns x c o v.sets v p × IsField w v p) (λ v p. Owns x c o v.sets v p) k tells.SetValue t (pair_more x c o ps w (number_in t))
-            (λ v p d. gives_filling (λ v p. Owns x c o v.sets v p) (line_above (most_in v.said.fields w) (number_in t)) (line_above p.filling.max (number_in t))
-            (with_sets v (act_then v.sets ((place_in v.said.fields w, t.value) ∷ [])) exit.Back) p (record p.filling { sets = act_then p.filling.sets ((p.filling.field, t.value) ∷ []) })
-            (ap (λ n. line_above n (number_in t)) (sym d.1.1))
-            (owns_still x c o v.sets (act_then v.sets ((place_in v.said.fields w, t.value) ∷ [])) exit.Back v p (record p.filling { sets = act_then p.filling.sets ((p.filling.field, t.value) ∷ []) }) d.0
+        gives_on (named_so x c o ps w) (assigned_so x c o (ps ++ record { name = w; number = number_of_token t } ∷ []))
+            (λ v. checked_ok (line_above (most_in v.said.fields w) (number_of_token t)) (with_sets v (act_then v.sets ((place_of_field v.said.fields w, t.value) ∷ [])) exit.Back))
+            (λ v p. Owns x c o v.sets v p × IsField w v p) (λ v p. Owns x c o v.sets v p) k tells.SetValue t (pair_more x c o ps w (number_of_token t))
+            (λ v p d. gives_filling (λ v p. Owns x c o v.sets v p) (line_above (most_in v.said.fields w) (number_of_token t)) (line_above p.filling.max (number_of_token t))
+            (with_sets v (act_then v.sets ((place_of_field v.said.fields w, t.value) ∷ [])) exit.Back) p (record p.filling { sets = act_then p.filling.sets ((p.filling.field, t.value) ∷ []) })
+            (ap (λ n. line_above n (number_of_token t)) (sym d.1.1))
+            (owns_still x c o v.sets (act_then v.sets ((place_of_field v.said.fields w, t.value) ∷ [])) exit.Back v p (record p.filling { sets = act_then p.filling.sets ((p.filling.field, t.value) ∷ []) }) d.0
             (record { switch = refl; groups = refl; rows = refl; number = refl; buckets = refl; priority = refl; matches = refl })
             (ap (λ l. act_then l ((p.filling.field, t.value) ∷ [])) (owns_sets x c o v.sets v p d.0) ∙ ap (λ n. act_then v.sets ((n, t.value) ∷ [])) d.1.0))) h.1,
       ),
     )
-    (λ l m. none_through (Follows k t) (λ z. option_map (at_part o) z) (place_of kind.Number == place_of l) None (Some (bucket.Sets, tells.SetValue)) None m.numbered tt)
+    (λ l m. none_through (Follows k t) (λ z. option_map (at_part o) z) (kind_place kind.Number == kind_place l) None (Some (bucket.Sets, tells.SetValue)) None m.numbered tt)
 
 -- ---- the exit
 
@@ -134,17 +134,17 @@ step_out x c o ps k t h =
       refl,
       (
         h.0,
-        gives_on (assigned_so x c o ps) (left_so x c o ps (way.Port (number_in t))) (λ v. checked_ok (line_above 65535 (number_in t)) (with_sets v v.sets (exit.Port t.value)))
+        gives_on (assigned_so x c o ps) (left_so x c o ps (way.Port (number_of_token t))) (λ v. checked_ok (line_above 65535 (number_of_token t)) (with_sets v v.sets (exit.Port t.value)))
             (λ v p. Owns x c o v.sets v p) (λ v p. Owns x c o v.sets v p × (p.filling.exit ≡ v.out)) k tells.OutPort t
-            (then_same (assigned_so x c o ps) _ _ (λ v. unless_assoc (line_above 65535 (number_in t)) (exit.Port t.value) (λ y. Ok (with_sets v v.sets y))))
-            (λ v p d. gives_filling (λ v p. Owns x c o v.sets v p × (p.filling.exit ≡ v.out)) (line_above 65535 (number_in t)) (line_above 65535 (number_in t))
+            (then_same (assigned_so x c o ps) _ _ (λ v. unless_assoc (line_above 65535 (number_of_token t)) (exit.Port t.value) (λ y. Ok (with_sets v v.sets y))))
+            (λ v p d. gives_filling (λ v p. Owns x c o v.sets v p × (p.filling.exit ≡ v.out)) (line_above 65535 (number_of_token t)) (line_above 65535 (number_of_token t))
             (with_sets v v.sets (exit.Port t.value)) p (record p.filling { exit = exit.Port t.value }) refl
             (owns_still x c o v.sets v.sets (exit.Port t.value) v p (record p.filling { exit = exit.Port t.value }) d (record { switch = refl; groups = refl; rows = refl; number = refl; buckets = refl; priority = refl; matches = refl }) (owns_sets x c o v.sets v p d), refl)) h.1,
       ),
     )
-    (λ l m. none_through (Follows k t) (λ z. option_map (at_part o) z) (place_of kind.Number == place_of l) (next_reading (stage.InBucket o (place.Out ps)) x c (mark l))
-    (Some (bucket.Left, tells.OutPort)) (if place_of kind.In == place_of l then Some (bucket.Left, tells.OutBack) else None) m.numbered
-    (both_through (Follows k t) (bucket_on x c o) (λ z. option_map (at_part o) z) (place_of kind.In == place_of l) (then_place.Going (place.Left ps way.Back)) then_place.Refused
+    (λ l m. none_through (Follows k t) (λ z. option_map (at_part o) z) (kind_place kind.Number == kind_place l) (next_reading (stage.InBucket o (place.Out ps)) x c (mark l))
+    (Some (bucket.Left, tells.OutPort)) (if kind_place kind.In == kind_place l then Some (bucket.Left, tells.OutBack) else None) m.numbered
+    (both_through (Follows k t) (bucket_on x c o) (λ z. option_map (at_part o) z) (kind_place kind.In == kind_place l) (then_place.Going (place.Left ps way.Back)) then_place.Refused
     (Some (bucket.Left, tells.OutBack)) None (
       refl,
       (
@@ -216,7 +216,7 @@ step_left : (x : WrittenTables) (c : WrittenTable) (o : Owner) (ps : List Pair) 
     → Both (Follows k t) (next_reading (stage.InBucket o (place.Left ps e)) x c (terminal_of t)) (after_bucket o bucket.Left t.kind)
 step_left x c o ps e k t h =
     by_token (Follows k t) (next_reading (stage.InBucket o (place.Left ps e)) x c) (after_bucket o bucket.Left) t tt tt
-    (λ l m. both_through (Follows k t) (bucket_on x c o) (λ z. or_else z None) (place_of kind.CloseBracket == place_of l) (then_place.Full (record { sets = ps; way = e })) then_place.Refused
+    (λ l m. both_through (Follows k t) (bucket_on x c o) (λ z. or_else z None) (kind_place kind.CloseBracket == kind_place l) (then_place.Full (record { sets = ps; way = e })) then_place.Refused
     (Some (whole_of o, tells_of o)) None (bucket_whole x c o ps e k t h) tt)
 
 -- ---- all of it
@@ -230,6 +230,6 @@ step_in x c o (place.Out ps) k t h = step_out x c o ps k t h
 step_in x c o (place.Left ps e) k t h = step_left x c o ps e k t h
 
 pub step_bucket : (x : WrittenTables) (c : WrittenTable) (o : Owner) (l : Place) (k : KnownValue) (t : Token) → Fits (stage.InBucket o l) x c k
-    → Both (Follows k t) (next_reading (stage.InBucket o l) x c (terminal_of t)) (after (state_of (stage.InBucket o l)) t.kind)
+    → Both (Follows k t) (next_reading (stage.InBucket o l) x c (terminal_of t)) (after_token (state_of_stage (stage.InBucket o l)) t.kind)
 step_bucket x c o l k t h =
     subst (λ z. Both (Follows k t) (next_reading (stage.InBucket o l) x c (terminal_of t)) z) (sym (is_after o (bucket_state l) t.kind)) (step_in x c o l k t h)

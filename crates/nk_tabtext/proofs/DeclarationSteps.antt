@@ -25,7 +25,7 @@ use Rattle.nk_tabgrammar.specs.declared.stage.Quad.TheVariants as quad
 use Rattle.nk_tabgrammar.specs.declared.stage.QuadNext.TheVariants as next
 use Rattle.nk_tabgrammar.specs.declared.stage.Stage.TheVariants as stage
 use Rattle.nk_tabgrammar.specs.declared.stage.Declaring.TheVariants as declaring
-use Rattle.nk_tabgrammar.specs.Terminal.{mark, place_of, terminal_of}
+use Rattle.nk_tabgrammar.specs.Terminal.{mark, kind_place, terminal_of}
 use Rattle.nk_tabgrammar.specs.Machine.{begin, link_on, next_reading, opened, reading, with_declaration}
 use Rattle.nk_tabgrammar.specs.declared.states.LinkState.TheVariants as link
 use Rattle.nk_tabgrammar.specs.declared.states.State.{State}
@@ -33,10 +33,10 @@ use Rattle.nk_tabgrammar.specs.declared.states.State.TheVariants as state
 use Rattle.nk_tabgrammar.specs.declared.states.Tells.{Tells}
 use Rattle.nk_tabgrammar.specs.declared.states.Tells.TheVariants as tells
 use Rattle.nk_tabgrammar.specs.States as states
-use Rattle.nk_tabgrammar.specs.States.{MaybeStep, after, state_of}
+use Rattle.nk_tabgrammar.specs.States.{MaybeStep, after_token, state_of_stage}
 use Rattle.nk_declare.specs.Declarations.{number_fault, port_fault}
 use Rattle.nk_tabtext.specs.Values.{read_of, version_fault}
-use Rattle.nk_tabtext.specs.Progress.{DeclaringValue, PartialValue, KnownValue, declares_of, finished, first_partial, known_after, known_of, number_in, switch_ends_told, unless_declared, with_declaring, word_in}
+use Rattle.nk_tabtext.specs.Progress.{DeclaringValue, PartialValue, KnownValue, declares_of, finished, first_partial, known_after, known_of, number_of_token, switch_ends_told, unless_declared, with_declaring, word_of_token}
 use Rattle.nk_tabtext.proofs.Sofar.{then_assoc, then_same}
 use Rattle.nk_tabtext.proofs.Stages.{Sofar, so_far, declared_so, tabled_so, declaration_more, no_table_more}
 use Rattle.nk_tabtext.proofs.Fitting.{Closes, Declares, Fits, Gives, Linked, Parts, Ported, Real, gives_declaring, gives_more, gives_on, gives_still, gives_unless, gives_with, ports_so, switch_so}
@@ -86,7 +86,7 @@ real_answer None s r = tt
 real_answer (Some refused.NoMemory) s r = absurd r.real
 real_answer (Some (refused.Fault k line)) s r = tt
 
-real_with : (s : DeclaredValue) (d : declare.Declaration) → IsRealAnswer (declared_with s d)
+real_with : (s : DeclaredValue) (d : declare.NetworkDeclaration) → IsRealAnswer (declared_with s d)
 real_with s (declare.field w n) = real_answer _ _ (two_real _ _ _ _ _ _)
 real_with s (declare.tag w) = real_answer _ _ (two_real _ _ _ _ _ _)
 real_with s (declare.switch n ps) = real_answer _ _ (real_first (number_fault s.topo n) (ports_fault [] ps) (real_number s.topo n) (real_ports [] ps))
@@ -126,89 +126,89 @@ then_ok (Err e) = refl
 begins : (x : WrittenTables) (c : WrittenTable) (k : KnownValue) (tl : Tells) (t : Token) (l : Kind) → Fits stage.Between x c (known_after k tl t)
     → Both (Follows k t) (begin x c (mark l)) (states.begin l tl)
 begins x c k tl t l h =
-    both_if (Follows k t) (place_of kind.Field == place_of l) (reading (stage.Declared declaring.Field) x c) (state.Field, tl) _ _ (refl, h)
-    (both_if (Follows k t) (place_of kind.Tag == place_of l) (reading (stage.Declared declaring.Tag) x c) (state.Tag, tl) _ _ (refl, h)
-    (both_if (Follows k t) (place_of kind.Switch == place_of l) (reading (stage.Declared declaring.Switch) x c) (state.Switch, tl) _ _ (refl, h)
-    (both_if (Follows k t) (place_of kind.Link == place_of l) (reading (stage.Declared (declaring.Link quad.Start)) x c) (state.Link link.Start, tl) _ _
+    both_if (Follows k t) (kind_place kind.Field == kind_place l) (reading (stage.Declared declaring.Field) x c) (state.Field, tl) _ _ (refl, h)
+    (both_if (Follows k t) (kind_place kind.Tag == kind_place l) (reading (stage.Declared declaring.Tag) x c) (state.Tag, tl) _ _ (refl, h)
+    (both_if (Follows k t) (kind_place kind.Switch == kind_place l) (reading (stage.Declared declaring.Switch) x c) (state.Switch, tl) _ _ (refl, h)
+    (both_if (Follows k t) (kind_place kind.Link == kind_place l) (reading (stage.Declared (declaring.Link quad.Start)) x c) (state.Link link.Start, tl) _ _
     (refl, (h.0, gives_with (declared_so x) (Declares x) (λ v p. Declares x v p × Linked quad.Start p.declaring) (known_after k tl t) (λ v p d. (d, tt)) h.1))
-    (both_last (Follows k t) (place_of kind.Table == place_of l) (reading stage.Table x c) (state.Table, tl) (
+    (both_last (Follows k t) (kind_place kind.Table == kind_place l) (reading stage.Table x c) (state.Table, tl) (
       refl,
       gives_more (declared_so x) (tabled_so x) (λ v. so_far v.said [] [] [] [] []) (Declares x) (λ v p. Closes x v.tables v p) (known_after k tl t)
           (no_table_more x h.0) (λ v p d. record { version = d.version; said = d.said; tables = d.tables; parts = d.parts }) h.1,
     )))))
 
 pub step_start : (x : WrittenTables) (c : WrittenTable) (k : KnownValue) (t : Token) → Fits stage.Start x c k
-    → Both (Follows k t) (next_reading stage.Start x c (terminal_of t)) (after state.Start t.kind)
+    → Both (Follows k t) (next_reading stage.Start x c (terminal_of t)) (after_token state.Start t.kind)
 step_start x c k t h =
-    by_token (Follows k t) (next_reading stage.Start x c) (after state.Start) t tt tt
-    (λ l m. both_last (Follows k t) (place_of kind.Tables == place_of l) (reading stage.Version x c) (state.Version, tells.Nothing)
+    by_token (Follows k t) (next_reading stage.Start x c) (after_token state.Start) t tt tt
+    (λ l m. both_last (Follows k t) (kind_place kind.Tables == kind_place l) (reading stage.Version x c) (state.Version, tells.Nothing)
     (refl, ap (λ a. known_after a tells.Nothing t) h))
 
 pub step_version : (x : WrittenTables) (c : WrittenTable) (k : KnownValue) (t : Token) → Fits stage.Version x c k
-    → Both (Follows k t) (next_reading stage.Version x c (terminal_of t)) (after state.Version t.kind)
+    → Both (Follows k t) (next_reading stage.Version x c (terminal_of t)) (after_token state.Version t.kind)
 step_version x c k t h =
-    by_token (Follows k t) (next_reading stage.Version x c) (after state.Version) t tt (
+    by_token (Follows k t) (next_reading stage.Version x c) (after_token state.Version) t tt (
       refl,
       (
         refl,
-        subst (λ a. Gives (declared_so (opened (number_in t))) (Declares (opened (number_in t))) (known_after a tells.Version t)) (sym h)
-            (gives_unless (Declares (opened (number_in t))) (version_fault (number_in t)) (so_far nothing_declared [] [] [] [] []) (record first_partial { version = t.value })
+        subst (λ a. Gives (declared_so (opened (number_of_token t))) (Declares (opened (number_of_token t))) (known_after a tells.Version t)) (sym h)
+            (gives_unless (Declares (opened (number_of_token t))) (version_fault (number_of_token t)) (so_far nothing_declared [] [] [] [] []) (record first_partial { version = t.value })
             (record { version = refl; said = refl; tables = refl; parts = record { buckets = refl; matches = refl; sets = refl } })),
       ),
     )
     (λ l m. none_if (Follows k t) _ _ m.numbered)
 
 pub step_between : (x : WrittenTables) (c : WrittenTable) (k : KnownValue) (t : Token) → Fits stage.Between x c k
-    → Both (Follows k t) (next_reading stage.Between x c (terminal_of t)) (after state.Between t.kind)
+    → Both (Follows k t) (next_reading stage.Between x c (terminal_of t)) (after_token state.Between t.kind)
 step_between x c k t h =
-    by_token (Follows k t) (next_reading stage.Between x c) (after state.Between) t tt tt
+    by_token (Follows k t) (next_reading stage.Between x c) (after_token state.Between) t tt tt
     (λ l m. begins x c k tells.Nothing t l (h.0, gives_still (declared_so x) (Declares x) (Declares x) k t (λ v p d. d) h.1))
 
 -- ---- fields and the tag
 
 pub step_field : (x : WrittenTables) (c : WrittenTable) (k : KnownValue) (t : Token) → Fits (stage.Declared declaring.Field) x c k
-    → Both (Follows k t) (next_reading (stage.Declared declaring.Field) x c (terminal_of t)) (after state.Field t.kind)
+    → Both (Follows k t) (next_reading (stage.Declared declaring.Field) x c (terminal_of t)) (after_token state.Field t.kind)
 step_field x c k t h =
-    by_token (Follows k t) (next_reading (stage.Declared declaring.Field) x c) (after state.Field) t (
+    by_token (Follows k t) (next_reading (stage.Declared declaring.Field) x c) (after_token state.Field) t (
       refl,
       (
         h.0,
-        gives_on (declared_so x) (declared_so x) (λ v. Ok v) (Declares x) (λ v p. Declares x v p × (p.declaring.name ≡ word_in t)) k tells.FieldName t
-            (then_ok (declared_so x)) (λ v p d. (same_declares x v p (record p.declaring { name = word_in t }) d refl, refl)) h.1,
+        gives_on (declared_so x) (declared_so x) (λ v. Ok v) (Declares x) (λ v p. Declares x v p × (p.declaring.name ≡ word_of_token t)) k tells.FieldName t
+            (then_ok (declared_so x)) (λ v p d. (same_declares x v p (record p.declaring { name = word_of_token t }) d refl, refl)) h.1,
       ),
     )
     tt (λ l m. none_if (Follows k t) _ _ m.named)
 
 pub step_named : (x : WrittenTables) (c : WrittenTable) (w : Word) (k : KnownValue) (t : Token) → Fits (stage.Declared (declaring.FieldNamed w)) x c k
-    → Both (Follows k t) (next_reading (stage.Declared (declaring.FieldNamed w)) x c (terminal_of t)) (after state.FieldNamed t.kind)
+    → Both (Follows k t) (next_reading (stage.Declared (declaring.FieldNamed w)) x c (terminal_of t)) (after_token state.FieldNamed t.kind)
 step_named x c w k t h =
-    by_token (Follows k t) (next_reading (stage.Declared (declaring.FieldNamed w)) x c) (after state.FieldNamed) t tt (
+    by_token (Follows k t) (next_reading (stage.Declared (declaring.FieldNamed w)) x c) (after_token state.FieldNamed) t tt (
       refl,
       (
         h.0,
-        gives_on (declared_so x) (declared_so (with_declaration x (declared.Field w (number_in t)))) (λ v. and_then (read_of (declared_with v.said (declare.field w (number_in t)))) (λ s. Ok (so_far s [] [] [] [] [])))
-            (λ v p. Declares x v p × (p.declaring.name ≡ w)) (Declares (with_declaration x (declared.Field w (number_in t)))) k tells.FieldMax t
-            (declaration_more x (declared.Field w (number_in t)))
-            (λ v p d. gives_said (with_declaration x (declared.Field w (number_in t))) p (declared_with v.said (declare.field w (number_in t))) (declared_with p.declaring.said (declare.field p.declaring.name (number_in t)))
-            (ap (λ s. declared_with s (declare.field p.declaring.name (number_in t))) d.0.said ∙ ap (λ y. declared_with v.said (declare.field y (number_in t))) d.1)
-            (real_with v.said (declare.field w (number_in t))) d.0.version d.0.tables d.0.parts) h.1,
+        gives_on (declared_so x) (declared_so (with_declaration x (declared.Field w (number_of_token t)))) (λ v. and_then (read_of (declared_with v.said (declare.field w (number_of_token t)))) (λ s. Ok (so_far s [] [] [] [] [])))
+            (λ v p. Declares x v p × (p.declaring.name ≡ w)) (Declares (with_declaration x (declared.Field w (number_of_token t)))) k tells.FieldMax t
+            (declaration_more x (declared.Field w (number_of_token t)))
+            (λ v p d. gives_said (with_declaration x (declared.Field w (number_of_token t))) p (declared_with v.said (declare.field w (number_of_token t))) (declared_with p.declaring.said (declare.field p.declaring.name (number_of_token t)))
+            (ap (λ s. declared_with s (declare.field p.declaring.name (number_of_token t))) d.0.said ∙ ap (λ y. declared_with v.said (declare.field y (number_of_token t))) d.1)
+            (real_with v.said (declare.field w (number_of_token t))) d.0.version d.0.tables d.0.parts) h.1,
       ),
     )
     (λ l m. none_if (Follows k t) _ _ m.numbered)
 
 pub step_tag : (x : WrittenTables) (c : WrittenTable) (k : KnownValue) (t : Token) → Fits (stage.Declared declaring.Tag) x c k
-    → Both (Follows k t) (next_reading (stage.Declared declaring.Tag) x c (terminal_of t)) (after state.Tag t.kind)
+    → Both (Follows k t) (next_reading (stage.Declared declaring.Tag) x c (terminal_of t)) (after_token state.Tag t.kind)
 step_tag x c k t h =
-    by_token (Follows k t) (next_reading (stage.Declared declaring.Tag) x c) (after state.Tag) t (
+    by_token (Follows k t) (next_reading (stage.Declared declaring.Tag) x c) (after_token state.Tag) t (
       refl,
       (
         h.0,
-        gives_on (declared_so x) (declared_so (with_declaration x (declared.Tag (word_in t)))) (λ v. and_then (read_of (declared_with v.said (declare.tag (word_in t)))) (λ s. Ok (so_far s [] [] [] [] [])))
-            (Declares x) (Declares (with_declaration x (declared.Tag (word_in t)))) k tells.Tag t
-            (declaration_more x (declared.Tag (word_in t)))
-            (λ v p d. gives_said (with_declaration x (declared.Tag (word_in t))) p (declared_with v.said (declare.tag (word_in t))) (declared_with p.declaring.said (declare.tag (word_in t)))
-            (ap (λ s. declared_with s (declare.tag (word_in t))) d.said)
-            (real_with v.said (declare.tag (word_in t))) d.version d.tables d.parts) h.1,
+        gives_on (declared_so x) (declared_so (with_declaration x (declared.Tag (word_of_token t)))) (λ v. and_then (read_of (declared_with v.said (declare.tag (word_of_token t)))) (λ s. Ok (so_far s [] [] [] [] [])))
+            (Declares x) (Declares (with_declaration x (declared.Tag (word_of_token t)))) k tells.Tag t
+            (declaration_more x (declared.Tag (word_of_token t)))
+            (λ v p d. gives_said (with_declaration x (declared.Tag (word_of_token t))) p (declared_with v.said (declare.tag (word_of_token t))) (declared_with p.declaring.said (declare.tag (word_of_token t)))
+            (ap (λ s. declared_with s (declare.tag (word_of_token t))) d.said)
+            (real_with v.said (declare.tag (word_of_token t))) d.version d.tables d.parts) h.1,
       ),
     )
     tt (λ l m. none_if (Follows k t) _ _ m.named)
@@ -224,25 +224,25 @@ new_switch topo n e = by (is_switch topo n.value) ((none_both (above 65535 n) (f
     by false q = refl
 
 pub step_switch : (x : WrittenTables) (c : WrittenTable) (k : KnownValue) (t : Token) → Fits (stage.Declared declaring.Switch) x c k
-    → Both (Follows k t) (next_reading (stage.Declared declaring.Switch) x c (terminal_of t)) (after state.Switch t.kind)
+    → Both (Follows k t) (next_reading (stage.Declared declaring.Switch) x c (terminal_of t)) (after_token state.Switch t.kind)
 step_switch x c k t h =
-    by_token (Follows k t) (next_reading (stage.Declared declaring.Switch) x c) (after state.Switch) t tt (
+    by_token (Follows k t) (next_reading (stage.Declared declaring.Switch) x c) (after_token state.Switch) t tt (
       refl,
       (
         h.0,
-        gives_on (declared_so x) (switch_so x (number_in t)) (λ v. unless_declared (number_fault v.said.topo (number_in t)) v) (Declares x) (Ported x (number_in t) []) k tells.Switch t refl
-            (λ v p d. gives_declaring (Ported x (number_in t) []) (number_fault v.said.topo (number_in t)) (number_fault p.declaring.said.topo (number_in t)) v p
-            (record p.declaring { switch = t.value; ports = [] }) (ap (λ s. number_fault s.topo (number_in t)) (sym d.said)) (real_number v.said.topo (number_in t))
-            (λ e. (same_declares x v p (record p.declaring { switch = t.value; ports = [] }) d refl, refl, refl, new_switch v.said.topo (number_in t) e))) h.1,
+        gives_on (declared_so x) (switch_so x (number_of_token t)) (λ v. unless_declared (number_fault v.said.topo (number_of_token t)) v) (Declares x) (Ported x (number_of_token t) []) k tells.Switch t refl
+            (λ v p d. gives_declaring (Ported x (number_of_token t) []) (number_fault v.said.topo (number_of_token t)) (number_fault p.declaring.said.topo (number_of_token t)) v p
+            (record p.declaring { switch = t.value; ports = [] }) (ap (λ s. number_fault s.topo (number_of_token t)) (sym d.said)) (real_number v.said.topo (number_of_token t))
+            (λ e. (same_declares x v p (record p.declaring { switch = t.value; ports = [] }) d refl, refl, refl, new_switch v.said.topo (number_of_token t) e))) h.1,
       ),
     )
     (λ l m. none_if (Follows k t) _ _ m.numbered)
 
 pub step_numbered : (x : WrittenTables) (c : WrittenTable) (n : Number) (k : KnownValue) (t : Token) → Fits (stage.Declared (declaring.SwitchNumbered n)) x c k
-    → Both (Follows k t) (next_reading (stage.Declared (declaring.SwitchNumbered n)) x c (terminal_of t)) (after state.SwitchNumbered t.kind)
+    → Both (Follows k t) (next_reading (stage.Declared (declaring.SwitchNumbered n)) x c (terminal_of t)) (after_token state.SwitchNumbered t.kind)
 step_numbered x c n k t h =
-    by_token (Follows k t) (next_reading (stage.Declared (declaring.SwitchNumbered n)) x c) (after state.SwitchNumbered) t tt tt
-    (λ l m. both_last (Follows k t) (place_of kind.Ports == place_of l) (reading (stage.Declared (declaring.FirstPort n)) x c) (state.FirstPort, tells.Nothing)
+    by_token (Follows k t) (next_reading (stage.Declared (declaring.SwitchNumbered n)) x c) (after_token state.SwitchNumbered) t tt tt
+    (λ l m. both_last (Follows k t) (kind_place kind.Ports == kind_place l) (reading (stage.Declared (declaring.FirstPort n)) x c) (state.FirstPort, tells.Nothing)
     (refl, (h.0, gives_still (switch_so x n) (Ported x n []) (Ported x n []) k t (λ v p d. d) h.1)))
 
 -- one more port
@@ -276,39 +276,39 @@ more_port x n ps q =
 
 -- what is known of one more port
 port_gives : (x : WrittenTables) (n : Number) (ps : List ℕ) (v : Sofar) (p : PartialValue) (t : Token) → Ported x n ps v p
-    → Gives (unless_declared (port_fault ps (number_in t)) v) (Ported x n (ps ++ t.value ∷ []))
-    (known_of (with_declaring p (unless_declared (port_fault p.declaring.ports (number_in t)) (record p.declaring { ports = p.declaring.ports ++ t.value ∷ [] }))))
+    → Gives (unless_declared (port_fault ps (number_of_token t)) v) (Ported x n (ps ++ t.value ∷ []))
+    (known_of (with_declaring p (unless_declared (port_fault p.declaring.ports (number_of_token t)) (record p.declaring { ports = p.declaring.ports ++ t.value ∷ [] }))))
 port_gives x n ps v p t d =
-    gives_declaring (Ported x n (ps ++ t.value ∷ [])) (port_fault ps (number_in t)) (port_fault p.declaring.ports (number_in t)) v p
-    (record p.declaring { ports = p.declaring.ports ++ t.value ∷ [] }) (ap (λ l. port_fault l (number_in t)) (sym d.2)) (real_port ps (number_in t))
+    gives_declaring (Ported x n (ps ++ t.value ∷ [])) (port_fault ps (number_of_token t)) (port_fault p.declaring.ports (number_of_token t)) v p
+    (record p.declaring { ports = p.declaring.ports ++ t.value ∷ [] }) (ap (λ l. port_fault l (number_of_token t)) (sym d.2)) (real_port ps (number_of_token t))
     (λ e. (same_declares x v p (record p.declaring { ports = p.declaring.ports ++ t.value ∷ [] }) d.0 refl, d.1, ap (λ l. l ++ t.value ∷ []) d.2, d.3))
 
 pub step_first_port : (x : WrittenTables) (c : WrittenTable) (n : Number) (k : KnownValue) (t : Token) → Fits (stage.Declared (declaring.FirstPort n)) x c k
-    → Both (Follows k t) (next_reading (stage.Declared (declaring.FirstPort n)) x c (terminal_of t)) (after state.FirstPort t.kind)
+    → Both (Follows k t) (next_reading (stage.Declared (declaring.FirstPort n)) x c (terminal_of t)) (after_token state.FirstPort t.kind)
 step_first_port x c n k t h =
-    by_token (Follows k t) (next_reading (stage.Declared (declaring.FirstPort n)) x c) (after state.FirstPort) t tt (
+    by_token (Follows k t) (next_reading (stage.Declared (declaring.FirstPort n)) x c) (after_token state.FirstPort) t tt (
       refl,
       (
         h.0,
-        gives_on (switch_so x n) (ports_so x n (number_in t ∷ [])) (λ v. unless_declared (port_fault [] (number_in t)) v) (Ported x n []) (Ported x n (t.value ∷ [])) k tells.Port t
-            (first_port x n (number_in t)) (λ v p d. port_gives x n [] v p t d) h.1,
+        gives_on (switch_so x n) (ports_so x n (number_of_token t ∷ [])) (λ v. unless_declared (port_fault [] (number_of_token t)) v) (Ported x n []) (Ported x n (t.value ∷ [])) k tells.Port t
+            (first_port x n (number_of_token t)) (λ v p d. port_gives x n [] v p t d) h.1,
       ),
     )
     (λ l m. none_if (Follows k t) _ _ m.numbered)
 
 pub step_next_port : (x : WrittenTables) (c : WrittenTable) (n q : Number) (qs : List Number) (k : KnownValue) (t : Token) → Fits (stage.Declared (declaring.NextPort n q qs)) x c k
-    → Both (Follows k t) (next_reading (stage.Declared (declaring.NextPort n q qs)) x c (terminal_of t)) (after state.NextPort t.kind)
+    → Both (Follows k t) (next_reading (stage.Declared (declaring.NextPort n q qs)) x c (terminal_of t)) (after_token state.NextPort t.kind)
 step_next_port x c n q qs k t h =
-    by_token (Follows k t) (next_reading (stage.Declared (declaring.NextPort n q qs)) x c) (after state.NextPort) t tt (
+    by_token (Follows k t) (next_reading (stage.Declared (declaring.NextPort n q qs)) x c) (after_token state.NextPort) t tt (
       refl,
       (
         h.0,
-        gives_on (ports_so x n (q ∷ qs)) (ports_so x n ((q ∷ qs) ++ number_in t ∷ [])) (λ v. unless_declared (port_fault (values_of (q ∷ qs)) (number_in t)) v)
-            (Ported x n (values_of (q ∷ qs))) (Ported x n (values_of ((q ∷ qs) ++ number_in t ∷ []))) k tells.Port t
-            (more_port x n (q ∷ qs) (number_in t))
-            (λ v p d. subst (λ l. Gives (unless_declared (port_fault (values_of (q ∷ qs)) (number_in t)) v) (Ported x n l)
-            (known_of (with_declaring p (unless_declared (port_fault p.declaring.ports (number_in t)) (record p.declaring { ports = p.declaring.ports ++ t.value ∷ [] })))))
-            (sym (values_more (q ∷ qs) (number_in t))) (port_gives x n (values_of (q ∷ qs)) v p t d)) h.1,
+        gives_on (ports_so x n (q ∷ qs)) (ports_so x n ((q ∷ qs) ++ number_of_token t ∷ [])) (λ v. unless_declared (port_fault (values_of (q ∷ qs)) (number_of_token t)) v)
+            (Ported x n (values_of (q ∷ qs))) (Ported x n (values_of ((q ∷ qs) ++ number_of_token t ∷ []))) k tells.Port t
+            (more_port x n (q ∷ qs) (number_of_token t))
+            (λ v p d. subst (λ l. Gives (unless_declared (port_fault (values_of (q ∷ qs)) (number_of_token t)) v) (Ported x n l)
+            (known_of (with_declaring p (unless_declared (port_fault p.declaring.ports (number_of_token t)) (record p.declaring { ports = p.declaring.ports ++ t.value ∷ [] })))))
+            (sym (values_more (q ∷ qs) (number_of_token t))) (port_gives x n (values_of (q ∷ qs)) v p t d)) h.1,
       ),
     )
     (λ l m. none_if (Follows k t) _ _ m.numbered)
@@ -349,10 +349,10 @@ switch_ends x n q qs v p d = record {
 }
 
 pub step_port : (x : WrittenTables) (c : WrittenTable) (n q : Number) (qs : List Number) (k : KnownValue) (t : Token) → Fits (stage.Declared (declaring.PortRead n q qs)) x c k
-    → Both (Follows k t) (next_reading (stage.Declared (declaring.PortRead n q qs)) x c (terminal_of t)) (after state.PortRead t.kind)
+    → Both (Follows k t) (next_reading (stage.Declared (declaring.PortRead n q qs)) x c (terminal_of t)) (after_token state.PortRead t.kind)
 step_port x c n q qs k t h =
-    by_token (Follows k t) (next_reading (stage.Declared (declaring.PortRead n q qs)) x c) (after state.PortRead) t tt tt
-    (λ l m. both_if (Follows k t) (place_of kind.Comma == place_of l) (reading (stage.Declared (declaring.NextPort n q qs)) x c) (state.NextPort, tells.Nothing) _ _
+    by_token (Follows k t) (next_reading (stage.Declared (declaring.PortRead n q qs)) x c) (after_token state.PortRead) t tt tt
+    (λ l m. both_if (Follows k t) (kind_place kind.Comma == kind_place l) (reading (stage.Declared (declaring.NextPort n q qs)) x c) (state.NextPort, tells.Nothing) _ _
     (refl, (h.0, gives_still (ports_so x n (q ∷ qs)) (Ported x n (values_of (q ∷ qs))) (Ported x n (values_of (q ∷ qs))) k t (λ v p d. d) h.1))
     (begins (with_declaration x (declared.Switch n q qs)) c k tells.SwitchEnds t l (
       h.0,
@@ -367,68 +367,68 @@ Links x q v p = Declares x v p × Linked q p.declaring
 
 -- a link goes on without a number
 link_goes : (x : WrittenTables) (c : WrittenTable) (q r : Quad) (b : Bool) (st : State) (k : KnownValue) (t : Token)
-    → st ≡ state_of (stage.Declared (declaring.Link r)) → ((d : DeclaringValue) → Linked q d → Linked r d) → Fits (stage.Declared (declaring.Link q)) x c k
+    → st ≡ state_of_stage (stage.Declared (declaring.Link r)) → ((d : DeclaringValue) → Linked q d → Linked r d) → Fits (stage.Declared (declaring.Link q)) x c k
     → Both (Follows k t) (link_on x c (if b then next.Going r else next.Refused)) (if b then Some (st, tells.Nothing) else None)
 link_goes x c q r b st k t e step h =
     both_through (Follows k t) (link_on x c) (λ (z : MaybeStep). z) b (next.Going r) next.Refused (Some (st, tells.Nothing)) None
     (e, (h.0, gives_still (declared_so x) (Links x q) (Links x r) k t (λ v p d. (d.0, step p.declaring d.1)) h.1)) tt
 
 pub step_link : (x : WrittenTables) (c : WrittenTable) (q : Quad) (k : KnownValue) (t : Token) → Fits (stage.Declared (declaring.Link q)) x c k
-    → Both (Follows k t) (next_reading (stage.Declared (declaring.Link q)) x c (terminal_of t)) (after (state_of (stage.Declared (declaring.Link q))) t.kind)
+    → Both (Follows k t) (next_reading (stage.Declared (declaring.Link q)) x c (terminal_of t)) (after_token (state_of_stage (stage.Declared (declaring.Link q))) t.kind)
 step_link x c quad.Start k t h =
-    by_token (Follows k t) (next_reading (stage.Declared (declaring.Link quad.Start)) x c) (after (state.Link link.Start)) t tt (
+    by_token (Follows k t) (next_reading (stage.Declared (declaring.Link quad.Start)) x c) (after_token (state.Link link.Start)) t tt (
       refl,
       (
         h.0,
-        gives_on (declared_so x) (declared_so x) (λ v. Ok v) (Links x quad.Start) (Links x (quad.Switch (number_in t))) k tells.LinkSwitch t (then_ok (declared_so x))
-            (λ v p d. (same_declares x v p (record p.declaring { from_switch = number_in t }) d.0 refl, refl)) h.1,
+        gives_on (declared_so x) (declared_so x) (λ v. Ok v) (Links x quad.Start) (Links x (quad.Switch (number_of_token t))) k tells.LinkSwitch t (then_ok (declared_so x))
+            (λ v p d. (same_declares x v p (record p.declaring { from_switch = number_of_token t }) d.0 refl, refl)) h.1,
       ),
     )
     (λ l m. none_if (Follows k t) _ _ m.numbered)
 step_link x c (quad.Switch a) k t h =
-    by_token (Follows k t) (next_reading (stage.Declared (declaring.Link (quad.Switch a))) x c) (after (state.Link link.Switch)) t tt tt
-    (λ l m. link_goes x c (quad.Switch a) (quad.SwitchColon a) (place_of kind.Colon == place_of l) (state.Link link.SwitchColon) k t refl (λ d y. y) h)
+    by_token (Follows k t) (next_reading (stage.Declared (declaring.Link (quad.Switch a))) x c) (after_token (state.Link link.Switch)) t tt tt
+    (λ l m. link_goes x c (quad.Switch a) (quad.SwitchColon a) (kind_place kind.Colon == kind_place l) (state.Link link.SwitchColon) k t refl (λ d y. y) h)
 step_link x c (quad.SwitchColon a) k t h =
-    by_token (Follows k t) (next_reading (stage.Declared (declaring.Link (quad.SwitchColon a))) x c) (after (state.Link link.SwitchColon)) t tt (
+    by_token (Follows k t) (next_reading (stage.Declared (declaring.Link (quad.SwitchColon a))) x c) (after_token (state.Link link.SwitchColon)) t tt (
       refl,
       (
         h.0,
-        gives_on (declared_so x) (declared_so x) (λ v. Ok v) (Links x (quad.SwitchColon a)) (Links x (quad.Port a (number_in t))) k tells.LinkPort t (then_ok (declared_so x))
-            (λ v p d. (same_declares x v p (record p.declaring { from_port = number_in t }) d.0 refl, (d.1, refl))) h.1,
+        gives_on (declared_so x) (declared_so x) (λ v. Ok v) (Links x (quad.SwitchColon a)) (Links x (quad.Port a (number_of_token t))) k tells.LinkPort t (then_ok (declared_so x))
+            (λ v p d. (same_declares x v p (record p.declaring { from_port = number_of_token t }) d.0 refl, (d.1, refl))) h.1,
       ),
     )
     (λ l m. none_if (Follows k t) _ _ m.numbered)
 step_link x c (quad.Port a n) k t h =
-    by_token (Follows k t) (next_reading (stage.Declared (declaring.Link (quad.Port a n))) x c) (after (state.Link link.Port)) t tt tt
-    (λ l m. link_goes x c (quad.Port a n) (quad.Arrow a n) (place_of kind.Arrow == place_of l) (state.Link link.Arrow) k t refl (λ d y. y) h)
+    by_token (Follows k t) (next_reading (stage.Declared (declaring.Link (quad.Port a n))) x c) (after_token (state.Link link.Port)) t tt tt
+    (λ l m. link_goes x c (quad.Port a n) (quad.Arrow a n) (kind_place kind.Arrow == kind_place l) (state.Link link.Arrow) k t refl (λ d y. y) h)
 step_link x c (quad.Arrow a n) k t h =
-    by_token (Follows k t) (next_reading (stage.Declared (declaring.Link (quad.Arrow a n))) x c) (after (state.Link link.Arrow)) t tt (
+    by_token (Follows k t) (next_reading (stage.Declared (declaring.Link (quad.Arrow a n))) x c) (after_token (state.Link link.Arrow)) t tt (
       refl,
       (
         h.0,
-        gives_on (declared_so x) (declared_so x) (λ v. Ok v) (Links x (quad.Arrow a n)) (Links x (quad.ToSwitch a n (number_in t))) k tells.LinkToSwitch t (then_ok (declared_so x))
-            (λ v p d. (same_declares x v p (record p.declaring { to_switch = number_in t }) d.0 refl, (d.1.0, d.1.1, refl))) h.1,
+        gives_on (declared_so x) (declared_so x) (λ v. Ok v) (Links x (quad.Arrow a n)) (Links x (quad.ToSwitch a n (number_of_token t))) k tells.LinkToSwitch t (then_ok (declared_so x))
+            (λ v p d. (same_declares x v p (record p.declaring { to_switch = number_of_token t }) d.0 refl, (d.1.0, d.1.1, refl))) h.1,
       ),
     )
     (λ l m. none_if (Follows k t) _ _ m.numbered)
 step_link x c (quad.ToSwitch a n b) k t h =
-    by_token (Follows k t) (next_reading (stage.Declared (declaring.Link (quad.ToSwitch a n b))) x c) (after (state.Link link.ToSwitch)) t tt tt
-    (λ l m. link_goes x c (quad.ToSwitch a n b) (quad.ToColon a n b) (place_of kind.Colon == place_of l) (state.Link link.ToColon) k t refl (λ d y. y) h)
+    by_token (Follows k t) (next_reading (stage.Declared (declaring.Link (quad.ToSwitch a n b))) x c) (after_token (state.Link link.ToSwitch)) t tt tt
+    (λ l m. link_goes x c (quad.ToSwitch a n b) (quad.ToColon a n b) (kind_place kind.Colon == kind_place l) (state.Link link.ToColon) k t refl (λ d y. y) h)
 step_link x c (quad.ToColon a n b) k t h =
-    by_token (Follows k t) (next_reading (stage.Declared (declaring.Link (quad.ToColon a n b))) x c) (after (state.Link link.ToColon)) t tt (
+    by_token (Follows k t) (next_reading (stage.Declared (declaring.Link (quad.ToColon a n b))) x c) (after_token (state.Link link.ToColon)) t tt (
       refl,
       (
         h.0,
-        gives_on (declared_so x) (declared_so (with_declaration x (declared.Link a n b (number_in t)))) (λ v. and_then (read_of (declared_with v.said (declare.link a n b (number_in t)))) (λ s. Ok (so_far s [] [] [] [] [])))
-            (Links x (quad.ToColon a n b)) (Declares (with_declaration x (declared.Link a n b (number_in t)))) k tells.LinkToPort t
-            (declaration_more x (declared.Link a n b (number_in t)))
-            (λ v p d. gives_said (with_declaration x (declared.Link a n b (number_in t))) p (declared_with v.said (declare.link a n b (number_in t)))
-            (declared_with p.declaring.said (declare.link p.declaring.from_switch p.declaring.from_port p.declaring.to_switch (number_in t)))
-            (ap (λ s. declared_with s (declare.link p.declaring.from_switch p.declaring.from_port p.declaring.to_switch (number_in t))) d.0.said
-            ∙ ap (λ y. declared_with v.said (declare.link y p.declaring.from_port p.declaring.to_switch (number_in t))) d.1.0
-            ∙ ap (λ y. declared_with v.said (declare.link a y p.declaring.to_switch (number_in t))) d.1.1
-            ∙ ap (λ y. declared_with v.said (declare.link a n y (number_in t))) d.1.2)
-            (real_with v.said (declare.link a n b (number_in t))) d.0.version d.0.tables d.0.parts) h.1,
+        gives_on (declared_so x) (declared_so (with_declaration x (declared.Link a n b (number_of_token t)))) (λ v. and_then (read_of (declared_with v.said (declare.link a n b (number_of_token t)))) (λ s. Ok (so_far s [] [] [] [] [])))
+            (Links x (quad.ToColon a n b)) (Declares (with_declaration x (declared.Link a n b (number_of_token t)))) k tells.LinkToPort t
+            (declaration_more x (declared.Link a n b (number_of_token t)))
+            (λ v p d. gives_said (with_declaration x (declared.Link a n b (number_of_token t))) p (declared_with v.said (declare.link a n b (number_of_token t)))
+            (declared_with p.declaring.said (declare.link p.declaring.from_switch p.declaring.from_port p.declaring.to_switch (number_of_token t)))
+            (ap (λ s. declared_with s (declare.link p.declaring.from_switch p.declaring.from_port p.declaring.to_switch (number_of_token t))) d.0.said
+            ∙ ap (λ y. declared_with v.said (declare.link y p.declaring.from_port p.declaring.to_switch (number_of_token t))) d.1.0
+            ∙ ap (λ y. declared_with v.said (declare.link a y p.declaring.to_switch (number_of_token t))) d.1.1
+            ∙ ap (λ y. declared_with v.said (declare.link a n y (number_of_token t))) d.1.2)
+            (real_with v.said (declare.link a n b (number_of_token t))) d.0.version d.0.tables d.0.parts) h.1,
       ),
     )
     (λ l m. none_if (Follows k t) _ _ m.numbered)

@@ -11,7 +11,7 @@ use Rattle.nk_table.specs.declared.Row.{Row}
 use Rattle.nk_table.specs.declared.Table.{Table}
 use Rattle.nk_topo.specs.Topology.{is_switch}
 use Rattle.nk_declare.specs.declared.fault.DeclareError.TheVariants as refused
-use Rattle.nk_declare.specs.Declarations.{MaybeFault, place_in, most_in, switch_fault, values_of}
+use Rattle.nk_declare.specs.Declarations.{MaybeFault, place_of_field, most_in, switch_fault, values_of}
 use Rattle.nk_tabgrammar.specs.declared.written.WrittenTable.{WrittenTable}
 use Rattle.nk_tabgrammar.specs.declared.written.WrittenTables.{WrittenTables}
 use Rattle.nk_tabgrammar.specs.declared.written.ReadError.{ReadError}
@@ -34,7 +34,7 @@ use Rattle.nk_tabgrammar.specs.declared.states.Tells.{Tells}
 use Rattle.nk_tabgrammar.specs.declared.states.Tells.TheVariants as tells
 use Rattle.nk_declare.specs.Declarations.{number_fault}
 use Rattle.nk_tabtext.specs.Values.{FaultLine, checked, unless_at}
-use Rattle.nk_tabtext.specs.Progress.{DeclaringValue, FillingValue, PartialValue, KnownValue, Sound, Faulty, finished, first_partial, known_after, known_of, told, unless_declared, with_declaring, with_filling, with_table}
+use Rattle.nk_tabtext.specs.Progress.{DeclaringValue, FillingValue, PartialValue, KnownValue, Sound, Faulty, finished, first_partial, known_after, known_of, told, unless_declared, with_declaring, with_filling, with_filled}
 use Rattle.nk_tabtext.proofs.Stages.{Sofar, Value, declared_so, tabled_so, grouped_so, rowed_so, numbered_so, filled_so, matched_so, assigned_so, named_so, left_so, called_so, tested_so}
 
 -- ---- what is known, by what is said
@@ -95,10 +95,10 @@ module _ {Y : Type 0} (S : Y → PartialValue → Type 0) where
       on (Some l) = refl
 
   pub gives_table : (o o' : FaultLine) (y : Y) (p : PartialValue) (f : FillingValue) (ts : List (ℕ × Table)) → o ≡ o' → S y (record p { filling = f; tables = ts })
-      → Gives (checked o (Ok y)) S (known_of (with_table p (unless_at o' (f, ts))))
-  gives_table o o' y p f ts e s = subst (λ a. Gives (checked o (Ok y)) S (known_of (with_table p (unless_at a (f, ts))))) e (on o)
+      → Gives (checked o (Ok y)) S (known_of (with_filled p (unless_at o' (f, ts))))
+  gives_table o o' y p f ts e s = subst (λ a. Gives (checked o (Ok y)) S (known_of (with_filled p (unless_at a (f, ts))))) e (on o)
     where
-      on : (a : FaultLine) → Gives (checked a (Ok y)) S (known_of (with_table p (unless_at a (f, ts))))
+      on : (a : FaultLine) → Gives (checked a (Ok y)) S (known_of (with_filled p (unless_at a (f, ts))))
       on None = s
       on (Some l) = refl
 
@@ -189,7 +189,7 @@ NoRows (owner.Row q ms) c = Unit {0}
 
 -- the field is told
 abbrev pub IsField : Word → Sofar → PartialValue → Type 0
-IsField w v p = (p.filling.field ≡ place_in v.said.fields w) × (p.filling.max ≡ most_in v.said.fields w)
+IsField w v p = (p.filling.field ≡ place_of_field v.said.fields w) × (p.filling.max ≡ most_in v.said.fields w)
 
 abbrev pub ports_so : WrittenTables → Number → List Number → Value
 ports_so x n ps = and_then (declared_so x) (λ v. unless_declared (switch_fault v.said.topo n ps) v)

@@ -4,12 +4,12 @@ use Rattle.std.specs.Prelude.{◌==◌, if◌then◌else◌}
 use Rattle.nk_lex.specs.declared.kind.Kind.{Kind}
 use Rattle.nk_lex.specs.declared.kind.Kind.TheVariants as kind
 use Rattle.nk_lex.specs.declared.token.Token.{Token}
-use Rattle.nk_tabgrammar.specs.Terminal.{Terminal, name, number, mark, place_of, terminal_from, terminal_of}
+use Rattle.nk_tabgrammar.specs.Terminal.{Terminal, name, number, mark, kind_place, terminal_from, terminal_of}
 use Rattle.nk_tabgrammar.specs.Machine.{Reading}
 use Rattle.nk_tabgrammar.specs.declared.states.State.{State}
 use Rattle.nk_tabgrammar.specs.declared.states.Tells.{Tells}
-use Rattle.nk_tabgrammar.specs.States.{MaybeStep, or_else, state_of}
-use Rattle.nk_tabtext.specs.Progress.{KnownValue, known_after, number_in, word_in}
+use Rattle.nk_tabgrammar.specs.States.{MaybeStep, or_else, state_of_stage}
+use Rattle.nk_tabtext.specs.Progress.{KnownValue, known_after, number_of_token, word_of_token}
 use Rattle.nk_tabtext.proofs.Fitting.{Fits}
 
 -- both stop, or both go on so
@@ -20,16 +20,16 @@ Both R a b = ⊥
 
 -- the states go on to the stage, and what is known then fits it
 abbrev pub Follows : KnownValue → Token → Reading → State × Tells → Type 0
-Follows k t r s = (s.0 ≡ state_of r.stage) × Fits r.stage r.text r.table (known_after k s.1 t)
+Follows k t r s = (s.0 ≡ state_of_stage r.stage) × Fits r.stage r.text r.table (known_after k s.1 t)
 
 -- the kind of a token that is no name and no number
 pub record IsMark (k : Kind) : Type 0 where
-  pub named : (place_of kind.Name == place_of k) ≡ false
-  pub numbered : (place_of kind.Number == place_of k) ≡ false
+  pub named : (kind_place kind.Name == kind_place k) ≡ false
+  pub numbered : (kind_place kind.Number == kind_place k) ≡ false
 
 -- by what a token is
 by_kind : (R : Reading → State × Tells → Type 0) (f : Terminal → Option Reading) (g : Kind → MaybeStep) (t : Token) (k : Kind)
-    → Both R (f (name (word_in t))) (g kind.Name) → Both R (f (number (number_in t))) (g kind.Number) → ((l : Kind) → IsMark l → Both R (f (mark l)) (g l))
+    → Both R (f (name (word_of_token t))) (g kind.Name) → Both R (f (number (number_of_token t))) (g kind.Number) → ((l : Kind) → IsMark l → Both R (f (mark l)) (g l))
     → Both R (f (terminal_from k t.line t.value t.text)) (g k)
 by_kind R f g t kind.Name a b m = a
 by_kind R f g t kind.Number a b m = b
@@ -71,7 +71,7 @@ by_kind R f g t kind.OpenBracket a b m = m kind.OpenBracket (record { named = re
 by_kind R f g t kind.CloseBracket a b m = m kind.CloseBracket (record { named = refl; numbered = refl })
 
 pub by_token : (R : Reading → State × Tells → Type 0) (f : Terminal → Option Reading) (g : Kind → MaybeStep) (t : Token)
-    → Both R (f (name (word_in t))) (g kind.Name) → Both R (f (number (number_in t))) (g kind.Number) → ((l : Kind) → IsMark l → Both R (f (mark l)) (g l))
+    → Both R (f (name (word_of_token t))) (g kind.Name) → Both R (f (number (number_of_token t))) (g kind.Number) → ((l : Kind) → IsMark l → Both R (f (mark l)) (g l))
     → Both R (f (terminal_of t)) (g t.kind)
 by_token R f g t a b m = by_kind R f g t t.kind a b m
 

@@ -13,7 +13,7 @@ use Rattle.nk_tabgrammar.specs.declared.written.ReadError.{ReadError}
 use Rattle.nk_tabtext.specs.InOrder.{MatchesAscend}
 use Rattle.nk_tabtext.specs.Text.{is_tag, is_exact, name_of}
 use Rattle.nk_declare.specs.Declarations.{is_from}
-use Rattle.nk_tabtext.specs.Values.{line_if, unless_at, length_in, length_fault, ones_fault, match_read, put_match, matches_read}
+use Rattle.nk_tabtext.specs.Values.{line_if, unless_at, length_in, length_fault, ones_fault, match_read, placed_match, matches_read}
 use Rattle.nk_tabtext.proofs.Keyed.{kept_where, match_field, matches_where, Below, Ascend, AtMostOne, both_miss, below_more, below_push, below_misses, above_misses, where_ascends, all_where, one_tag}
 use Rattle.nk_tabtext.proofs.Lines.{number_on, written_length, written_match}
 
@@ -24,7 +24,7 @@ fields_ascend k (m ∷ ms) a = (a.0, fields_ascend (m.0 + 1) ms a.1)
 
 -- a match put between those below and those above
 insert_mid : (k : ℕ) (xs ys : List (ℕ × ℕ × ℕ)) (m : ℕ × ℕ × ℕ) → Below match_field k xs → k ≤ m.0 → Ascend match_field (m.0 + 1) ys
-    → put_match m (xs ++ ys) ≡ xs ++ m ∷ ys
+    → placed_match m (xs ++ ys) ≡ xs ++ m ∷ ys
 insert_mid k [] [] m h le a = refl
 insert_mid k [] (y ∷ ys) m h le a = placed_front (λ x. nat_lt x.0 m.0) m y ys (no_less y.0 m.0 (omega (arith, a.0)))
   where
@@ -111,10 +111,10 @@ fine_read version fs line before m h none =
 
 -- the same of what is read behind it
 step_read : (version : ℕ) (fs : FieldTable) (line : ℕ) (before after : List (ℕ × ℕ × ℕ)) (m : ℕ × ℕ × ℕ) (ms : List (ℕ × ℕ × ℕ)) → IsFine version fs m
-    → list_any (λ s. s.0 == m.0) before ≡ false → put_match m before ≡ after
+    → list_any (λ s. s.0 == m.0) before ≡ false → placed_match m before ≡ after
     → matches_read version fs before (map (written_match fs line) (m ∷ ms)) ≡ matches_read version fs after (map (written_match fs line) ms)
 step_read version fs line before after m ms h none e =
-    ap (λ r. and_then r (λ s. matches_read version fs (put_match s before) (map (written_match fs line) ms))) (fine_read version fs line before m h none)
+    ap (λ r. and_then r (λ s. matches_read version fs (placed_match s before) (map (written_match fs line) ms))) (fine_read version fs line before m h none)
     ∙ ap (λ l. matches_read version fs l (map (written_match fs line) ms)) e
 
 -- the matches of a row behind that of the tag

@@ -27,7 +27,7 @@ use Rattle.nk_tabtext.specs.Text.{name_of, have_prefix, field_lines, tag_line, s
 use Rattle.nk_tabtext.specs.Values.{line_if, unless_at, checked, plain_declaration, read_of, said_after, tables_read, table_for, whole, tables_from, lexed}
 use Rattle.nk_lex.specs.Spans.{last_line}
 use Rattle.nk_lex.specs.Faults.{and_then}
-use Rattle.nk_tabtext.specs.ReadBack.{IsPrintable, IsReadBack, IsTableOf}
+use Rattle.nk_tabtext.specs.ReadBack.{ArePrintableTables, AreReadBack, IsPrintableTable}
 use Rattle.nk_tabtext.proofs.Lines.{left3, left4, terminals_on, of_tokens, word_on, number_on, feed_apart, flat_joined}
 use Rattle.nk_tabtext.proofs.TableLines.{behind, written_tables, lex_tables, table_lines, tables_bytes, tables_apart, tables_spelled, AreTablesShown}
 use Rattle.nk_tabtext.proofs.HeadLines.{AreFieldsShown, lex_fields, written_fields, behind_fields, fields_bytes, fields_apart, fields_spelled, lex_tag, tag_bytes, tag_apart, tag_spelled, lex_switches, written_switches, switches_bytes, switches_apart, switches_spelled, AreLinksShown, lex_links, written_links, links_bytes, links_apart, links_spelled}
@@ -236,7 +236,7 @@ values t f line h =
 all_behind_two : {X : Type 0} (P : X → Type 0) (xs : List X) (a b : X) → take 2 xs ≡ a ∷ b ∷ [] → All P xs → All P (drop 2 xs)
 all_behind_two P xs a b e h = All-tail P b (drop 2 xs) (All-tail P a (b ∷ drop 2 xs) (subst (All P) (sym (two_first xs a b e)) h))
 
-fits : (t : Tables) (f : ℕ) → IsPrintable t → t.fields.tag ≡ Some f → Fits t f
+fits : (t : Tables) (f : ℕ) → ArePrintableTables t → t.fields.tag ≡ Some f → Fits t f
 fits t f h e = record {
   table = is;
   tag = e;
@@ -299,13 +299,13 @@ fits t f h e = record {
         (sym (found_in_tables (have_prefix t.fields) 0 [] t.tables tt (tables_rise t.topo 0 t.tables numbers) ∙ e))
         h.each)
 
-    tables : AllByRecursion (IsTableOf t.fields) t.tables
-    tables = recursion_from_All (IsTableOf t.fields) t.tables h.tables
+    tables : AllByRecursion (IsPrintableTable t.fields) t.tables
+    tables = recursion_from_All (IsPrintableTable t.fields) t.tables h.tables
 
-pub reads_printed : (t : Tables) → IsPrintable t → IsReadBack t
+pub reads_printed : (t : Tables) → ArePrintableTables t → AreReadBack t
 reads_printed t h = by t.fields.tag refl h.tag
   where
-    with_tag : (f : ℕ) → Fits t f → IsReadBack t
+    with_tag : (f : ℕ) → Fits t f → AreReadBack t
     with_tag f k =
         let ts = tokens_from 1 0 (lexemes t f) in
         let cut : tokens_of (table_bytes t) ≡ Ok ts = subst (λ l. tokens_of l ≡ Ok ts) (bytes_are t f k) (cuts (lexemes t f) (apart t f k)) in
@@ -318,6 +318,6 @@ reads_printed t h = by t.fields.tag refl h.tag
               ∙ values t f (last_line 1 ts) k;
         }
 
-    by : (o : Option ℕ) → t.fields.tag ≡ o → IsSome o → IsReadBack t
+    by : (o : Option ℕ) → t.fields.tag ≡ o → IsSome o → AreReadBack t
     by None e s = absurd cc
     by (Some f) e s = with_tag f (fits t f h e)

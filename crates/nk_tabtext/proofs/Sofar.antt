@@ -21,7 +21,7 @@ use Rattle.nk_tabgrammar.specs.declared.written.WrittenRow.{WrittenRow}
 use Rattle.nk_tabgrammar.specs.declared.written.WrittenGroup.{WrittenGroup}
 use Rattle.nk_tabgrammar.specs.declared.written.WrittenTable.{WrittenTable}
 use Rattle.nk_tabgrammar.specs.declared.written.ReadError.{ReadError}
-use Rattle.nk_tabtext.specs.Values.{FaultLine, bucket_read, buckets_read, checked, group_read, groups_read, match_read, matches_read, pair_read, pairs_read, plain_declaration, put_match, read_of, row_read, rows_read, said_after, table_read, tables_read, unless_at}
+use Rattle.nk_tabtext.specs.Values.{FaultLine, bucket_read, buckets_read, checked, group_read, groups_read, match_read, matches_read, pair_read, pairs_read, plain_declaration, placed_match, read_of, row_read, rows_read, said_after, table_read, tables_read, unless_at}
 
 -- ---- results one behind the other
 
@@ -75,11 +75,11 @@ pairs_more fs low before (q ∷ ps) p =
     ∙ sym (then_assoc (pair_read fs low before q) (λ s. pairs_read fs low (act_then before (s ∷ [])) ps) (λ l. and_then (pair_read fs low l p) (λ s. Ok (act_then l (s ∷ [])))))
 
 pub matches_more : (version : ℕ) (fs : FieldTable) (before : List (ℕ × ℕ × ℕ)) (ms : List WrittenMatch) (m : WrittenMatch)
-    → matches_read version fs before (ms ++ m ∷ []) ≡ and_then (matches_read version fs before ms) (λ l. and_then (match_read version fs l m) (λ s. Ok (put_match s l)))
+    → matches_read version fs before (ms ++ m ∷ []) ≡ and_then (matches_read version fs before ms) (λ l. and_then (match_read version fs l m) (λ s. Ok (placed_match s l)))
 matches_more version fs before [] m = refl
 matches_more version fs before (a ∷ ms) m =
-    then_same (match_read version fs before a) _ _ (λ s. matches_more version fs (put_match s before) ms m)
-    ∙ sym (then_assoc (match_read version fs before a) (λ s. matches_read version fs (put_match s before) ms) (λ l. and_then (match_read version fs l m) (λ s. Ok (put_match s l))))
+    then_same (match_read version fs before a) _ _ (λ s. matches_more version fs (placed_match s before) ms m)
+    ∙ sym (then_assoc (match_read version fs before a) (λ s. matches_read version fs (placed_match s before) ms) (λ l. and_then (match_read version fs l m) (λ s. Ok (placed_match s l))))
 
 pub buckets_more : (fs : FieldTable) (before : List Bucket) (bs : List WrittenBucket) (b : WrittenBucket)
     → buckets_read fs before (bs ++ b ∷ []) ≡ and_then (buckets_read fs before bs) (λ l. and_then (bucket_read fs b) (λ x. Ok (l ++ x ∷ [])))

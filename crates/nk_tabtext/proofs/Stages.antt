@@ -19,7 +19,7 @@ use Rattle.nk_table.specs.declared.Group.{Group}
 use Rattle.nk_table.specs.declared.Row.{Row}
 use Rattle.nk_table.specs.declared.Table.{Table}
 use Rattle.nk_table.specs.declared.Target.TheVariants as does
-use Rattle.nk_declare.specs.Declarations.{DeclaredValue, nothing_declared, declared_with, is_from, place_in, most_in}
+use Rattle.nk_declare.specs.Declarations.{DeclaredValue, nothing_declared, declared_with, is_from, place_of_field, most_in}
 use Rattle.nk_tabgrammar.specs.declared.written.Pair.{Pair}
 use Rattle.nk_tabgrammar.specs.declared.written.Way.{Way}
 use Rattle.nk_tabgrammar.specs.declared.written.Declaration.{Declaration}
@@ -32,7 +32,7 @@ use Rattle.nk_tabgrammar.specs.declared.written.ReadError.{ReadError}
 use Rattle.nk_tabgrammar.specs.declared.stage.Owner.{Owner}
 use Rattle.nk_tabgrammar.specs.declared.stage.Owner.TheVariants as owner
 use Rattle.nk_tabgrammar.specs.Machine.{with_declaration, with_table, with_group, with_row, with_match, row_written}
-use Rattle.nk_tabtext.specs.Values.{FaultLine, bucket_with, checked, digits_in, group_fault, group_of, group_read, groups_read, has_key, length_fault, line_above, line_if, matches_read, ones_fault, pairs_read, plain_declaration, put_match, read_of, row_with, rows_read, said_after, table_fault, table_with, tables_read, version_fault, way_read}
+use Rattle.nk_tabtext.specs.Values.{FaultLine, bucket_with, checked, digits_in, group_fault, group_of, group_read, groups_read, has_key, length_fault, line_above, line_if, matches_read, ones_fault, pairs_read, plain_declaration, placed_match, read_of, row_with, rows_read, said_after, table_fault, table_with, tables_read, version_fault, way_read}
 use Rattle.nk_tabtext.specs.Progress.{match_set}
 use Rattle.nk_tabtext.proofs.Sofar.{then_assoc, checked_assoc, checked_first, unless_assoc, said_more, pairs_more, matches_more, buckets_more, groups_more, rows_more, tables_more}
 
@@ -132,7 +132,7 @@ with_matches v ms = so_far v.said v.tables v.groups v.rows [] ms
 abbrev pub tested_so : WrittenTables → WrittenTable → Number → List WrittenMatch → Word → Number → Value
 tested_so x c p ms w n =
     and_then (called_so x c p ms w) (λ v. checked (line_above (most_in v.said.fields w) n)
-    (Ok (with_matches v (put_match (place_in v.said.fields w, n.value, digits_in v.said.fields w) v.matches))))
+    (Ok (with_matches v (placed_match (place_of_field v.said.fields w, n.value, digits_in v.said.fields w) v.matches))))
 
 -- ---- one more part
 
@@ -181,7 +181,7 @@ bucket_more x c g ps e = simp (buckets_more, then_assoc, checked_assoc)
 
 pub pair_more : (x : WrittenTables) (c : WrittenTable) (o : Owner) (ps : List Pair) (w : Word) (n : Number)
     → assigned_so x c o (ps ++ record { name = w; number = n } ∷ [])
-    ≡ and_then (named_so x c o ps w) (λ v. checked (line_above (most_in v.said.fields w) n) (Ok (with_sets v (act_then v.sets ((place_in v.said.fields w, n.value) ∷ [])) exit.Back)))
+    ≡ and_then (named_so x c o ps w) (λ v. checked (line_above (most_in v.said.fields w) n) (Ok (with_sets v (act_then v.sets ((place_of_field v.said.fields w, n.value) ∷ [])) exit.Back)))
 pair_more x c o ps w n = simp (pairs_more, then_assoc, checked_assoc, checked_first, unless_assoc)
 
 -- of all digits no zeros have to follow
@@ -195,7 +195,7 @@ no_ones d n = ap (λ k. line_if (not (n.value % 2 ^ k == 0)) n.line) (none d) �
     mod_one m = omega arith
 
 -- a match that takes the place of one of its field
-put_again : (f v d l : ℕ) (ms : List (ℕ × ℕ × ℕ)) → match_set (f, v, l) (put_match (f, v, d) ms) ≡ put_match (f, v, l) ms
+put_again : (f v d l : ℕ) (ms : List (ℕ × ℕ × ℕ)) → match_set (f, v, l) (placed_match (f, v, d) ms) ≡ placed_match (f, v, l) ms
 put_again f v d l [] = ap (λ b. if b then (f, v, d) ∷ match_set (f, v, l) [] else (f, v, l) ∷ []) (not_less f)
   where
     not_less : (n : ℕ) → nat_lt n n ≡ false
@@ -208,11 +208,11 @@ put_again f v d l (m ∷ ms) = by (nat_lt m.0 f) refl (put_again f v d l ms)
     lower : ℕ × ℕ × ℕ → Bool
     lower x = nat_lt x.0 f
 
-    by : (b : Bool) → nat_lt m.0 f ≡ b → match_set (f, v, l) (put_match (f, v, d) ms) ≡ put_match (f, v, l) ms
-        → match_set (f, v, l) (put_match (f, v, d) (m ∷ ms)) ≡ put_match (f, v, l) (m ∷ ms)
+    by : (b : Bool) → nat_lt m.0 f ≡ b → match_set (f, v, l) (placed_match (f, v, d) ms) ≡ placed_match (f, v, l) ms
+        → match_set (f, v, l) (placed_match (f, v, d) (m ∷ ms)) ≡ placed_match (f, v, l) (m ∷ ms)
     by true e ih =
         ap (match_set (f, v, l)) (placed_behind (λ x. nat_lt x.0 f) (f, v, d) m ms e)
-        ∙ ap (λ b. if b then m ∷ match_set (f, v, l) (put_match (f, v, d) ms) else (f, v, l) ∷ put_match (f, v, d) ms) e
+        ∙ ap (λ b. if b then m ∷ match_set (f, v, l) (placed_match (f, v, d) ms) else (f, v, l) ∷ placed_match (f, v, d) ms) e
         ∙ ap (λ r. m ∷ r) ih
         ∙ sym (placed_behind (λ x. nat_lt x.0 f) (f, v, l) m ms e)
     by false e ih =
@@ -227,5 +227,5 @@ match_more x c p ms w n = simp (matches_more, then_assoc, checked_assoc, checked
 pub match_more_length : (x : WrittenTables) (c : WrittenTable) (p : Number) (ms : List WrittenMatch) (w : Word) (n l : Number)
     → matched_so x c p (with_match ms w n (Some l))
     ≡ and_then (tested_so x c p ms w n) (λ v. checked (first_of (length_fault x.version.value (digits_in v.said.fields w) (Some l)) (ones_fault (digits_in v.said.fields w) l.value n))
-    (Ok (with_matches v (match_set (place_in v.said.fields w, n.value, l.value) v.matches))))
+    (Ok (with_matches v (match_set (place_of_field v.said.fields w, n.value, l.value) v.matches))))
 match_more_length x c p ms w n l = simp (matches_more, then_assoc, checked_assoc, checked_first, unless_assoc, put_again)

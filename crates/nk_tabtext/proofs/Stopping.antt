@@ -4,14 +4,14 @@ use Rattle.std.specs.Prelude.{◌↔◌, None, Some, Bool, is_none, option_and_t
 use Rattle.std.specs.List.{fold}
 use Rattle.nk_lex.specs.declared.token.Token.{Token}
 use Rattle.nk_tabgrammar.specs.Answer.{terminals}
-use Rattle.nk_tabgrammar.specs.Spelling.{GoesOn}
+use Rattle.nk_tabgrammar.specs.Spelling.{TableTextGoesOn}
 use Rattle.nk_tabgrammar.specs.Terminal.{Terminal, terminal_of}
 use Rattle.nk_tabgrammar.specs.Machine.{Reading, first_reading, next_reading, read_all, read_one, reading, written_at_end}
 use Rattle.nk_tabgrammar.specs.declared.states.State.{State}
 use Rattle.nk_tabgrammar.specs.declared.stage.Stage.{Stage}
 use Rattle.nk_tabgrammar.specs.declared.written.WrittenTable.{WrittenTable}
 use Rattle.nk_tabgrammar.specs.declared.written.WrittenTables.{WrittenTables}
-use Rattle.nk_tabgrammar.specs.States.{MaybeStep, after, state_of}
+use Rattle.nk_tabgrammar.specs.States.{MaybeStep, after_token, state_of_stage}
 use Rattle.nk_tabgrammar.proofs.Spelled.{front_of, none_some}
 use Rattle.nk_tabgrammar.proofs.Passing.{text_passes}
 use Rattle.nk_tabgrammar.proofs.Completing.{completes}
@@ -31,18 +31,18 @@ stays (t ∷ ts) s line l = stays ts s line l
 
 -- it stops where the reading machine does
 stops_here : (ts : List Token) (s : Stage) (x : WrittenTables) (c : WrittenTable) (k : KnownValue) (line : ℕ) → Fits s x c k
-    → is_stopped (fold progress_after (at_place (state_of s) line k) ts).known ≡ is_none (read_all (terminals ts) (reading s x c))
+    → is_stopped (fold progress_after (at_place (state_of_stage s) line k) ts).known ≡ is_none (read_all (terminals ts) (reading s x c))
 stops_here [] s x c k line h = not_stopped k (going s x c k h)
 stops_here (t ∷ ts) s x c k line h =
-    ap (λ p. is_stopped (fold progress_after p ts).known) (goes_on k (at_place (state_of s) line k) t (going s x c k h))
-    ∙ by (next_reading s x c (terminal_of t)) (after (state_of s) t.kind) (λ r l f. stops_here ts r.stage r.text r.table l t.line f) (step s x c k t h)
+    ap (λ p. is_stopped (fold progress_after p ts).known) (goes_on k (at_place (state_of_stage s) line k) t (going s x c k h))
+    ∙ by (next_reading s x c (terminal_of t)) (after_token (state_of_stage s) t.kind) (λ r l f. stops_here ts r.stage r.text r.table l t.line f) (step s x c k t h)
   where
     by : (r : Option Reading) (z : MaybeStep)
         → ((r : Reading) (l : KnownValue) → Fits r.stage r.text r.table l
-        → is_stopped (fold progress_after (at_place (state_of r.stage) t.line l) ts).known ≡ is_none (read_all (terminals ts) r))
+        → is_stopped (fold progress_after (at_place (state_of_stage r.stage) t.line l) ts).known ≡ is_none (read_all (terminals ts) r))
         → Both (Follows k t) r z
-        → is_stopped (fold progress_after (step_on z (at_place (state_of s) line k) t) ts).known ≡ is_none (option_and_then (read_all (terminals ts)) r)
-    by None None ih b = stays ts (state_of s) line t.line
+        → is_stopped (fold progress_after (step_on z (at_place (state_of_stage s) line k) t) ts).known ≡ is_none (option_and_then (read_all (terminals ts)) r)
+    by None None ih b = stays ts (state_of_stage s) line t.line
     by (Some r) (Some z) ih b =
         ap (λ a. is_stopped (fold progress_after (at_place a t.line (known_after k z.1 t)) ts).known) b.0 ∙ ih r (known_after k z.1 t) b.1
     by None (Some z) ih b = absurd b
@@ -60,11 +60,11 @@ read_append (x ∷ xs) ys r = by_step (read_one r x) (read_append xs ys)
     by_step (Some r) go = go r
 
 -- tokens that are taken are the front of a text
-text_goes_on : (ts : List Terminal) (r : Reading) → read_all ts first_reading ≡ Some r → GoesOn ts
-text_goes_on ts r e = let at = front_of ts r e in subst GoesOn (sym at.0) (completes r.stage r.text r.table at.1)
+text_goes_on : (ts : List Terminal) (r : Reading) → read_all ts first_reading ≡ Some r → TableTextGoesOn ts
+text_goes_on ts r e = let at = front_of ts r e in subst TableTextGoesOn (sym at.0) (completes r.stage r.text r.table at.1)
 
 -- tokens that are refused are the front of none
-text_stops : (ts : List Terminal) → read_all ts first_reading ≡ None → GoesOn ts → ⊥
+text_stops : (ts : List Terminal) → read_all ts first_reading ≡ None → TableTextGoesOn ts → ⊥
 text_stops ts e g =
     let refused : read_all (ts ++ g.0) first_reading ≡ None = read_append ts g.0 first_reading ∙ ap (option_and_then (read_all g.0)) e in
     none_some g.1 (ap (option_and_then written_at_end) (sym refused) ∙ ap (λ l. option_and_then written_at_end (read_all l first_reading)) g.2 ∙ text_passes g.1)
@@ -75,7 +75,7 @@ stops_with_texts ts =
     (stops_here ts first_reading.stage first_reading.text first_reading.table first_progress.known 1 refl)
   where
     by : (b : Bool) (o : Option Reading) → read_all (terminals ts) first_reading ≡ o → b ≡ is_none (read_all (terminals ts) first_reading)
-        → (b ≡ true) ↔ (GoesOn (terminals ts) → ⊥)
+        → (b ≡ true) ↔ (TableTextGoesOn (terminals ts) → ⊥)
     by b None e h = (λ i. text_stops (terminals ts) e, λ n. h ∙ ap is_none e)
     by b (Some r) e h = (λ i. absurd (differ (sym i ∙ h ∙ ap is_none e)), λ n. absurd (n (text_goes_on (terminals ts) r e)))
       where

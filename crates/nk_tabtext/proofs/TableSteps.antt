@@ -24,7 +24,7 @@ use Rattle.nk_tabgrammar.specs.declared.stage.Owner.TheVariants as owner
 use Rattle.nk_tabgrammar.specs.declared.stage.Stage.TheVariants as stage
 use Rattle.nk_tabgrammar.specs.declared.stage.Grouping.TheVariants as grouping
 use Rattle.nk_tabgrammar.specs.declared.stage.InRow.TheVariants as in_row
-use Rattle.nk_tabgrammar.specs.Terminal.{mark, place_of, terminal_of}
+use Rattle.nk_tabgrammar.specs.Terminal.{mark, kind_place, terminal_of}
 use Rattle.nk_tabgrammar.specs.Machine.{begin_group, begin_row, next_reading, no_table, opened_table, reading, with_group, with_table}
 use Rattle.nk_tabgrammar.specs.declared.states.BucketState.TheVariants as bucket
 use Rattle.nk_tabgrammar.specs.declared.states.RowState.TheVariants as row
@@ -32,9 +32,9 @@ use Rattle.nk_tabgrammar.specs.declared.states.State.TheVariants as state
 use Rattle.nk_tabgrammar.specs.declared.states.Tells.{Tells}
 use Rattle.nk_tabgrammar.specs.declared.states.Tells.TheVariants as tells
 use Rattle.nk_tabgrammar.specs.States as states
-use Rattle.nk_tabgrammar.specs.States.{MaybeStep, after, after_in, bucket_state, in_bucket, or_else, state_of}
+use Rattle.nk_tabgrammar.specs.States.{after_token}
 use Rattle.nk_tabtext.specs.Values.{FaultLine, checked, group_fault, group_of, table_fault, table_with}
-use Rattle.nk_tabtext.specs.Progress.{FillingValue, PartialValue, KnownValue, finished, finished_at, group_ends_told, known_after, number_in}
+use Rattle.nk_tabtext.specs.Progress.{FillingValue, PartialValue, KnownValue, finished, finished_at, group_ends_told, known_after, number_of_token}
 use Rattle.nk_tabtext.proofs.Stages.{Sofar, so_far, with_sets, tabled_so, grouped_so, rowed_so, numbered_so, filled_so, owned_so, assigned_so, table_more, no_row_more, group_more}
 use Rattle.nk_tabtext.proofs.Fitting.{Closes, Fits, Gives, Groups, Opens, Owns, Rows, gives_filling, gives_more, gives_on, gives_still, gives_table}
 use Rattle.nk_tabtext.proofs.Going.{Both, Follows, both_if, both_last, by_token, none_if}
@@ -96,29 +96,29 @@ groups_rows x c k e h =
 pub rows_begin : (x : WrittenTables) (c : WrittenTable) (k : KnownValue) (tl : Tells) (t : Token) (l : Kind) → Gives (rowed_so x c) (Rows x c) (known_after k tl t)
     → Both (Follows k t) (begin_row x c (mark l)) (states.begin_row l tl)
 rows_begin x c k tl t l h =
-    both_if (Follows k t) (place_of kind.Row == place_of l) (reading (stage.InRow in_row.Row) x c) (state.Row row.Row, tl) _ _ (refl, h)
-    (both_last (Follows k t) (place_of kind.Table == place_of l) (reading stage.Table (with_table x c) no_table) (state.Table, tl)
+    both_if (Follows k t) (kind_place kind.Row == kind_place l) (reading (stage.InRow in_row.Row) x c) (state.Row row.Row, tl) _ _ (refl, h)
+    (both_last (Follows k t) (kind_place kind.Table == kind_place l) (reading stage.Table (with_table x c) no_table) (state.Table, tl)
     (refl, table_closes x c (known_after k tl t) h))
 
 -- a group begins, or a row, or the next table
 pub groups_begin : (x : WrittenTables) (c : WrittenTable) (k : KnownValue) (tl : Tells) (t : Token) (l : Kind) → c.rows ≡ [] → Gives (grouped_so x c) (Groups x c) (known_after k tl t)
     → Both (Follows k t) (begin_group x c (mark l)) (states.begin_group l tl)
 groups_begin x c k tl t l e h =
-    both_if (Follows k t) (place_of kind.Group == place_of l) (reading (stage.Grouped grouping.Group) x c) (state.Group, tl) _ _ (refl, (e, h))
+    both_if (Follows k t) (kind_place kind.Group == kind_place l) (reading (stage.Grouped grouping.Group) x c) (state.Group, tl) _ _ (refl, (e, h))
     (rows_begin x c k tl t l (groups_rows x c (known_after k tl t) e h))
 
 pub step_table : (x : WrittenTables) (c : WrittenTable) (k : KnownValue) (t : Token) → Fits stage.Table x c k
-    → Both (Follows k t) (next_reading stage.Table x c (terminal_of t)) (after state.Table t.kind)
+    → Both (Follows k t) (next_reading stage.Table x c (terminal_of t)) (after_token state.Table t.kind)
 step_table x c k t h =
-    by_token (Follows k t) (next_reading stage.Table x c) (after state.Table) t tt (
+    by_token (Follows k t) (next_reading stage.Table x c) (after_token state.Table) t tt (
       refl,
       (
         refl,
-        gives_on (tabled_so x) (grouped_so x (opened_table (number_in t))) (λ v. checked_ok (table_fault v.said.topo v.tables (number_in t)) (so_far v.said v.tables [] [] [] []))
-            (λ v p. Closes x v.tables v p) (Groups x (opened_table (number_in t))) k tells.Table t refl
-            (λ v p d. gives_table (Groups x (opened_table (number_in t))) (table_fault v.said.topo v.tables (number_in t)) (table_fault p.declaring.said.topo (finished p.tables p.filling) (number_in t))
+        gives_on (tabled_so x) (grouped_so x (opened_table (number_of_token t))) (λ v. checked_ok (table_fault v.said.topo v.tables (number_of_token t)) (so_far v.said v.tables [] [] [] []))
+            (λ v p. Closes x v.tables v p) (Groups x (opened_table (number_of_token t))) k tells.Table t refl
+            (λ v p d. gives_table (Groups x (opened_table (number_of_token t))) (table_fault v.said.topo v.tables (number_of_token t)) (table_fault p.declaring.said.topo (finished p.tables p.filling) (number_of_token t))
             (so_far v.said v.tables [] [] [] []) p (record p.filling { switch = Some t.value; groups = []; rows = [] }) (finished p.tables p.filling)
-            (ap (λ s. table_fault s.topo v.tables (number_in t)) (sym d.said) ∙ ap (λ l. table_fault p.declaring.said.topo l (number_in t)) (sym d.tables)) (
+            (ap (λ s. table_fault s.topo v.tables (number_of_token t)) (sym d.said) ∙ ap (λ l. table_fault p.declaring.said.topo l (number_of_token t)) (sym d.tables)) (
               record { version = d.version; said = d.said; tables = d.tables; switch = refl; groups = refl; rows = refl },
               record { buckets = d.parts.buckets; matches = d.parts.matches; sets = d.parts.sets },
             )) h,
@@ -127,29 +127,29 @@ step_table x c k t h =
     (λ l m. none_if (Follows k t) _ _ m.numbered)
 
 pub step_groups : (x : WrittenTables) (c : WrittenTable) (k : KnownValue) (t : Token) → Fits stage.Groups x c k
-    → Both (Follows k t) (next_reading stage.Groups x c (terminal_of t)) (after state.Groups t.kind)
+    → Both (Follows k t) (next_reading stage.Groups x c (terminal_of t)) (after_token state.Groups t.kind)
 step_groups x c k t h =
-    by_token (Follows k t) (next_reading stage.Groups x c) (after state.Groups) t tt tt
+    by_token (Follows k t) (next_reading stage.Groups x c) (after_token state.Groups) t tt tt
     (λ l m. groups_begin x c k tells.Nothing t l h.0 (gives_still (grouped_so x c) (Groups x c) (Groups x c) k t (λ v p d. d) h.1))
 
 pub step_rows : (x : WrittenTables) (c : WrittenTable) (k : KnownValue) (t : Token) → Fits stage.Rows x c k
-    → Both (Follows k t) (next_reading stage.Rows x c (terminal_of t)) (after state.Rows t.kind)
+    → Both (Follows k t) (next_reading stage.Rows x c (terminal_of t)) (after_token state.Rows t.kind)
 step_rows x c k t h =
-    by_token (Follows k t) (next_reading stage.Rows x c) (after state.Rows) t tt tt
+    by_token (Follows k t) (next_reading stage.Rows x c) (after_token state.Rows) t tt tt
     (λ l m. rows_begin x c k tells.Nothing t l (gives_still (rowed_so x c) (Rows x c) (Rows x c) k t (λ v p d. d) h))
 
 pub step_group : (x : WrittenTables) (c : WrittenTable) (k : KnownValue) (t : Token) → Fits (stage.Grouped grouping.Group) x c k
-    → Both (Follows k t) (next_reading (stage.Grouped grouping.Group) x c (terminal_of t)) (after state.Group t.kind)
+    → Both (Follows k t) (next_reading (stage.Grouped grouping.Group) x c (terminal_of t)) (after_token state.Group t.kind)
 step_group x c k t h =
-    by_token (Follows k t) (next_reading (stage.Grouped grouping.Group) x c) (after state.Group) t tt (
+    by_token (Follows k t) (next_reading (stage.Grouped grouping.Group) x c) (after_token state.Group) t tt (
       refl,
       (
         h.0,
-        gives_on (grouped_so x c) (numbered_so x c (number_in t)) (λ v. checked_ok (group_fault v.groups (number_in t)) (so_far v.said v.tables v.groups [] [] []))
-            (Groups x c) (Owns x c (owner.First (number_in t)) []) k tells.Group t refl
-            (λ v p d. gives_filling (Owns x c (owner.First (number_in t)) []) (group_fault v.groups (number_in t)) (group_fault p.filling.groups (number_in t))
+        gives_on (grouped_so x c) (numbered_so x c (number_of_token t)) (λ v. checked_ok (group_fault v.groups (number_of_token t)) (so_far v.said v.tables v.groups [] [] []))
+            (Groups x c) (Owns x c (owner.First (number_of_token t)) []) k tells.Group t refl
+            (λ v p d. gives_filling (Owns x c (owner.First (number_of_token t)) []) (group_fault v.groups (number_of_token t)) (group_fault p.filling.groups (number_of_token t))
             (so_far v.said v.tables v.groups [] [] []) p (record p.filling { number = t.value; buckets = [] })
-            (ap (λ l. group_fault l (number_in t)) (sym d.0.groups)) (
+            (ap (λ l. group_fault l (number_of_token t)) (sym d.0.groups)) (
               opens_still x c c [] [] v (so_far v.said v.tables v.groups [] [] []) p (record p.filling { number = t.value; buckets = [] }) d.0 refl refl refl refl d.0.groups d.0.rows,
               record { buckets = refl; matches = d.1.matches; sets = d.1.sets },
               refl,
@@ -159,10 +159,10 @@ step_group x c k t h =
     (λ l m. none_if (Follows k t) _ _ m.numbered)
 
 pub step_group_numbered : (x : WrittenTables) (c : WrittenTable) (n : Number) (k : KnownValue) (t : Token) → Fits (stage.Grouped (grouping.GroupNumbered n)) x c k
-    → Both (Follows k t) (next_reading (stage.Grouped (grouping.GroupNumbered n)) x c (terminal_of t)) (after state.GroupNumbered t.kind)
+    → Both (Follows k t) (next_reading (stage.Grouped (grouping.GroupNumbered n)) x c (terminal_of t)) (after_token state.GroupNumbered t.kind)
 step_group_numbered x c n k t h =
-    by_token (Follows k t) (next_reading (stage.Grouped (grouping.GroupNumbered n)) x c) (after state.GroupNumbered) t tt tt
-    (λ l m. both_last (Follows k t) (place_of kind.Equal == place_of l) (reading (stage.Grouped (grouping.FirstBucket n)) x c) (state.FirstBucket, tells.Nothing)
+    by_token (Follows k t) (next_reading (stage.Grouped (grouping.GroupNumbered n)) x c) (after_token state.GroupNumbered) t tt tt
+    (λ l m. both_last (Follows k t) (kind_place kind.Equal == kind_place l) (reading (stage.Grouped (grouping.FirstBucket n)) x c) (state.FirstBucket, tells.Nothing)
     (refl, (h.0, gives_still (numbered_so x c n) (Owns x c (owner.First n) []) (Owns x c (owner.First n) []) k t (λ v p d. d) h.1)))
 
 -- ---- a bucket begins
@@ -209,10 +209,10 @@ bucket_opens x c o k t h =
     (gives_still (owned_so x c o) (Owns x c o []) (Owns x c o []) k t (λ v p d. d) h)
 
 pub step_first_bucket : (x : WrittenTables) (c : WrittenTable) (n : Number) (k : KnownValue) (t : Token) → Fits (stage.Grouped (grouping.FirstBucket n)) x c k
-    → Both (Follows k t) (next_reading (stage.Grouped (grouping.FirstBucket n)) x c (terminal_of t)) (after state.FirstBucket t.kind)
+    → Both (Follows k t) (next_reading (stage.Grouped (grouping.FirstBucket n)) x c (terminal_of t)) (after_token state.FirstBucket t.kind)
 step_first_bucket x c n k t h =
-    by_token (Follows k t) (next_reading (stage.Grouped (grouping.FirstBucket n)) x c) (after state.FirstBucket) t tt tt
-    (λ l m. both_last (Follows k t) (place_of kind.OpenBracket == place_of l) (reading (stage.InBucket (owner.First n) (place.Sets [])) x c) (state.InGroup bucket.Sets, tells.Nothing)
+    by_token (Follows k t) (next_reading (stage.Grouped (grouping.FirstBucket n)) x c) (after_token state.FirstBucket) t tt tt
+    (λ l m. both_last (Follows k t) (kind_place kind.OpenBracket == kind_place l) (reading (stage.InBucket (owner.First n) (place.Sets [])) x c) (state.InGroup bucket.Sets, tells.Nothing)
     (refl, (h.0, bucket_opens x c (owner.First n) k t h.1)))
 
 -- the group is whole
@@ -228,10 +228,10 @@ group_closes x c g v p d = (
 )
 
 pub step_bucket_read : (x : WrittenTables) (c : WrittenTable) (g : WrittenGroup) (k : KnownValue) (t : Token) → Fits (stage.Grouped (grouping.BucketRead g)) x c k
-    → Both (Follows k t) (next_reading (stage.Grouped (grouping.BucketRead g)) x c (terminal_of t)) (after state.BucketRead t.kind)
+    → Both (Follows k t) (next_reading (stage.Grouped (grouping.BucketRead g)) x c (terminal_of t)) (after_token state.BucketRead t.kind)
 step_bucket_read x c g k t h =
-    by_token (Follows k t) (next_reading (stage.Grouped (grouping.BucketRead g)) x c) (after state.BucketRead) t tt tt
-    (λ l m. both_if (Follows k t) (place_of kind.OpenBracket == place_of l) (reading (stage.InBucket (owner.Next g) (place.Sets [])) x c) (state.InGroup bucket.Sets, tells.Nothing) _ _
+    by_token (Follows k t) (next_reading (stage.Grouped (grouping.BucketRead g)) x c) (after_token state.BucketRead) t tt tt
+    (λ l m. both_if (Follows k t) (kind_place kind.OpenBracket == kind_place l) (reading (stage.InBucket (owner.Next g) (place.Sets [])) x c) (state.InGroup bucket.Sets, tells.Nothing) _ _
     (refl, (h.0, bucket_opens x c (owner.Next g) k t h.1))
     (groups_begin x (with_group c g) k tells.GroupEnds t l h.0
     (gives_on (filled_so x c g) (grouped_so x (with_group c g)) (λ v. Ok (so_far v.said v.tables (insert_entry nat_cmp v.groups g.number.value (group_of g.number v.buckets)) [] [] []))

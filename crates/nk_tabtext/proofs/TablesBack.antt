@@ -22,7 +22,7 @@ use Rattle.nk_table.specs.declared.Exit.TheVariants as exit
 use Rattle.nk_table.specs.Rules.{rows_of, groups_of}
 use Rattle.nk_tabtext.specs.InOrder.{MatchesAscend}
 use Rattle.nk_tabtext.specs.Text.{is_exact, have_prefix, section_text}
-use Rattle.nk_tabtext.specs.ReadBack.{IsExit, IsBucketOf, IsGroupOf, IsTargetOf, IsMatchOf, IsRowOf, IsTableOf}
+use Rattle.nk_tabtext.specs.ReadBack.{IsExit, IsPrintableBucket, IsPrintableGroup, IsPrintableTarget, IsPrintableMatch, IsPrintableRow, IsPrintableTable}
 use Rattle.nk_declare.specs.Declarations.{DeclaredValue}
 use Rattle.nk_declare.specs.Kept.{IsWritable}
 use Rattle.nk_tabtext.proofs.Lines.{AreShown, AreMatchesShown, IsExitShown, IsBucketShown}
@@ -59,7 +59,7 @@ module _ (fs : FieldTable) (is : IsWritable fs) where
       ((is.names m.0 [] (omega (arith, v.0.0, is.table.named)), omega (arith, v.0.1, most)), shown_pairs ms v.1)
 
   -- matches that ascend
-  fine_matches : (version k : ℕ) (ms : List (ℕ × ℕ × ℕ)) → 1 ≤ k → MatchesAscend k ms → AllByRecursion (IsMatchOf fs) ms
+  fine_matches : (version k : ℕ) (ms : List (ℕ × ℕ × ℕ)) → 1 ≤ k → MatchesAscend k ms → AllByRecursion (IsPrintableMatch fs) ms
       → (list_any (λ m. not (is_exact fs m)) ms ≡ true → version ≡ 2) → AreFine version fs ms
   fine_matches version k [] le a v only = tt
   fine_matches version k (m ∷ ms) le a v only = (
@@ -79,7 +79,7 @@ module _ (fs : FieldTable) (is : IsWritable fs) where
   few_digits : (max : ℕ) → max ≤ largest → digits_of max ≤ largest
   few_digits max le = let few : digits_of max ≤ 48 = fewest max 48 (omega arith) (omega (arith, le)) in omega (arith, few)
 
-  shown_matches : (ms : List (ℕ × ℕ × ℕ)) → AllByRecursion (IsMatchOf fs) ms → AreMatchesShown fs ms
+  shown_matches : (ms : List (ℕ × ℕ × ℕ)) → AllByRecursion (IsPrintableMatch fs) ms → AreMatchesShown fs ms
   shown_matches [] v = tt
   shown_matches (m ∷ ms) v =
       let at = v.0.value in
@@ -99,57 +99,57 @@ module _ (fs : FieldTable) (is : IsWritable fs) where
   exit_shown exit.Back h = tt
   exit_shown (exit.Port n) h = omega (arith, h)
 
-  bucket_good : (b : Bucket) → IsBucketOf fs b → IsBucketGood fs b
+  bucket_good : (b : Bucket) → IsPrintableBucket fs b → IsBucketGood fs b
   bucket_good b h = (h.ascend, good_pairs 2 2 b.sets (omega arith) h.ascend (recursion_from_All _ b.sets h.values), h.exit)
 
-  bucket_shown : (b : Bucket) → IsBucketOf fs b → IsBucketShown fs b
+  bucket_shown : (b : Bucket) → IsPrintableBucket fs b → IsBucketShown fs b
   bucket_shown b h = (shown_pairs b.sets (recursion_from_All _ b.sets h.values), exit_shown b.exit h.exit)
 
-  buckets_good : (bs : List Bucket) → AllByRecursion (IsBucketOf fs) bs → AreBucketsGood fs bs
+  buckets_good : (bs : List Bucket) → AllByRecursion (IsPrintableBucket fs) bs → AreBucketsGood fs bs
   buckets_good [] h = tt
   buckets_good (b ∷ bs) h = (bucket_good b h.0, buckets_good bs h.1)
 
-  buckets_shown : (bs : List Bucket) → AllByRecursion (IsBucketOf fs) bs → AreBucketsShown fs bs
+  buckets_shown : (bs : List Bucket) → AllByRecursion (IsPrintableBucket fs) bs → AreBucketsShown fs bs
   buckets_shown [] h = tt
   buckets_shown (b ∷ bs) h = (bucket_shown b h.0, buckets_shown bs h.1)
 
   -- ---- groups
 
-  groups_good : (low : ℕ) (gs : List Group) → AllByRecursion (IsGroupOf fs) gs → InOrder (λ g h. g.number < h.number) gs
+  groups_good : (low : ℕ) (gs : List Group) → AllByRecursion (IsPrintableGroup fs) gs → InOrder (λ g h. g.number < h.number) gs
       → ((g : Group) → In gs g → low ≤ g.number) → AreGroupsGood fs low gs
   groups_good low [] h up le = tt
   groups_good low (g ∷ gs) h up le = (
     le g (inl refl),
-    buckets_good g.buckets (recursion_from_All (IsBucketOf fs) g.buckets h.0.buckets),
+    buckets_good g.buckets (recursion_from_All (IsPrintableBucket fs) g.buckets h.0.buckets),
     has_one g.buckets h.0.some,
     groups_good (g.number + 1) gs h.1 up.1 (λ k i. let above = up.0 k i in omega (arith, above)),
   )
 
-  groups_shown : (gs : List Group) → AllByRecursion (IsGroupOf fs) gs → AreGroupsShown fs gs
+  groups_shown : (gs : List Group) → AllByRecursion (IsPrintableGroup fs) gs → AreGroupsShown fs gs
   groups_shown [] h = tt
   groups_shown (g ∷ gs) h =
-      ((h.0.high, buckets_shown g.buckets (recursion_from_All (IsBucketOf fs) g.buckets h.0.buckets), has_one g.buckets h.0.some), groups_shown gs h.1)
+      ((h.0.high, buckets_shown g.buckets (recursion_from_All (IsPrintableBucket fs) g.buckets h.0.buckets), has_one g.buckets h.0.some), groups_shown gs h.1)
 
   -- numbers of groups are at least 1
-  all_low : (gs : List Group) → AllByRecursion (IsGroupOf fs) gs → (g : Group) → In gs g → 1 ≤ g.number
+  all_low : (gs : List Group) → AllByRecursion (IsPrintableGroup fs) gs → (g : Group) → In gs g → 1 ≤ g.number
   all_low [] h g i = absurd i
   all_low (k ∷ gs) h g i = ⊎_elim (λ e. subst (λ x. 1 ≤ x.number) (sym e) h.0.low) (λ j. all_low gs h.1 g j) i
 
   -- ---- rows
 
-  target_good : (gs : List Group) (t : Target) → IsTargetOf fs gs t → IsTargetGood fs gs t
+  target_good : (gs : List Group) (t : Target) → IsPrintableTarget fs gs t → IsTargetGood fs gs t
   target_good gs (does.Bucket b) h = bucket_good b h
   target_good gs (does.Group n) h = h
   target_good gs does.Discard h = tt
 
-  rows_good : (version : ℕ) (gs : List Group) (ws : List Row) → Allows version fs ws → AllByRecursion (IsRowOf fs gs) ws → AreRowsGood version fs gs ws
+  rows_good : (version : ℕ) (gs : List Group) (ws : List Row) → Allows version fs ws → AllByRecursion (IsPrintableRow fs gs) ws → AreRowsGood version fs gs ws
   rows_good version gs [] only h = tt
   rows_good version gs (w ∷ ws) only h =
       let here = list_any (λ m. not (is_exact fs m)) w.matches in (
         (
           h.0.priority,
           h.0.ascend,
-          fine_matches version 1 w.matches (omega arith) h.0.ascend (recursion_from_All (IsMatchOf fs) w.matches h.0.matches)
+          fine_matches version 1 w.matches (omega arith) h.0.ascend (recursion_from_All (IsPrintableMatch fs) w.matches h.0.matches)
               (λ e. only (or_first here (have_prefix fs ws) e)),
           target_good gs w.target h.0.target,
         ),
@@ -157,7 +157,7 @@ module _ (fs : FieldTable) (is : IsWritable fs) where
       )
 
   -- a group that is one of these has a number that a text can write
-  group_small : (gs : List Group) (n : ℕ) → AllByRecursion (IsGroupOf fs) gs → list_any (λ g. g.number == n) gs ≡ true → n ≤ largest
+  group_small : (gs : List Group) (n : ℕ) → AllByRecursion (IsPrintableGroup fs) gs → list_any (λ g. g.number == n) gs ≡ true → n ≤ largest
   group_small [] n h e = absurd cc
   group_small (g ∷ gs) n h e = by (g.number == n) refl e (group_small gs n h.1)
     where
@@ -169,15 +169,15 @@ module _ (fs : FieldTable) (is : IsWritable fs) where
       by true s e go = same g.number n s h.0.high
       by false s e go = go e
 
-  target_shown : (gs : List Group) (t : Target) → AllByRecursion (IsGroupOf fs) gs → IsTargetOf fs gs t → IsTargetShown fs t
+  target_shown : (gs : List Group) (t : Target) → AllByRecursion (IsPrintableGroup fs) gs → IsPrintableTarget fs gs t → IsTargetShown fs t
   target_shown gs (does.Bucket b) k h = bucket_shown b h
   target_shown gs (does.Group n) k h = group_small gs n k h
   target_shown gs does.Discard k h = tt
 
-  rows_shown : (gs : List Group) (ws : List Row) → AllByRecursion (IsGroupOf fs) gs → AllByRecursion (IsRowOf fs gs) ws → AreRowsShown fs ws
+  rows_shown : (gs : List Group) (ws : List Row) → AllByRecursion (IsPrintableGroup fs) gs → AllByRecursion (IsPrintableRow fs gs) ws → AreRowsShown fs ws
   rows_shown gs [] k h = tt
   rows_shown gs (w ∷ ws) k h = (
-    (omega (arith, h.0.priority), shown_matches w.matches (recursion_from_All (IsMatchOf fs) w.matches h.0.matches), target_shown gs w.target k h.0.target),
+    (omega (arith, h.0.priority), shown_matches w.matches (recursion_from_All (IsPrintableMatch fs) w.matches h.0.matches), target_shown gs w.target k h.0.target),
     rows_shown gs ws k h.1,
   )
 
@@ -212,10 +212,10 @@ numbers_fit topo low (s ∷ ss) h i =
     ((h.0.0, h.0.1, there topo.switches s (i s (inl refl))), numbers_fit topo (s.switch + 1) ss h.1 (λ r j. i r (inr j)))
 
 pub tables_good : (version : ℕ) (s : DeclaredValue) (is : IsWritable s.fields) (low : ℕ) (ts : List Table) → NumbersFit s.topo low (map (λ t. t.switch) ts)
-    → (list_any (λ t. have_prefix s.fields t.rows) ts ≡ true → version ≡ 2) → AllByRecursion (IsTableOf s.fields) ts → AreTablesGood version s low ts
+    → (list_any (λ t. have_prefix s.fields t.rows) ts ≡ true → version ≡ 2) → AllByRecursion (IsPrintableTable s.fields) ts → AreTablesGood version s low ts
 tables_good version s is low [] n only h = tt
 tables_good version s is low (t ∷ ts) n only h =
-    let gs = recursion_from_All (IsGroupOf s.fields) t.groups h.0.groups in
+    let gs = recursion_from_All (IsPrintableGroup s.fields) t.groups h.0.groups in
     let later = list_any (λ u. have_prefix s.fields u.rows) ts in (
       (
         n.0.0,
@@ -223,20 +223,20 @@ tables_good version s is low (t ∷ ts) n only h =
         n.0.2,
         groups_good s.fields is 1 t.groups gs (order_from_pairs (λ g k. g.number < k.number) t.groups h.0.ascend) (all_low s.fields is t.groups gs),
         rows_good s.fields is version t.groups t.rows (λ e. only (or_first (have_prefix s.fields t.rows) later e))
-            (recursion_from_All (IsRowOf s.fields t.groups) t.rows h.0.rows),
+            (recursion_from_All (IsPrintableRow s.fields t.groups) t.rows h.0.rows),
       ),
       tables_good version s is (t.switch + 1) ts n.1 (λ e. only (or_second (have_prefix s.fields t.rows) later e)) h.1,
     )
 
 pub tables_shown : (topo : Topology) (fs : FieldTable) (is : IsWritable fs) (low : ℕ) (ts : List Table) → NumbersFit topo low (map (λ t. t.switch) ts)
-    → AllByRecursion (IsTableOf fs) ts → AreTablesShown fs ts
+    → AllByRecursion (IsPrintableTable fs) ts → AreTablesShown fs ts
 tables_shown topo fs is low [] n h = tt
 tables_shown topo fs is low (t ∷ ts) n h =
-    let gs = recursion_from_All (IsGroupOf fs) t.groups h.0.groups in (
+    let gs = recursion_from_All (IsPrintableGroup fs) t.groups h.0.groups in (
       (
         omega (arith, n.0.1),
         groups_shown fs is t.groups gs,
-        rows_shown fs is t.groups t.rows gs (recursion_from_All (IsRowOf fs t.groups) t.rows h.0.rows),
+        rows_shown fs is t.groups t.rows gs (recursion_from_All (IsPrintableRow fs t.groups) t.rows h.0.rows),
       ),
       tables_shown topo fs is (t.switch + 1) ts n.1 h.1,
     )

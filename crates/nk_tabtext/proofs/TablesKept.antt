@@ -39,9 +39,9 @@ use Rattle.nk_tabgrammar.specs.declared.written.ReadError.{ReadError}
 use Rattle.nk_tabgrammar.specs.declared.written.ReadError.TheVariants as error
 use Rattle.nk_declare.proofs.Checks.{none_both}
 use Rattle.nk_declare.specs.Declarations.{DeclaredValue, is_from}
-use Rattle.nk_tabtext.specs.Values.{line_if, line_above, unless_at, pair_read, pairs_read, length_in, length_fault, ones_fault, match_read, put_match, matches_read, way_read, bucket_with, bucket_read, buckets_read, has_key, group_fault, group_of, group_read, groups_read, target_read, row_with, row_read, rows_read, table_with, table_read, tables_read, empty_table, table_for}
+use Rattle.nk_tabtext.specs.Values.{line_if, line_above, unless_at, pair_read, pairs_read, length_in, length_fault, ones_fault, match_read, placed_match, matches_read, way_read, bucket_with, bucket_read, buckets_read, has_key, group_fault, group_of, group_read, groups_read, target_read, row_with, row_read, rows_read, table_with, table_read, tables_read, empty_table, table_for}
 use Rattle.nk_tabtext.specs.InOrder.{MatchesAscend}
-use Rattle.nk_tabtext.specs.ReadBack.{IsExit, IsBucketOf, IsGroupOf, IsTargetOf, IsMatchOf, IsRowOf, IsTableOf}
+use Rattle.nk_tabtext.specs.ReadBack.{IsExit, IsPrintableBucket, IsPrintableGroup, IsPrintableTarget, IsPrintableMatch, IsPrintableRow, IsPrintableTable}
 use Rattle.nk_tabtext.proofs.Valued.{above_key, same_test}
 use Rattle.nk_declare.proofs.Kept.{both_ok, ok_is, from_low, has_maximum, holds}
 use Rattle.nk_tabtext.proofs.HeadKept.{unless_ok, checked_ok, not_wrong, within, neither, IsGroupOfText, IsTableOfText}
@@ -132,7 +132,7 @@ some_digits n = omega arith
 
 -- a match that is read
 match_kept : (version : ℕ) (fs : FieldTable) → IsFieldTable fs → (before : List (ℕ × ℕ × ℕ)) (m : WrittenMatch) (s : ℕ × ℕ × ℕ)
-    → match_read version fs before m ≡ Ok s → (1 ≤ s.0) × IsMatchOf fs s × (list_any (λ x. x.0 == s.0) before ≡ false)
+    → match_read version fs before m ≡ Ok s → (1 ≤ s.0) × IsPrintableMatch fs s × (list_any (λ x. x.0 == s.0) before ≡ false)
 match_kept version fs is before m s e = by (field_named fs m.name.text) refl e
   where
     digits : Option ℕ → ℕ
@@ -158,7 +158,7 @@ match_kept version fs is before m s e = by (field_named fs m.name.text) refl e
     never h = cc
 
     Kept : ℕ × ℕ × ℕ → Type 0
-    Kept x = (1 ≤ x.0) × IsMatchOf fs x × (list_any (λ y. y.0 == x.0) before ≡ false)
+    Kept x = (1 ≤ x.0) × IsPrintableMatch fs x × (list_any (λ y. y.0 == x.0) before ≡ false)
 
     by : (o : Option ℕ) → field_named fs m.name.text ≡ o → read o ≡ Ok s → Kept s
     by None there h = absurd (never h)
@@ -183,7 +183,7 @@ match_kept version fs is before m s e = by (field_named fs m.name.text) refl e
 
 -- one more match
 put_ascends : (P : ℕ × ℕ × ℕ → Type 0) (low : ℕ) (before : List (ℕ × ℕ × ℕ)) (m : ℕ × ℕ × ℕ) → MatchesAscend low before → AllByRecursion P before
-    → low ≤ m.0 → list_any (λ x. x.0 == m.0) before ≡ false → P m → MatchesAscend low (put_match m before) × AllByRecursion P (put_match m before)
+    → low ≤ m.0 → list_any (λ x. x.0 == m.0) before ≡ false → P m → MatchesAscend low (placed_match m before) × AllByRecursion P (placed_match m before)
 put_ascends P low [] m up all le new p = ((le, tt), (p, tt))
 put_ascends P low (x ∷ xs) m up all le new p = by (nat_lt x.0 m.0) refl (λ first n. put_ascends P (x.0 + 1) xs m up.1 all.1 first n p)
   where
@@ -200,8 +200,8 @@ put_ascends P low (x ∷ xs) m up all le new p = by (nat_lt x.0 m.0) refl (λ fi
     Kept l = MatchesAscend low l × AllByRecursion P l
 
     by : (b : Bool) → nat_lt x.0 m.0 ≡ b
-        → (x.0 + 1 ≤ m.0 → list_any (λ y. y.0 == m.0) xs ≡ false → MatchesAscend (x.0 + 1) (put_match m xs) × AllByRecursion P (put_match m xs))
-        → Kept (put_match m (x ∷ xs))
+        → (x.0 + 1 ≤ m.0 → list_any (λ y. y.0 == m.0) xs ≡ false → MatchesAscend (x.0 + 1) (placed_match m xs) × AllByRecursion P (placed_match m xs))
+        → Kept (placed_match m (x ∷ xs))
     by true h go =
         let rest = go (less x.0 m.0 h) (other new).1 in
         subst Kept (sym (placed_behind (λ z. nat_lt z.0 m.0) m x xs h)) ((up.0, rest.0), (all.0, rest.1))
@@ -210,16 +210,16 @@ put_ascends P low (x ∷ xs) m up all le new p = by (nat_lt x.0 m.0) refl (λ fi
 
 -- matches that ascend, each one of the field table
 abbrev AreMatches : FieldTable → List (ℕ × ℕ × ℕ) → Type 0
-AreMatches fs ms = MatchesAscend 1 ms × AllByRecursion (IsMatchOf fs) ms
+AreMatches fs ms = MatchesAscend 1 ms × AllByRecursion (IsPrintableMatch fs) ms
 
 matches_kept : (version : ℕ) (fs : FieldTable) → IsFieldTable fs → (before : List (ℕ × ℕ × ℕ)) (ps : List WrittenMatch) (ms : List (ℕ × ℕ × ℕ)) → AreMatches fs before
     → matches_read version fs before ps ≡ Ok ms → AreMatches fs ms
 matches_kept version fs is before [] ms h e = subst (AreMatches fs) (ok_is before ms e) h
 matches_kept version fs is before (p ∷ ps) ms h e =
-    let step = both_ok (match_read version fs before p) (λ s. matches_read version fs (put_match s before) ps) ms e in
+    let step = both_ok (match_read version fs before p) (λ s. matches_read version fs (placed_match s before) ps) ms e in
     let s = step.0 in
     let this = match_kept version fs is before p s step.1 in
-    matches_kept version fs is (put_match s before) ps ms (put_ascends (IsMatchOf fs) 1 before s h.0 h.1 this.0 this.2 this.1) step.2
+    matches_kept version fs is (placed_match s before) ps ms (put_ascends (IsPrintableMatch fs) 1 before s h.0 h.1 this.0 this.2 this.1) step.2
 
 -- ---- buckets
 
@@ -232,24 +232,24 @@ exit_kept way.Back e h = subst IsExit (ok_is exit.Back e h) tt
 exit_kept (way.Port n) e h = let r = unless_ok (line_above 65535 n) (exit.Port n.value) e h in subst IsExit r.1 (within 65535 n r.0)
 
 module _ (fs : FieldTable) (is : IsFieldTable fs) where
-  bucket_kept : (b : WrittenBucket) (x : Bucket) → bucket_read fs b ≡ Ok x → IsBucketOf fs x
+  bucket_kept : (b : WrittenBucket) (x : Bucket) → bucket_read fs b ≡ Ok x → IsPrintableBucket fs x
   bucket_kept b x e =
       let sets = both_ok (pairs_read fs 2 [] b.sets) (λ ss. and_then (way_read b.way) (λ w. Ok (bucket_with ss w))) x e in
       let out = both_ok (way_read b.way) (λ w. Ok (bucket_with sets.0 w)) x sets.2 in
       let pairs : ArePairs fs 2 sets.0 = pairs_kept fs is 2 [] b.sets sets.0 (tt, tt) sets.1 in
-      subst (IsBucketOf fs) (ok_is (bucket_with sets.0 out.0) x out.2) (record {
+      subst (IsPrintableBucket fs) (ok_is (bucket_with sets.0 out.0) x out.2) (record {
         ascend = pairs.0;
         values = All-from_recursion (λ m. IsValue fs m.0 m.1) sets.0 pairs.1;
         exit = exit_kept b.way out.0 out.1;
       })
 
   -- these buckets and at least as many
-  buckets_kept : (before : List Bucket) (bs : List WrittenBucket) (xs : List Bucket) → AllByRecursion (IsBucketOf fs) before → 1 ≤ length before
-      → buckets_read fs before bs ≡ Ok xs → AllByRecursion (IsBucketOf fs) xs × (1 ≤ length xs)
-  buckets_kept before [] xs h some e = subst (λ l. AllByRecursion (IsBucketOf fs) l × (1 ≤ length l)) (ok_is before xs e) (h, some)
+  buckets_kept : (before : List Bucket) (bs : List WrittenBucket) (xs : List Bucket) → AllByRecursion (IsPrintableBucket fs) before → 1 ≤ length before
+      → buckets_read fs before bs ≡ Ok xs → AllByRecursion (IsPrintableBucket fs) xs × (1 ≤ length xs)
+  buckets_kept before [] xs h some e = subst (λ l. AllByRecursion (IsPrintableBucket fs) l × (1 ≤ length l)) (ok_is before xs e) (h, some)
   buckets_kept before (b ∷ bs) xs h some e =
       let step = both_ok (bucket_read fs b) (λ x. buckets_read fs (before ++ x ∷ []) bs) xs e in
-      buckets_kept (before ++ step.0 ∷ []) bs xs (push_all (IsBucketOf fs) before step.0 h (bucket_kept b step.0 step.1)) (more before step.0) step.2
+      buckets_kept (before ++ step.0 ∷ []) bs xs (push_all (IsPrintableBucket fs) before step.0 h (bucket_kept b step.0 step.1)) (more before step.0) step.2
     where
       more : (l : List Bucket) (x : Bucket) → 1 ≤ length (l ++ x ∷ [])
       more [] x = omega arith
@@ -300,13 +300,13 @@ put_kept {X} P low (e ∷ es) n x up le p h =
 
 -- a group by its number
 abbrev IsGroupEntry : FieldTable → ℕ × Group → Type 0
-IsGroupEntry fs e = (e.0 ≡ e.1.number) × IsGroupOf fs e.1
+IsGroupEntry fs e = (e.0 ≡ e.1.number) × IsPrintableGroup fs e.1
 
 -- the groups of entries
 abbrev groups_in : List (ℕ × Group) → List Group
 groups_in es = map (λ e. e.1) es
 
-groups_hold : (fs : FieldTable) (es : List (ℕ × Group)) → AllByRecursion (IsGroupEntry fs) es → AllByRecursion (IsGroupOf fs) (groups_in es)
+groups_hold : (fs : FieldTable) (es : List (ℕ × Group)) → AllByRecursion (IsGroupEntry fs) es → AllByRecursion (IsPrintableGroup fs) (groups_in es)
 groups_hold fs [] h = tt
 groups_hold fs (e ∷ es) h = (h.0.1, groups_hold fs es h.1)
 
@@ -347,18 +347,18 @@ key_there fs (k ∷ es) n h e = by (k.0 == n) refl (ap (λ b. is_some (cond b (S
         either false b e = e
 
 module _ (fs : FieldTable) (is : IsFieldTable fs) where
-  group_kept : (before : List (ℕ × Group)) (g : WrittenGroup) (x : Group) → IsGroupOfText g → group_read fs before g ≡ Ok x → IsGroupOf fs x
+  group_kept : (before : List (ℕ × Group)) (g : WrittenGroup) (x : Group) → IsGroupOfText g → group_read fs before g ≡ Ok x → IsPrintableGroup fs x
   group_kept before g x small e =
       let r = checked_ok (group_fault before g.number) _ x e in
       let first = both_ok (bucket_read fs g.first) (λ b. and_then (buckets_read fs (b ∷ []) g.more) (λ bs. Ok (group_of g.number bs))) x r.1 in
       let more = both_ok (buckets_read fs (first.0 ∷ []) g.more) (λ bs. Ok (group_of g.number bs)) x first.2 in
       let all = buckets_kept fs is (first.0 ∷ []) g.more more.0 (bucket_kept fs is g.first first.0 first.1, tt) (omega arith) more.1 in
       let fine = neither (g.number.value == 0) (has_key before g.number.value) (not_wrong _ g.number.line r.0) in
-      subst (IsGroupOf fs) (ok_is (group_of g.number more.0) x more.2) (record {
+      subst (IsPrintableGroup fs) (ok_is (group_of g.number more.0) x more.2) (record {
         low = some g.number.value fine.0;
         high = small;
         some = all.1;
-        buckets = All-from_recursion (IsBucketOf fs) more.0 all.0;
+        buckets = All-from_recursion (IsPrintableBucket fs) more.0 all.0;
       })
     where
       some : (n : ℕ) → (n == 0) ≡ false → 1 ≤ n
@@ -377,54 +377,54 @@ module _ (fs : FieldTable) (is : IsFieldTable fs) where
   -- ---- rows
 
   target_kept : (es : List (ℕ × Group)) (t : WrittenTarget) (x : Target) → AllByRecursion (IsGroupEntry fs) es → target_read fs es t ≡ Ok x
-      → IsTargetOf fs (groups_in es) x
+      → IsPrintableTarget fs (groups_in es) x
   target_kept es (target.Bucket b) x h e =
       let r = both_ok (bucket_read fs b) (λ y. Ok (does.Bucket y)) x e in
-      subst (IsTargetOf fs (groups_in es)) (ok_is (does.Bucket r.0) x r.2) (bucket_kept fs is b r.0 r.1)
+      subst (IsPrintableTarget fs (groups_in es)) (ok_is (does.Bucket r.0) x r.2) (bucket_kept fs is b r.0 r.1)
   target_kept es (target.Group n) x h e =
       let r = unless_ok (line_if (not (has_key es n.value)) n.line) (does.Group n.value) x e in
-      subst (IsTargetOf fs (groups_in es)) r.1 (key_there fs es n.value h (holds _ (not_wrong _ n.line r.0)))
-  target_kept es target.Discard x h e = subst (IsTargetOf fs (groups_in es)) (ok_is does.Discard x e) tt
+      subst (IsPrintableTarget fs (groups_in es)) r.1 (key_there fs es n.value h (holds _ (not_wrong _ n.line r.0)))
+  target_kept es target.Discard x h e = subst (IsPrintableTarget fs (groups_in es)) (ok_is does.Discard x e) tt
 
   row_kept : (version : ℕ) (es : List (ℕ × Group)) (r : WrittenRow) (x : Row) → AllByRecursion (IsGroupEntry fs) es → row_read version fs es r ≡ Ok x
-      → IsRowOf fs (groups_in es) x
+      → IsPrintableRow fs (groups_in es) x
   row_kept version es r x h e =
       let q = checked_ok (line_above 65535 r.priority) _ x e in
       let ms = both_ok (matches_read version fs [] r.matches) (λ m. and_then (target_read fs es r.target) (λ t. Ok (row_with r.priority m t))) x q.1 in
       let to = both_ok (target_read fs es r.target) (λ t. Ok (row_with r.priority ms.0 t)) x ms.2 in
       let all : AreMatches fs ms.0 = matches_kept version fs is [] r.matches ms.0 (tt, tt) ms.1 in
-      subst (IsRowOf fs (groups_in es)) (ok_is (row_with r.priority ms.0 to.0) x to.2) (record {
+      subst (IsPrintableRow fs (groups_in es)) (ok_is (row_with r.priority ms.0 to.0) x to.2) (record {
         priority = within 65535 r.priority q.0;
         ascend = all.0;
-        matches = All-from_recursion (IsMatchOf fs) ms.0 all.1;
+        matches = All-from_recursion (IsPrintableMatch fs) ms.0 all.1;
         target = target_kept es r.target to.0 h to.1;
       })
 
   rows_kept : (version : ℕ) (es : List (ℕ × Group)) (before : List Row) (rs : List WrittenRow) (xs : List Row) → AllByRecursion (IsGroupEntry fs) es
-      → AllByRecursion (IsRowOf fs (groups_in es)) before → rows_read version fs es before rs ≡ Ok xs → AllByRecursion (IsRowOf fs (groups_in es)) xs
-  rows_kept version es before [] xs h all e = subst (AllByRecursion (IsRowOf fs (groups_in es))) (ok_is before xs e) all
+      → AllByRecursion (IsPrintableRow fs (groups_in es)) before → rows_read version fs es before rs ≡ Ok xs → AllByRecursion (IsPrintableRow fs (groups_in es)) xs
+  rows_kept version es before [] xs h all e = subst (AllByRecursion (IsPrintableRow fs (groups_in es))) (ok_is before xs e) all
   rows_kept version es before (r ∷ rs) xs h all e =
       let step = both_ok (row_read version fs es r) (λ x. rows_read version fs es (before ++ x ∷ []) rs) xs e in
-      rows_kept version es (before ++ step.0 ∷ []) rs xs h (push_all (IsRowOf fs (groups_in es)) before step.0 all (row_kept version es r step.0 h step.1)) step.2
+      rows_kept version es (before ++ step.0 ∷ []) rs xs h (push_all (IsPrintableRow fs (groups_in es)) before step.0 all (row_kept version es r step.0 h step.1)) step.2
 
 -- ---- tables
 
 -- a table by its switch
 abbrev pub IsTableEntry : FieldTable → ℕ × Table → Type 0
-IsTableEntry fs e = (e.0 ≡ e.1.switch) × IsTableOf fs e.1
+IsTableEntry fs e = (e.0 ≡ e.1.switch) × IsPrintableTable fs e.1
 
 table_kept : (version : ℕ) (s : DeclaredValue) → IsFieldTable s.fields → (before : List (ℕ × Table)) (t : WrittenTable) (x : Table) → IsTableOfText t
-    → table_read version s before t ≡ Ok x → IsTableOf s.fields x
+    → table_read version s before t ≡ Ok x → IsPrintableTable s.fields x
 table_kept version s is before t x small e =
     let r = checked_ok _ _ x e in
     let gs = both_ok (groups_read s.fields [] t.groups) (λ es. and_then (rows_read version s.fields es [] t.rows) (λ ws. Ok (table_with t.switch es ws))) x r.1 in
     let ws = both_ok (rows_read version s.fields gs.0 [] t.rows) (λ rs. Ok (table_with t.switch gs.0 rs)) x gs.2 in
     let groups = groups_kept s.fields is [] t.groups gs.0 small tt tt gs.1 in
     let rows = rows_kept s.fields is version gs.0 [] t.rows ws.0 groups.1 tt ws.1 in
-    subst (IsTableOf s.fields) (ok_is (table_with t.switch gs.0 ws.0) x ws.2) (record {
-      groups = All-from_recursion (IsGroupOf s.fields) (groups_in gs.0) (groups_hold s.fields gs.0 groups.1);
+    subst (IsPrintableTable s.fields) (ok_is (table_with t.switch gs.0 ws.0) x ws.2) (record {
+      groups = All-from_recursion (IsPrintableGroup s.fields) (groups_in gs.0) (groups_hold s.fields gs.0 groups.1);
       ascend = pairs_from_order (λ g k. g.number < k.number) (groups_in gs.0) (groups_rise s.fields 0 gs.0 groups.0 groups.1);
-      rows = All-from_recursion (IsRowOf s.fields (groups_in gs.0)) ws.0 rows;
+      rows = All-from_recursion (IsPrintableRow s.fields (groups_in gs.0)) ws.0 rows;
     })
 
 pub tables_kept : (version : ℕ) (s : DeclaredValue) → IsFieldTable s.fields → (before : List (ℕ × Table)) (ts : List WrittenTable) (es : List (ℕ × Table)) → AllByRecursion IsTableOfText ts
@@ -438,20 +438,20 @@ tables_kept version s is before (t ∷ ts) es small up h e =
 
 -- the table of a switch
 table_found : (fs : FieldTable) (es : List (ℕ × Table)) (sw : ℕ) → AllByRecursion (IsTableEntry fs) es
-    → ((table_for es sw).switch ≡ sw) × IsTableOf fs (table_for es sw)
+    → ((table_for es sw).switch ≡ sw) × IsPrintableTable fs (table_for es sw)
 table_found fs [] sw h = (
   refl,
   record {
-    groups = All-nil (IsGroupOf fs);
+    groups = All-nil (IsPrintableGroup fs);
     ascend = pairs_from_order (λ g k. g.number < k.number) [] tt;
-    rows = All-nil (IsRowOf fs []);
+    rows = All-nil (IsPrintableRow fs []);
   },
 )
 table_found fs (e ∷ es) sw h =
     subst Found (sym (ap chosen (same_test sw e.0))) (by (e.0 == sw) refl (table_found fs es sw h.1))
   where
     Found : Table → Type 0
-    Found t = (t.switch ≡ sw) × IsTableOf fs t
+    Found t = (t.switch ≡ sw) × IsPrintableTable fs t
 
     chosen : Bool → Table
     chosen b = unwrap_or (cond b (Some e.1) (lookup (is_at (nat_cmp sw)) es)) (empty_table sw)
@@ -464,7 +464,7 @@ table_found fs (e ∷ es) sw h =
     by false s r = r
 
 pub each_kept : (fs : FieldTable) (es : List (ℕ × Table)) (ns : List ℕ) → AllByRecursion (IsTableEntry fs) es
-    → (map (λ t. t.switch) (map (table_for es) ns) ≡ ns) × AllByRecursion (IsTableOf fs) (map (table_for es) ns)
+    → (map (λ t. t.switch) (map (table_for es) ns) ≡ ns) × AllByRecursion (IsPrintableTable fs) (map (table_for es) ns)
 each_kept fs es [] h = (refl, tt)
 each_kept fs es (n ∷ ns) h =
     let this = table_found fs es n h in

@@ -22,7 +22,7 @@ use Rattle.nk_tabgrammar.specs.declared.states.BucketState.{BucketState}
 use Rattle.nk_tabgrammar.specs.declared.states.State.{State}
 use Rattle.nk_tabgrammar.specs.declared.states.Tells.{Tells}
 use Rattle.nk_tabgrammar.specs.declared.states.Tells.TheVariants as tells
-use Rattle.nk_tabgrammar.specs.States.{MaybeStep, after, bucket_state, in_bucket, state_of}
+use Rattle.nk_tabgrammar.specs.States.{MaybeStep, after_token, bucket_state, in_bucket, state_of_stage}
 use Rattle.nk_tabtext.specs.Values.{group_of, line_if, unless_at}
 use Rattle.nk_tabtext.specs.Progress.{PartialValue, KnownValue, finished, known_after}
 use Rattle.nk_tabtext.proofs.Sofar.{then_assoc}
@@ -42,7 +42,7 @@ use Rattle.nk_tabgrammar.specs.declared.stage.InRow.{InRow}
 use Rattle.nk_tabgrammar.specs.Machine.{Reading, first_reading, judged, rest_of_text, text_ended, with_declaration}
 use Rattle.nk_tabgrammar.specs.States.{at_end}
 use Rattle.nk_tabtext.specs.Values.{tables_from, whole}
-use Rattle.nk_tabtext.specs.Progress.{Progress, ReadsAsWhole, Sound, Faulty, Stopped, end_of, end_told, first_progress, progress_after, progress_on, step_on, tables_of_progress}
+use Rattle.nk_tabtext.specs.Progress.{Progress, ReadsAsWhole, Sound, Faulty, Stopped, read_at_end, end_told, first_progress, progress_after, progress_on, step_on, tables_of_progress}
 use Rattle.nk_tabtext.proofs.Sofar.{checked_assoc}
 use Rattle.nk_tabtext.proofs.Stages.{declared_so, no_table_more}
 use Rattle.nk_tabtext.proofs.Fitting.{Declares, Ported, ports_so}
@@ -53,7 +53,7 @@ use Rattle.nk_tabtext.proofs.RowSteps.{step_row}
 
 -- one more token, at any stage
 pub step : (s : Stage) (x : WrittenTables) (c : WrittenTable) (k : KnownValue) (t : Token) → Fits s x c k
-    → Both (Follows k t) (next_reading s x c (terminal_of t)) (after (state_of s) t.kind)
+    → Both (Follows k t) (next_reading s x c (terminal_of t)) (after_token (state_of_stage s) t.kind)
 step stage.Start x c k t h = step_start x c k t h
 step stage.Version x c k t h = step_version x c k t h
 step stage.Between x c k t h = step_between x c k t h
@@ -136,7 +136,7 @@ going (stage.InBucket o l) x c k h = bucket_going o l x c k h
 going stage.Rows x c k h = gives_going _ _ k h
 going (stage.InRow r) x c k h = row_going r x c k h
 
-pub goes_on : (k : KnownValue) (p : Progress) (t : Token) → IsGoing k → progress_on k p t ≡ step_on (after p.state t.kind) p t
+pub goes_on : (k : KnownValue) (p : Progress) (t : Token) → IsGoing k → progress_on k p t ≡ step_on (after_token p.state t.kind) p t
 goes_on (Sound q) p t g = refl
 goes_on (Faulty l) p t g = refl
 goes_on (Stopped l) p t g = absurd g
@@ -160,17 +160,17 @@ tables_so line v = unless_at (line_if (is_none v.said.fields.tag) line) (whole v
 from_so : (line : ℕ) (y : WrittenTables) → tables_from line y ≡ and_then (tabled_so y) (tables_so line)
 from_so line y = simp (then_assoc, checked_assoc)
 
-closes_end : (y : WrittenTables) (tl : Tells) (k : KnownValue) (line : ℕ) → Gives (tabled_so y) (λ v p. Closes y v.tables v p) (known_end tl k) → end_of k (Some tl) line ≡ tables_from line y
+closes_end : (y : WrittenTables) (tl : Tells) (k : KnownValue) (line : ℕ) → Gives (tabled_so y) (λ v p. Closes y v.tables v p) (known_end tl k) → read_at_end k (Some tl) line ≡ tables_from line y
 closes_end y tl k line h = on (tabled_so y) k h ∙ sym (from_so line y)
   where
-    on : (r : Result Sofar ReadError) (l : KnownValue) → Gives r (λ v p. Closes y v.tables v p) (known_end tl l) → end_of l (Some tl) line ≡ and_then r (tables_so line)
+    on : (r : Result Sofar ReadError) (l : KnownValue) → Gives r (λ v p. Closes y v.tables v p) (known_end tl l) → read_at_end l (Some tl) line ≡ and_then r (tables_so line)
     on (Ok v) (Sound p) g =
         ap (λ (s : DeclaredValue). unless_at (line_if (is_none s.fields.tag) line) (whole s (finished (end_told tl p).tables (end_told tl p).filling))) g.said
         ∙ ap (λ ts. unless_at (line_if (is_none v.said.fields.tag) line) (whole v.said ts)) g.tables
     on (Err (error.TableFault m)) (Faulty n) g = ap (λ i. Err (error.TableFault i)) (sym g)
     on r l g = absurd g
 
-no_end : (k : KnownValue) (line : ℕ) → IsGoing k → end_of k None line ≡ Err (error.Unexpected line)
+no_end : (k : KnownValue) (line : ℕ) → IsGoing k → read_at_end k None line ≡ Err (error.Unexpected line)
 no_end (Sound p) line g = refl
 no_end (Faulty l) line g = refl
 no_end (Stopped l) line g = absurd g
@@ -186,7 +186,7 @@ declared_end x k e h =
     (λ v p d. record { version = d.version; said = d.said; tables = d.tables; parts = d.parts }) h
 
 ends : (s : Stage) (x : WrittenTables) (c : WrittenTable) (k : KnownValue) (line : ℕ) → Fits s x c k
-    → end_of k (at_end (state_of s)) line ≡ and_then (judged line (text_ended s x c)) (λ y. tables_from line y)
+    → read_at_end k (at_end (state_of_stage s)) line ≡ and_then (judged line (text_ended s x c)) (λ y. tables_from line y)
 ends stage.Between x c k line h = closes_end x tells.Nothing k line (to_end (tabled_so x) (λ v p. Closes x v.tables v p) tells.Nothing k (declared_end x k h.0 h.1))
 ends (stage.Declared (declaring.PortRead n q qs)) x c k line h =
     closes_end (with_declaration x (declared.Switch n q qs)) tells.SwitchEnds k line
@@ -206,7 +206,7 @@ ends (stage.Grouped (grouping.BucketRead g)) x c k line h =
 ends stage.Rows x c k line h =
     closes_end (with_table x c) tells.Nothing k line (to_end (tabled_so (with_table x c)) (λ v p. Closes (with_table x c) v.tables v p) tells.Nothing k (table_closes x c k h))
 ends (stage.InBucket o l) x c k line h =
-    ap (λ e. end_of k e line) (open_bucket o (bucket_state l)) ∙ no_end k line (going (stage.InBucket o l) x c k h)
+    ap (λ e. read_at_end k e line) (open_bucket o (bucket_state l)) ∙ no_end k line (going (stage.InBucket o l) x c k h)
 ends stage.Start x c k line h = no_end k line (going stage.Start x c k h)
 ends stage.Version x c k line h = no_end k line (going stage.Version x c k h)
 ends stage.Table x c k line h = no_end k line (going stage.Table x c k h)
@@ -241,19 +241,19 @@ stays_stopped [] s line l = refl
 stays_stopped (t ∷ ts) s line l = stays_stopped ts s line l
 
 from_here : (ts : List Token) (s : Stage) (x : WrittenTables) (c : WrittenTable) (k : KnownValue) (line : ℕ) → Fits s x c k
-    → tables_of_progress (fold progress_after (at_place (state_of s) line k) ts) ≡ and_then (rest_of_text ts (reading s x c) line) (λ y. tables_from (last_line line ts) y)
+    → tables_of_progress (fold progress_after (at_place (state_of_stage s) line k) ts) ≡ and_then (rest_of_text ts (reading s x c) line) (λ y. tables_from (last_line line ts) y)
 from_here [] s x c k line h = ends s x c k line h
 from_here (t ∷ ts) s x c k line h =
-    ap (λ p. tables_of_progress (fold progress_after p ts)) (goes_on k (at_place (state_of s) line k) t (going s x c k h))
-    ∙ by (next_reading s x c (terminal_of t)) (after (state_of s) t.kind) (λ r l f. from_here ts r.stage r.text r.table l t.line f) (step s x c k t h)
+    ap (λ p. tables_of_progress (fold progress_after p ts)) (goes_on k (at_place (state_of_stage s) line k) t (going s x c k h))
+    ∙ by (next_reading s x c (terminal_of t)) (after_token (state_of_stage s) t.kind) (λ r l f. from_here ts r.stage r.text r.table l t.line f) (step s x c k t h)
   where
     by : (r : Option Reading) (z : MaybeStep)
         → ((r : Reading) (l : KnownValue) → Fits r.stage r.text r.table l
-        → tables_of_progress (fold progress_after (at_place (state_of r.stage) t.line l) ts) ≡ and_then (rest_of_text ts r t.line) (λ y. tables_from (last_line t.line ts) y))
+        → tables_of_progress (fold progress_after (at_place (state_of_stage r.stage) t.line l) ts) ≡ and_then (rest_of_text ts r t.line) (λ y. tables_from (last_line t.line ts) y))
         → Both (Follows k t) r z
-        → tables_of_progress (fold progress_after (step_on z (at_place (state_of s) line k) t) ts)
+        → tables_of_progress (fold progress_after (step_on z (at_place (state_of_stage s) line k) t) ts)
         ≡ and_then (and_then (judged t.line r) (λ u. rest_of_text ts u t.line)) (λ y. tables_from (last_line t.line ts) y)
-    by None None ih b = stays_stopped ts (state_of s) line t.line
+    by None None ih b = stays_stopped ts (state_of_stage s) line t.line
     by (Some r) (Some z) ih b =
         ap (λ a. tables_of_progress (fold progress_after (at_place a t.line (known_after k z.1 t)) ts)) b.0 ∙ ih r (known_after k z.1 t) b.1
     by None (Some z) ih b = absurd b

@@ -32,20 +32,18 @@ use Rattle.nk_tabgrammar.specs.declared.states.Tells.TheVariants as tells
 use Rattle.nk_tabgrammar.specs.declared.written.ReadError.{ReadError}
 use Rattle.nk_tabgrammar.specs.declared.written.ReadError.TheVariants as error
 use Rattle.nk_tabgrammar.specs.Answer.{terminals}
-use Rattle.nk_tabgrammar.specs.Spelling.{GoesOn}
-use Rattle.nk_tabgrammar.specs.States.{after, at_end}
-use Rattle.nk_tabtext.specs.Values.{FaultLine, fault_of, group_fault, has_key, length_fault, line_above, line_if, ones_fault, put_match, table_fault, tables_of_tokens, unless_at, version_fault, whole}
+use Rattle.nk_tabgrammar.specs.Machine.{no_number}
+use Rattle.nk_tabgrammar.specs.Spelling.{TableTextGoesOn}
+use Rattle.nk_tabgrammar.specs.States.{after_token, at_end}
+use Rattle.nk_tabtext.specs.Values.{FaultLine, fault_of, group_fault, has_key, length_fault, line_above, line_if, ones_fault, placed_match, table_fault, tables_of_tokens, unless_at, version_fault, whole}
 
 -- the number that a token is
-abbrev pub number_in : Token → Number
-number_in t = record { value = t.value; line = t.line }
-
-abbrev pub no_number : Number
-no_number = record { value = 0; line = 0 }
+abbrev pub number_of_token : Token → Number
+number_of_token t = record { value = t.value; line = t.line }
 
 -- the word that a token is
-abbrev pub word_in : Token → Word
-word_in t = record { text = t.text; line = t.line }
+abbrev pub word_of_token : Token → Word
+word_of_token t = record { text = t.text; line = t.line }
 
 -- ---- declarations
 
@@ -80,26 +78,26 @@ abbrev pub declares_of : DeclaringValue → Result DeclaredValue DeclareError �
 declares_of d (Ok s) = Ok (record d { said = s })
 declares_of d (Err e) = Err (fault_of e)
 
-abbrev pub declares : DeclaringValue → declare.Declaration → Result DeclaringValue ReadError
+abbrev pub declares : DeclaringValue → declare.NetworkDeclaration → Result DeclaringValue ReadError
 declares d declaration = declares_of d (declared_with d.said declaration)
 
 abbrev pub field_name_told : DeclaringValue → Token → Result DeclaringValue ReadError
-field_name_told d t = Ok (record d { name = word_in t })
+field_name_told d t = Ok (record d { name = word_of_token t })
 
 abbrev pub field_max_told : DeclaringValue → Token → Result DeclaringValue ReadError
-field_max_told d t = declares d (declare.field d.name (number_in t))
+field_max_told d t = declares d (declare.field d.name (number_of_token t))
 
 abbrev pub tag_told : DeclaringValue → Token → Result DeclaringValue ReadError
-tag_told d t = declares d (declare.tag (word_in t))
+tag_told d t = declares d (declare.tag (word_of_token t))
 
 abbrev pub switch_told : DeclaringValue → Token → Result DeclaringValue ReadError
-switch_told d t = unless_declared (number_fault d.said.topo (number_in t)) (record d { switch = t.value; ports = [] })
+switch_told d t = unless_declared (number_fault d.said.topo (number_of_token t)) (record d { switch = t.value; ports = [] })
 
 abbrev pub port_told : DeclaringValue → Token → Result DeclaringValue ReadError
-port_told d t = unless_declared (port_fault d.ports (number_in t)) (record d { ports = d.ports ++ t.value ∷ [] })
+port_told d t = unless_declared (port_fault d.ports (number_of_token t)) (record d { ports = d.ports ++ t.value ∷ [] })
 
 abbrev pub link_told : DeclaringValue → Token → Result DeclaringValue ReadError
-link_told d t = declares d (declare.link d.from_switch d.from_port d.to_switch (number_in t))
+link_told d t = declares d (declare.link d.from_switch d.from_port d.to_switch (number_of_token t))
 
 -- the switch is declared with its ports, where it is new; where a text is read, it is
 abbrev pub switch_ends_told : DeclaringValue → DeclaringValue
@@ -154,7 +152,7 @@ finished tables f = finished_at f.switch tables f
 abbrev pub table_told : DeclaredValue → List (ℕ × Table) → FillingValue → Token → Result (FillingValue × List (ℕ × Table)) ReadError
 table_told s tables f t =
     let before = finished tables f in
-    unless_at (table_fault s.topo before (number_in t)) (record f { switch = Some t.value; groups = []; rows = [] }, before)
+    unless_at (table_fault s.topo before (number_of_token t)) (record f { switch = Some t.value; groups = []; rows = [] }, before)
 
 -- a row with this target is whole
 abbrev pub row_ends : FillingValue → Target → FillingValue
@@ -183,22 +181,22 @@ match_name_told fields f t =
     unless_at (name_fault fields 1 (λ n. list_any (λ m. m.0 == n) f.matches) t) (with_field_of fields f t)
 
 abbrev pub set_value_told : FillingValue → Token → Result FillingValue ReadError
-set_value_told f t = unless_at (line_above f.max (number_in t)) (record f { sets = act_then f.sets ((f.field, t.value) ∷ []) })
+set_value_told f t = unless_at (line_above f.max (number_of_token t)) (record f { sets = act_then f.sets ((f.field, t.value) ∷ []) })
 
 -- the match is the exact one, unless a length follows
 abbrev pub match_value_told : FillingValue → Token → Result FillingValue ReadError
 match_value_told f t =
-    unless_at (line_above f.max (number_in t))
-    (record f { matches = put_match (f.field, t.value, digits_of f.max) f.matches; value = number_in t })
+    unless_at (line_above f.max (number_of_token t))
+    (record f { matches = placed_match (f.field, t.value, digits_of f.max) f.matches; value = number_of_token t })
 
 abbrev pub out_port_told : FillingValue → Token → Result FillingValue ReadError
-out_port_told f t = unless_at (line_above 65535 (number_in t)) (record f { exit = exit.Port t.value })
+out_port_told f t = unless_at (line_above 65535 (number_of_token t)) (record f { exit = exit.Port t.value })
 
 abbrev pub group_told : FillingValue → Token → Result FillingValue ReadError
-group_told f t = unless_at (group_fault f.groups (number_in t)) (record f { number = t.value; buckets = [] })
+group_told f t = unless_at (group_fault f.groups (number_of_token t)) (record f { number = t.value; buckets = [] })
 
 abbrev pub row_told : FillingValue → Token → Result FillingValue ReadError
-row_told f t = unless_at (line_above 65535 (number_in t)) (record f { priority = t.value })
+row_told f t = unless_at (line_above 65535 (number_of_token t)) (record f { priority = t.value })
 
 abbrev pub row_group_told : FillingValue → Token → Result FillingValue ReadError
 row_group_told f t = unless_at (line_if (not (has_key f.groups t.value)) t.line) (row_ends f (does.Group t.value))
@@ -215,7 +213,7 @@ match_set m (x ∷ xs) = if nat_lt x.0 m.0 then x ∷ match_set m xs else m ∷ 
 abbrev pub match_length_told : (version : ℕ) → FillingValue → Token → Result FillingValue ReadError
 match_length_told version f t =
     let digits = digits_of f.max in
-    unless_at (first_of (length_fault version digits (Some (number_in t))) (ones_fault digits t.value f.value))
+    unless_at (first_of (length_fault version digits (Some (number_of_token t))) (ones_fault digits t.value f.value))
     (record f { matches = match_set (f.field, f.value.value, t.value) f.matches })
 
 abbrev pub bucket_read : FillingValue → Bucket
@@ -256,12 +254,12 @@ abbrev pub with_filling : PartialValue → Result FillingValue ReadError → Res
 with_filling p (Ok f) = Ok (record p { filling = f })
 with_filling p (Err e) = Err e
 
-abbrev pub with_table : PartialValue → Result (FillingValue × List (ℕ × Table)) ReadError → Result PartialValue ReadError
-with_table p (Ok r) = Ok (record p { filling = r.0; tables = r.1 })
-with_table p (Err e) = Err e
+abbrev pub with_filled : PartialValue → Result (FillingValue × List (ℕ × Table)) ReadError → Result PartialValue ReadError
+with_filled p (Ok r) = Ok (record p { filling = r.0; tables = r.1 })
+with_filled p (Err e) = Err e
 
 abbrev pub version_told : PartialValue → Token → Result PartialValue ReadError
-version_told p t = unless_at (version_fault (number_in t)) (record p { version = t.value })
+version_told p t = unless_at (version_fault (number_of_token t)) (record p { version = t.value })
 
 -- what is known after a token that tells this, or the line of the rule that it breaks
 abbrev pub told : Tells → PartialValue → Token → Result PartialValue ReadError
@@ -273,11 +271,11 @@ told tells.Tag p t = with_declaring p (tag_told p.declaring t)
 told tells.Switch p t = with_declaring p (switch_told p.declaring t)
 told tells.Port p t = with_declaring p (port_told p.declaring t)
 told tells.SwitchEnds p t = Ok (record p { declaring = switch_ends_told p.declaring })
-told tells.LinkSwitch p t = Ok (record p { declaring = record p.declaring { from_switch = number_in t } })
-told tells.LinkPort p t = Ok (record p { declaring = record p.declaring { from_port = number_in t } })
-told tells.LinkToSwitch p t = Ok (record p { declaring = record p.declaring { to_switch = number_in t } })
+told tells.LinkSwitch p t = Ok (record p { declaring = record p.declaring { from_switch = number_of_token t } })
+told tells.LinkPort p t = Ok (record p { declaring = record p.declaring { from_port = number_of_token t } })
+told tells.LinkToSwitch p t = Ok (record p { declaring = record p.declaring { to_switch = number_of_token t } })
 told tells.LinkToPort p t = with_declaring p (link_told p.declaring t)
-told tells.Table p t = with_table p (table_told p.declaring.said p.tables p.filling t)
+told tells.Table p t = with_filled p (table_told p.declaring.said p.tables p.filling t)
 told tells.Group p t = with_filling p (group_told p.filling t)
 told tells.SetName p t = with_filling p (set_name_told p.declaring.said.fields p.filling t)
 told tells.SetValue p t = with_filling p (set_value_told p.filling t)
@@ -321,16 +319,16 @@ abbrev pub first_progress : Progress
 first_progress = record { state = state.Start; line = 1; known = Sound first_partial }
 
 -- the line of a fault
-abbrev pub fault_line : ReadError → Option ℕ
-fault_line error.NoMemory = None
-fault_line (error.BadByte line) = Some line
-fault_line (error.NumberTooLarge line) = Some line
-fault_line (error.Unexpected line) = Some line
-fault_line (error.TableFault line) = Some line
+abbrev pub line_of_fault : ReadError → Option ℕ
+line_of_fault error.NoMemory = None
+line_of_fault (error.BadByte line) = Some line
+line_of_fault (error.NumberTooLarge line) = Some line
+line_of_fault (error.Unexpected line) = Some line
+line_of_fault (error.TableFault line) = Some line
 
 abbrev pub known_of : Result PartialValue ReadError → KnownValue
 known_of (Ok p) = Sound p
-known_of (Err e) = Faulty (unwrap_or (fault_line e) 0)
+known_of (Err e) = Faulty (unwrap_or (line_of_fault e) 0)
 
 -- what is known after a token that tells this; a fault of the rules stays
 abbrev pub known_after : KnownValue → Tells → Token → KnownValue
@@ -349,7 +347,7 @@ step_on (Some s) p t = record { state = s.0; line = t.line; known = known_after 
 -- one more token, which changes nothing where no text goes on any more
 abbrev pub progress_on : KnownValue → Progress → Token → Progress
 progress_on (Stopped line) p t = p
-progress_on k p t = step_on (after p.state t.kind) p t
+progress_on k p t = step_on (after_token p.state t.kind) p t
 
 abbrev pub progress_after : Progress → Token → Progress
 progress_after p t = progress_on p.known p t
@@ -367,15 +365,15 @@ abbrev pub IsStopped : Progress → Type 0
 IsStopped p = is_stopped p.known ≡ true
 
 -- what the text is, where it ends with what is known; `e` is what its end tells, where it may end
-abbrev pub end_of : KnownValue → Option Tells → (line : ℕ) → Result Tables ReadError
-end_of (Stopped at) e line = Err (error.Unexpected at)
-end_of (Faulty at) (Some e) line = Err (error.TableFault at)
-end_of (Faulty at) None line = Err (error.Unexpected line)
-end_of (Sound p) (Some e) line = tables_at_end e p line
-end_of (Sound p) None line = Err (error.Unexpected line)
+abbrev pub read_at_end : KnownValue → Option Tells → (line : ℕ) → Result Tables ReadError
+read_at_end (Stopped at) e line = Err (error.Unexpected at)
+read_at_end (Faulty at) (Some e) line = Err (error.TableFault at)
+read_at_end (Faulty at) None line = Err (error.Unexpected line)
+read_at_end (Sound p) (Some e) line = tables_at_end e p line
+read_at_end (Sound p) None line = Err (error.Unexpected line)
 
 abbrev pub tables_of_progress : Progress → Result Tables ReadError
-tables_of_progress p = end_of p.known (at_end p.state) p.line
+tables_of_progress p = read_at_end p.known (at_end p.state) p.line
 
 -- Read token by token, a text is what it is as a whole: this is the law that `end` rests on.
 abbrev pub ReadsAsWhole : Type 0
@@ -383,9 +381,9 @@ ReadsAsWhole = (ts : List Token) → tables_of_progress (fold progress_after fir
 
 -- A reader has stopped exactly where no text goes on with the tokens.
 abbrev pub StopsWithTexts : Type 0
-StopsWithTexts = (ts : List Token) → IsStopped (fold progress_after first_progress ts) ↔ (GoesOn (terminals ts) → ⊥)
+StopsWithTexts = (ts : List Token) → IsStopped (fold progress_after first_progress ts) ↔ (TableTextGoesOn (terminals ts) → ⊥)
 
 -- where memory ran out, nothing changed
-abbrev pub IsKept : {X V : Type 0} → Result X ReadError → V → V → Type 0
-IsKept (Err error.NoMemory) old new = new ≡ old
-IsKept r old new = ⊤
+abbrev pub StaysWithoutMemory : {X V : Type 0} → Result X ReadError → V → V → Type 0
+StaysWithoutMemory (Err error.NoMemory) old new = new ≡ old
+StaysWithoutMemory r old new = ⊤

@@ -45,7 +45,7 @@ use Rattle.nk_tabgrammar.specs.declared.written.ReadError.{ReadError}
 use Rattle.nk_tabgrammar.specs.declared.written.ReadError.TheVariants as error
 use Rattle.nk_declare.specs.declared.fault.DeclareError.{DeclareError}
 use Rattle.nk_declare.specs.declared.fault.DeclareError.TheVariants as refused
-use Rattle.nk_declare.specs.Declarations.{DeclaredValue, nothing_declared, declared_after, is_from, place_in, most_in}
+use Rattle.nk_declare.specs.Declarations.{DeclaredValue, nothing_declared, declared_after, is_from, place_of_field, most_in}
 use Rattle.nk_declare.specs.Declarations as declare
 use Rattle.nk_tabgrammar.specs.Machine.{written_of}
 
@@ -74,7 +74,7 @@ checked (Some line) rest = Err (error.TableFault line)
 -- ---- declarations
 
 -- a declaration as any text has it
-abbrev pub plain_declaration : Declaration → declare.Declaration
+abbrev pub plain_declaration : Declaration → declare.NetworkDeclaration
 plain_declaration (declared.Field w n) = declare.field w n
 plain_declaration (declared.Tag w) = declare.tag w
 plain_declaration (declared.Switch n p ps) = declare.switch n (p ∷ ps)
@@ -108,11 +108,11 @@ value_fault fields low taken w n =
 -- an assignment behind others: its field, from `low` on, has none of them
 abbrev pub pair_fault : FieldTable → (low : ℕ) → List (ℕ × ℕ) → Pair → FaultLine
 pair_fault fields low before p =
-    value_fault fields low (list_any (λ s. s.0 == place_in fields p.name) before) p.name p.number
+    value_fault fields low (list_any (λ s. s.0 == place_of_field fields p.name) before) p.name p.number
 
 -- the field and the value
 abbrev pub pair_read : FieldTable → (low : ℕ) → List (ℕ × ℕ) → Pair → Result (ℕ × ℕ) ReadError
-pair_read fields low before p = unless_at (pair_fault fields low before p) (place_in fields p.name, p.number.value)
+pair_read fields low before p = unless_at (pair_fault fields low before p) (place_of_field fields p.name, p.number.value)
 
 -- all of them, by field
 abbrev pub pairs_read : FieldTable → (low : ℕ) → List (ℕ × ℕ) → List Pair → Result (List (ℕ × ℕ)) ReadError
@@ -144,24 +144,24 @@ abbrev pub match_fault : (version : ℕ) → FieldTable → List (ℕ × ℕ × 
 match_fault version fields before m =
     let digits = digits_in fields m.name in
     first_of
-    (value_fault fields 1 (list_any (λ s. s.0 == place_in fields m.name) before) m.name m.number)
+    (value_fault fields 1 (list_any (λ s. s.0 == place_of_field fields m.name) before) m.name m.number)
     (first_of (length_fault version digits m.length) (ones_fault digits (length_in digits m.length) m.number))
 
 -- the field, the value and how many of its digits count
 abbrev pub match_read : (version : ℕ) → FieldTable → List (ℕ × ℕ × ℕ) → WrittenMatch → Result (ℕ × ℕ × ℕ) ReadError
 match_read version fields before m =
     unless_at (match_fault version fields before m)
-    (place_in fields m.name, m.number.value, length_in (digits_in fields m.name) m.length)
+    (place_of_field fields m.name, m.number.value, length_in (digits_in fields m.name) m.length)
 
 -- a match put behind those of lower fields
-abbrev pub put_match : ℕ × ℕ × ℕ → List (ℕ × ℕ × ℕ) → List (ℕ × ℕ × ℕ)
-put_match m before = placed (λ x. nat_lt x.0 m.0) m before
+abbrev pub placed_match : ℕ × ℕ × ℕ → List (ℕ × ℕ × ℕ) → List (ℕ × ℕ × ℕ)
+placed_match m before = placed (λ x. nat_lt x.0 m.0) m before
 
 -- all of them, by field
 abbrev pub matches_read : (version : ℕ) → FieldTable → List (ℕ × ℕ × ℕ) → List WrittenMatch → Result (List (ℕ × ℕ × ℕ)) ReadError
 matches_read version fields before [] = Ok before
 matches_read version fields before (m ∷ ms) =
-    and_then (match_read version fields before m) (λ s. matches_read version fields (put_match s before) ms)
+    and_then (match_read version fields before m) (λ s. matches_read version fields (placed_match s before) ms)
 
 -- an exit: its number is a port's
 abbrev pub way_read : Way → Result Exit ReadError

@@ -1,9 +1,8 @@
 //! What a table text declares, token by token.
 ghost use Rattle.std.specs.Prelude.{◌≡◌, IfOk, OnErr, OnOk};
-ghost use Rattle.nk_declare.specs.Declarations.{nothing_declared};
 ghost use Rattle.nk_tabgrammar.specs.Machine.{Returns};
 ghost use Rattle.nk_tabtext.specs.InMemory.{declaring_in};
-ghost use Rattle.nk_tabtext.specs.Progress.{IsKept, first_declaring, field_max_told, field_name_told, link_told, number_in, port_told, switch_ends_told, switch_told, tag_told};
+ghost use Rattle.nk_tabtext.specs.Progress.{StaysWithoutMemory, first_declaring, field_max_told, field_name_told, link_told, number_of_token, port_told, switch_ends_told, switch_told, tag_told};
 ghost use Rattle.nk_tabtext.specs.Values as meaning;
 
 use nk_declare::{DeclareError, Declared, Ports};
@@ -67,7 +66,7 @@ impl Declaring {
     /// The name of a field.
     pub(crate) fn field_name(&mut self, alloc: Global, token: &Token) -> Result<(), ReadError>
         ensures told { Returns (λ _. declaring_in self.new) result (field_name_told (declaring_in self.old) token.now) }
-        ensures kept { IsKept result (declaring_in self.old) (declaring_in self.new) }
+        ensures kept { StaysWithoutMemory result (declaring_in self.old) (declaring_in self.new) }
     {
         self.name = word_of(alloc, token)?;
         Ok(())
@@ -76,7 +75,7 @@ impl Declaring {
     /// The largest value of the field.
     pub(crate) fn field_max(&mut self, token: &Token) -> Result<(), ReadError>
         ensures told { Returns (λ _. declaring_in self.new) result (field_max_told (declaring_in self.old) token.now) }
-        ensures kept { IsKept result (declaring_in self.old) (declaring_in self.new) }
+        ensures kept { StaysWithoutMemory result (declaring_in self.old) (declaring_in self.new) }
     {
         match self.said.add_field(&self.name, number_in(token)) {
             Ok(()) => Ok(()),
@@ -87,7 +86,7 @@ impl Declaring {
     /// The name of the tag.
     pub(crate) fn tag(&mut self, token: &Token) -> Result<(), ReadError>
         ensures told { Returns (λ _. declaring_in self.new) result (tag_told (declaring_in self.old) token.now) }
-        ensures kept { IsKept result (declaring_in self.old) (declaring_in self.new) }
+        ensures kept { StaysWithoutMemory result (declaring_in self.old) (declaring_in self.new) }
     {
         match self.said.add_tag(token.text.as_slice(), token.line) {
             Ok(()) => Ok(()),
@@ -98,7 +97,7 @@ impl Declaring {
     /// The number of a switch.
     pub(crate) fn switch(&mut self, alloc: Global, token: &Token) -> Result<(), ReadError>
         ensures told { Returns (λ _. declaring_in self.new) result (switch_told (declaring_in self.old) token.now) }
-        ensures kept { IsKept result (declaring_in self.old) (declaring_in self.new) }
+        ensures kept { StaysWithoutMemory result (declaring_in self.old) (declaring_in self.new) }
     {
         match self.said.new_switch(number_in(token)) {
             Ok(switch) => {
@@ -113,7 +112,7 @@ impl Declaring {
     /// A port of the switch.
     pub(crate) fn port(&mut self, token: &Token) -> Result<(), ReadError>
         ensures told { Returns (λ _. declaring_in self.new) result (port_told (declaring_in self.old) token.now) }
-        ensures kept { IsKept result (declaring_in self.old) (declaring_in self.new) }
+        ensures kept { StaysWithoutMemory result (declaring_in self.old) (declaring_in self.new) }
     {
         match self.ports.add(number_in(token)) {
             Ok(()) => Ok(()),
@@ -134,21 +133,21 @@ impl Declaring {
 
     /// The source's switch of a link.
     pub(crate) fn link_switch(&mut self, token: &Token)
-        ensures { declaring_in self.new ≡ record (declaring_in self.old) { from_switch = number_in token.now } }
+        ensures { declaring_in self.new ≡ record (declaring_in self.old) { from_switch = number_of_token token.now } }
     {
         self.from_switch = number_in(token);
     }
 
     /// The source's port.
     pub(crate) fn link_port(&mut self, token: &Token)
-        ensures { declaring_in self.new ≡ record (declaring_in self.old) { from_port = number_in token.now } }
+        ensures { declaring_in self.new ≡ record (declaring_in self.old) { from_port = number_of_token token.now } }
     {
         self.from_port = number_in(token);
     }
 
     /// The target's switch.
     pub(crate) fn link_to_switch(&mut self, token: &Token)
-        ensures { declaring_in self.new ≡ record (declaring_in self.old) { to_switch = number_in token.now } }
+        ensures { declaring_in self.new ≡ record (declaring_in self.old) { to_switch = number_of_token token.now } }
     {
         self.to_switch = number_in(token);
     }
@@ -156,7 +155,7 @@ impl Declaring {
     /// The target's port.
     pub(crate) fn link_to_port(&mut self, token: &Token) -> Result<(), ReadError>
         ensures told { Returns (λ _. declaring_in self.new) result (link_told (declaring_in self.old) token.now) }
-        ensures kept { IsKept result (declaring_in self.old) (declaring_in self.new) }
+        ensures kept { StaysWithoutMemory result (declaring_in self.old) (declaring_in self.new) }
     {
         let to_port = number_in(token);
         match self

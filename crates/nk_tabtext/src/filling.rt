@@ -1,10 +1,10 @@
 //! The table of a switch, token by token.
-ghost use Rattle.std.specs.Prelude.{◌≡◌, ◌≤◌, ◌<◌, ◌+◌, [], length, vec_capacity, vec_len, None, IfOk, OnErr, OnOk};
+ghost use Rattle.std.specs.Prelude.{◌≡◌, ◌<◌, [], length, vec_capacity, vec_len, None, OnErr, OnOk};
 ghost use Rattle.nk_declare.specs.InMemory.{declared_in};
 ghost use Rattle.nk_tabgrammar.specs.Machine.{Returns};
 ghost use Rattle.nk_tabtext.specs.InMemory.{filling_in};
 ghost use Rattle.nk_tabtext.specs.Progress.{
-  IsKept,
+  StaysWithoutMemory,
   finished,
   first_filling,
   group_bucket_told,
@@ -98,8 +98,8 @@ impl Filling {
     ) -> Result<(), ReadError>
         ensures told { Returns (λ _. (filling_in self.new, tables.new.entries)) result
             (table_told (declared_in said.now) tables.old.entries (filling_in self.old) token.now) }
-        ensures kept { IsKept result (filling_in self.old) (filling_in self.new) }
-        ensures same { IsKept result tables.old.entries tables.new.entries }
+        ensures kept { StaysWithoutMemory result (filling_in self.old) (filling_in self.new) }
+        ensures same { StaysWithoutMemory result tables.old.entries tables.new.entries }
     {
         self.finish(alloc, tables)?;
         let switch = small(number_in(token))?;
@@ -140,7 +140,7 @@ impl Filling {
     #[inline(never)]
     pub(crate) fn group(&mut self, alloc: Global, token: &Token) -> Result<(), ReadError>
         ensures told { Returns (λ _. filling_in self.new) result (group_told (filling_in self.old) token.now) }
-        ensures kept { IsKept result (filling_in self.old) (filling_in self.new) }
+        ensures kept { StaysWithoutMemory result (filling_in self.old) (filling_in self.new) }
     {
         let number = token.value;
         refuse_if(number == 0 || self.groups.contains_key(&number), token.line)?;
@@ -186,7 +186,7 @@ impl Filling {
     /// The name of a field that the bucket assigns.
     pub(crate) fn set_name(&mut self, fields: &Fields, token: &Token) -> Result<(), ReadError>
         ensures told { Returns (λ _. filling_in self.new) result (set_name_told fields.now (filling_in self.old) token.now) }
-        ensures kept { IsKept result (filling_in self.old) (filling_in self.new) }
+        ensures kept { StaysWithoutMemory result (filling_in self.old) (filling_in self.new) }
     {
         match field_with(fields, token.text.as_slice()) {
             Some(field) => {
@@ -204,7 +204,7 @@ impl Filling {
     #[inline(never)]
     pub(crate) fn set_value(&mut self, alloc: Global, token: &Token) -> Result<(), ReadError>
         ensures told { Returns (λ _. filling_in self.new) result (set_value_told (filling_in self.old) token.now) }
-        ensures kept { IsKept result (filling_in self.old) (filling_in self.new) }
+        ensures kept { StaysWithoutMemory result (filling_in self.old) (filling_in self.new) }
     {
         refuse_if(self.max < token.value, token.line)?;
         let set = Act::one(alloc, self.field, token.value)?;
@@ -215,7 +215,7 @@ impl Filling {
     /// The port to which the bucket sends.
     pub(crate) fn out_port(&mut self, token: &Token) -> Result<(), ReadError>
         ensures told { Returns (λ _. filling_in self.new) result (out_port_told (filling_in self.old) token.now) }
-        ensures kept { IsKept result (filling_in self.old) (filling_in self.new) }
+        ensures kept { StaysWithoutMemory result (filling_in self.old) (filling_in self.new) }
     {
         self.exit = Exit::Port(small(number_in(token))?);
         Ok(())
@@ -231,7 +231,7 @@ impl Filling {
     /// The priority of a row.
     pub(crate) fn row(&mut self, token: &Token) -> Result<(), ReadError>
         ensures told { Returns (λ _. filling_in self.new) result (row_told (filling_in self.old) token.now) }
-        ensures kept { IsKept result (filling_in self.old) (filling_in self.new) }
+        ensures kept { StaysWithoutMemory result (filling_in self.old) (filling_in self.new) }
     {
         self.priority = small(number_in(token))?;
         Ok(())
@@ -240,7 +240,7 @@ impl Filling {
     /// The name of a field that the row matches.
     pub(crate) fn match_name(&mut self, fields: &Fields, token: &Token) -> Result<(), ReadError>
         ensures told { Returns (λ _. filling_in self.new) result (match_name_told fields.now (filling_in self.old) token.now) }
-        ensures kept { IsKept result (filling_in self.old) (filling_in self.new) }
+        ensures kept { StaysWithoutMemory result (filling_in self.old) (filling_in self.new) }
     {
         match field_with(fields, token.text.as_slice()) {
             Some(field) => {
@@ -257,7 +257,7 @@ impl Filling {
     /// The value of the matched field. The match is the exact one, unless a length follows.
     pub(crate) fn match_value(&mut self, token: &Token) -> Result<(), ReadError>
         ensures told { Returns (λ _. filling_in self.new) result (match_value_told (filling_in self.old) token.now) }
-        ensures kept { IsKept result (filling_in self.old) (filling_in self.new) }
+        ensures kept { StaysWithoutMemory result (filling_in self.old) (filling_in self.new) }
     {
         refuse_if(self.max < token.value, token.line)?;
         let exact = (self.field, token.value, digits_of(self.max));
@@ -269,7 +269,7 @@ impl Filling {
     /// How many digits of the value count.
     pub(crate) fn match_length(&mut self, version: u64, token: &Token) -> Result<(), ReadError>
         ensures told { Returns (λ _. filling_in self.new) result (match_length_told version (filling_in self.old) token.now) }
-        ensures kept { IsKept result (filling_in self.old) (filling_in self.new) }
+        ensures kept { StaysWithoutMemory result (filling_in self.old) (filling_in self.new) }
     {
         let digits = digits_of(self.max);
         let length = length_of(version, digits, number_in(token))?;
@@ -310,7 +310,7 @@ impl Filling {
     #[inline(never)]
     pub(crate) fn row_group(&mut self, alloc: Global, token: &Token) -> Result<(), ReadError>
         ensures told { Returns (λ _. filling_in self.new) result (row_group_told (filling_in self.old) token.now) }
-        ensures kept { IsKept result (filling_in self.old) (filling_in self.new) }
+        ensures kept { StaysWithoutMemory result (filling_in self.old) (filling_in self.new) }
     {
         refuse_if(!self.groups.contains_key(&token.value), token.line)?;
         self.rows.reserve(1)?;

@@ -2,7 +2,7 @@
 ghost use Rattle.std.specs.Prelude.{◌≡◌, ◌++◌, ◌<◌, length, slice_index, codes, OnOk};
 ghost use Rattle.std.specs.Fmt.{decimal};
 ghost use Rattle.std.specs.List.{flat_map};
-ghost use Rattle.nk_topo.specs.Topology.{numbers_of, ports_of};
+ghost use Rattle.nk_topo.specs.Topology.{ports_of};
 ghost use Rattle.nk_topo.specs.Inside.{link_of};
 ghost use Rattle.nk_tabtext.specs.Text.{name_of, field_text, fields_text, tag_text, ports_text, switch_text, link_text, topology_text};
 

@@ -1,7 +1,7 @@
 //! What reading has to do with printing, and with the declarations of programs.
 ghost use Rattle.nk_tabtext.specs.Alike.{DeclaresAlike};
 ghost use Rattle.nk_tabtext.specs.Progress.{ReadsAsWhole, StopsWithTexts};
-ghost use Rattle.nk_tabtext.specs.ReadBack.{AnswersPrintable, ReadsPrinted};
+ghost use Rattle.nk_tabtext.specs.ReadBack.{AnswersPrintable, ReadsPrintedTables};
 
 /// What is printed of tables is read back as these tables, wherever they keep the rules of a text. Their fields, names
 /// and largest values can be declared, a tag among them; each switch has a port and exactly one table, in the order of
@@ -9,7 +9,7 @@ ghost use Rattle.nk_tabtext.specs.ReadBack.{AnswersPrintable, ReadsPrinted};
 /// field but the switch, with a value in its range; at least one digit of the value counts, at most as many as the
 /// field's largest value has, and the digits behind those are zeros.
 pub fn printed_tables_are_read()
-    ensures { ReadsPrinted }
+    ensures { ReadsPrintedTables }
 {}
 
 /// The tables that are read from any text are such tables.

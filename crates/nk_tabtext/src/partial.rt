@@ -3,7 +3,7 @@ ghost use Rattle.std.specs.Prelude.{◌≡◌, IfOk, OnOk};
 ghost use Rattle.nk_declare.specs.InMemory.{declared_in};
 ghost use Rattle.nk_tabgrammar.specs.Machine.{Returns};
 ghost use Rattle.nk_tabtext.specs.InMemory.{partial_in};
-ghost use Rattle.nk_tabtext.specs.Progress.{IsKept, end_told, first_partial, tables_at_end, told, version_told};
+ghost use Rattle.nk_tabtext.specs.Progress.{StaysWithoutMemory, end_told, first_partial, tables_at_end, told, version_told};
 ghost use Rattle.nk_tabtext.specs.Values.{whole};
 
 use crate::declaring::Declaring;
@@ -57,7 +57,7 @@ impl Partial {
     /// The number behind the word `tables`.
     fn version(&mut self, token: &Token) -> Result<(), ReadError>
         ensures told { Returns (λ _. partial_in self.new) result (version_told (partial_in self.old) token.now) }
-        ensures kept { IsKept result (partial_in self.old) (partial_in self.new) }
+        ensures kept { StaysWithoutMemory result (partial_in self.old) (partial_in self.new) }
     {
         refuse_if(token.value != 1 && token.value != 2, token.line)?;
         self.version = token.value;
@@ -72,7 +72,7 @@ impl Partial {
         token: &Token,
     ) -> Result<(), ReadError>
         ensures told { Returns (λ _. partial_in self.new) result (told tells (partial_in self.old) token.now) }
-        ensures kept { IsKept result (partial_in self.old) (partial_in self.new) }
+        ensures kept { StaysWithoutMemory result (partial_in self.old) (partial_in self.new) }
     {
         match tells {
             Tells::Nothing => Ok(()),

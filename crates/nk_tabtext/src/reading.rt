@@ -4,10 +4,10 @@ ghost use Rattle.nk_lex.specs.declared.token.Token.{Token};
 ghost use Rattle.nk_lex.specs.Lex.{tokens_of};
 ghost use Rattle.nk_tabgrammar.specs.Answer.{terminals};
 ghost use Rattle.nk_tabgrammar.specs.Machine.{Returns};
-ghost use Rattle.nk_tabgrammar.specs.Spelling.{GoesOn};
+ghost use Rattle.nk_tabgrammar.specs.Spelling.{TableTextGoesOn};
 ghost use Rattle.nk_tabtext.specs.InMemory.{known_in};
-ghost use Rattle.nk_tabtext.specs.Progress.{IsStopped, IsTaken, Stopped, fault_line, is_stopped, known_after, progress_after, tables_of_progress, with_fault};
-ghost use Rattle.nk_tabtext.specs.ReadBack.{IsPrintable};
+ghost use Rattle.nk_tabtext.specs.Progress.{IsStopped, IsTaken, Stopped, line_of_fault, is_stopped, known_after, progress_after, tables_of_progress, with_fault};
+ghost use Rattle.nk_tabtext.specs.ReadBack.{ArePrintableTables};
 ghost use Rattle.nk_tabtext.specs.Values.{lexed, tables_of, tables_of_tokens};
 
 use crate::partial::Partial;
@@ -30,7 +30,7 @@ enum Known {
 
 /// The line of a fault, or none where memory ran out.
 fn line_of(error: ReadError) -> Option<u64>
-    ensures { result ≡ fault_line error }
+    ensures { result ≡ line_of_fault error }
 {
     match error {
         ReadError::NoMemory => None,
@@ -151,7 +151,7 @@ impl TableReader {
     /// with the tokens so far, nothing changes any more and no memory is taken.
     pub fn take(&mut self, alloc: Global, token: &Token) -> Result<(), AllocError>
         ensures tokens { (ts : List Token) → IsTaken ts self.old → OnOk result (IsTaken (ts ++ token.now ∷ []) self.new) }
-        ensures unmended { (ts : List Token) → IsTaken ts self.old → (GoesOn (terminals ts) → ⊥) → IsOk result × (self.new ≡ self.old) }
+        ensures unmended { (ts : List Token) → IsTaken ts self.old → (TableTextGoesOn (terminals ts) → ⊥) → IsOk result × (self.new ≡ self.old) }
         ensures stopped { IsStopped self.old → IsOk result × (self.new ≡ self.old) }
         ensures err { OnErr result (self.new ≡ self.old) }
     {
@@ -190,7 +190,7 @@ impl TableReader {
     /// refused or not.
     pub fn end(self, alloc: Global) -> Result<Tables, ReadError>
         ensures tables { (ts : List Token) → IsTaken ts self → Returns (λ t. t) result (tables_of_tokens ts) }
-        ensures printable { (text : List ℕ) (ts : List Token) → tokens_of text ≡ Ok ts → IsTaken ts self → IfOk result IsPrintable }
+        ensures printable { (text : List ℕ) (ts : List Token) → tokens_of text ≡ Ok ts → IsTaken ts self → IfOk result ArePrintableTables }
     {
         self.known_at_end(alloc)
     }
@@ -229,7 +229,7 @@ fn lex(alloc: Global, text: &[u8]) -> Result<Vec<Token>, ReadError>
 /// assignments by field, rows and buckets as in the text. They can all be printed and read back.
 pub fn read_tables(alloc: Global, text: &[u8]) -> Result<Tables, ReadError>
     ensures tables { Returns (λ t. t) result (tables_of text.now) }
-    ensures printable { IfOk result IsPrintable }
+    ensures printable { IfOk result ArePrintableTables }
 {
     let tokens = lex(alloc, text)?;
     let mut reader = TableReader::new(alloc)?;

@@ -3,7 +3,7 @@ ghost use Rattle.std.specs.Prelude.{◌≡◌, ◌++◌, not, codes, OnOk};
 ghost use Rattle.std.specs.List.{flat_map, list_any};
 ghost use Rattle.nk_table.specs.Rules.{rows_of};
 ghost use Rattle.nk_tabtext.specs.Text as text;
-ghost use Rattle.nk_tabtext.specs.Text.{is_tag, name_of, length_text, match_text, set_text, where_same, matches_text, sets_text, exit_text, bucket_text, target_text, row_text, group_text, rules_text, section_text, version_of, AreTablesFrom};
+ghost use Rattle.nk_tabtext.specs.Text.{is_tag, length_text, match_text, set_text, where_same, matches_text, sets_text, exit_text, bucket_text, target_text, row_text, group_text, rules_text, section_text, version_of, AreTablesFrom};
 
 use crate::number;
 use nk_field::{Fid, Fields};

@@ -1,9 +1,9 @@
 //! Numbers, matches and assignments, and what may be wrong with them.
-ghost use Rattle.std.specs.Prelude.{◌≡◌, ◌≤◌, ◌-◌, ◌%◌, ◌^◌, length, nat_lt, IfOk, OnErr, OnOk, Some};
+ghost use Rattle.std.specs.Prelude.{◌≡◌, ◌≤◌, ◌-◌, ◌%◌, length, nat_lt, IfOk, OnErr, OnOk, Some};
 ghost use Rattle.std.specs.Prelude.{◌==◌};
 ghost use Rattle.std.specs.List.{list_any, prefix_len};
 ghost use Rattle.nk_tabtext.specs.Progress.{match_set};
-ghost use Rattle.nk_tabtext.specs.Values.{line_if, length_fault, length_in, ones_fault, put_match, unless_at, line_above};
+ghost use Rattle.nk_tabtext.specs.Values.{line_if, length_fault, length_in, ones_fault, placed_match, unless_at, line_above};
 
 use nk_field::Fid;
 use nk_lex::Number;
@@ -87,7 +87,7 @@ pub(crate) fn place_of(matches: &[(Fid, u64, u8)], field: Fid) -> usize
 
 /// Puts a match behind those of lower fields.
 pub(crate) fn put(before: &mut Vec<(Fid, u64, u8)>, m: (Fid, u64, u8)) -> Result<(), AllocError>
-    ensures ok { OnOk result (before.new.items ≡ put_match m before.old.items) }
+    ensures ok { OnOk result (before.new.items ≡ placed_match m before.old.items) }
     ensures err { OnErr result (before.new.items ≡ before.old.items) }
 {
     let place = place_of(before.as_slice(), m.0);

@@ -2,7 +2,7 @@
 ghost use Rattle.std.specs.Prelude.{◌≤◌, All};
 ghost use Rattle.nk_lex.specs.Lex.{largest};
 
-use nk_compile::{CompileError, Refusal, TablePair, compile_pair, tag_count};
+use nk_compile::{CompileError, Refusal, compile_pair, tag_count};
 use nk_grammar::file;
 use nk_lex::{Token, tokens};
 use nk_names::Program;

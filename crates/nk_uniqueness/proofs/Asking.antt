@@ -9,8 +9,8 @@ use Rattle.nk_names.specs.declared.Program.{Program}
 use Rattle.nk_names.specs.ProgramOf.{said_by}
 use Rattle.nk_cert.specs.Certificates.{CertificateValue}
 use Rattle.nk_cert.specs.Verdicts.{Finding, IsFinding}
-use Rattle.nk_query.specs.Asked.{Asked, Question, NamesQuestion, NoneBreaks, IsBreaking, IsLeastBreak, are_predicates}
-use Rattle.nk_query.specs.Answers.{IsCause, IsAsked, asked_policy}
+use Rattle.nk_query.specs.Asked.{Asked, Question, NamesQuestion, NoneBreaks, IsBreaking, IsLeastBreak, rest_are_predicates}
+use Rattle.nk_query.specs.Answers.{IsHindranceByName, IsAsked, asked_policy}
 use Rattle.nk_query.specs.declared.error.QueryError.{QueryError}
 use Rattle.nk_query.specs.declared.error.QueryError.TheVariants.{NoMemory, NoPolicy, NotAPredicate, TooLarge}
 use Rattle.nk_query.specs.declared.query.Answer.{Answer}
@@ -49,13 +49,13 @@ told_of_asked program asked (Breaks f) h = (h.0, h.1, h.2.0)
 
 module _ (program other : Program) (same : said_by program ≡ said_by other) where
   -- of a question that is named a cause holds in each program that says the same
-  not_predicates : (asked : Asked) → IsCause program asked NotAPredicate → IsCause other asked TooLarge → ⊥
+  not_predicates : (asked : Asked) → IsHindranceByName program asked NotAPredicate → IsHindranceByName other asked TooLarge → ⊥
   not_predicates asked h k =
       let e = one_question program other same asked h.0 k.0 h.1 k.1 in
-      true_false (sym k.2.0 ∙ sym (ap are_predicates e) ∙ h.2)
+      true_false (sym k.2.0 ∙ sym (ap rest_are_predicates e) ∙ h.2)
 
   -- beside want of memory there is one cause
-  pub one_cause : (asked : Asked) (a b : QueryError) → IsCause program asked a → IsCause other asked b
+  pub one_cause : (asked : Asked) (a b : QueryError) → IsHindranceByName program asked a → IsHindranceByName other asked b
       → (a ≡ NoMemory) ⊎ ((b ≡ NoMemory) ⊎ (a ≡ b))
   one_cause asked NoMemory b h k = inl refl
   one_cause asked NoPolicy NoMemory h k = inr (inl refl)
@@ -70,10 +70,10 @@ module _ (program other : Program) (same : said_by program ≡ said_by other) wh
   one_cause asked TooLarge NoPolicy h k = absurd (never_lacks program other same asked h.0 h.1 k)
   one_cause asked TooLarge NotAPredicate h k = absurd (larger k h)
     where
-      larger : IsCause other asked NotAPredicate → IsCause program asked TooLarge → ⊥
+      larger : IsHindranceByName other asked NotAPredicate → IsHindranceByName program asked TooLarge → ⊥
       larger n l =
           let e = one_question program other same asked l.0 n.0 l.1 n.1 in
-          true_false (sym l.2.0 ∙ ap are_predicates e ∙ n.2)
+          true_false (sym l.2.0 ∙ ap rest_are_predicates e ∙ n.2)
   one_cause asked TooLarge TooLarge h k = inr (inr refl)
 
   pub one_told_of_named : OnePrinted → IsFieldTable program.fields → (asked : Asked) (a b : Queried)

@@ -1,7 +1,7 @@
 -- The law on tables by name, for programs that say the same.
 use Rattle.std.proofs.Common.{◌≡◌, ℕ, List, sym}
 use Rattle.nk_names.specs.declared.Program.{Program}
-use Rattle.nk_names.specs.Accepted.{IsStart}
+use Rattle.nk_names.specs.Accepted.{IsStartPacket}
 use Rattle.nk_names.specs.ProgramOf.{said_by}
 use Rattle.nk_names.proofs.Alike.{fields_alike, topo_alike, one_policy}
 use Rattle.nk_table.specs.declared.Tables.{Tables}
@@ -15,5 +15,5 @@ module _ (program other : Program) (same : said_by program ≡ said_by other) (n
   -- the tables that compiling a name gives are one
   pub one_compiled : (t u : Tables) → HavePackets program.fields program.topo → IsCompiled program name t → IsCompiled other name u → t ≡ u
   one_compiled t u there h k =
-      one_table program.fields program.topo (IsStart program.fields program.topo) h.0 t u there h.3
-      (alike (λ f o p. IsTableOf f o (IsStart f o) p u) other.fields program.fields other.topo program.topo k.0 h.0 (sym (fields_alike program other same)) (sym (topo_alike program other same)) (sym (one_policy program other same name h.0 k.0 h.1 k.1)) k.3)
+      one_table program.fields program.topo (IsStartPacket program.fields program.topo) h.0 t u there h.3
+      (alike (λ f o p. IsTableOf f o (IsStartPacket f o) p u) other.fields program.fields other.topo program.topo k.0 h.0 (sym (fields_alike program other same)) (sym (topo_alike program other same)) (sym (one_policy program other same name h.0 k.0 h.1 k.1)) k.3)

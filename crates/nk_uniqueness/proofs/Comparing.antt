@@ -14,7 +14,7 @@ use Rattle.nk_cert.proofs.OneAlone.{no_difference}
 use Rattle.nk_bisim.specs.Answers.{IsCompared}
 use Rattle.nk_cert.specs.declared.compared.Compared.{Compared}
 use Rattle.nk_cert.specs.declared.compared.Compared.TheVariants.{Related, Broken}
-use Rattle.nk_uniqueness.specs.Told.{Told, certified, alone, told_by, LacksOne, IsTold, IsToldFor, IsFoundFor}
+use Rattle.nk_uniqueness.specs.Told.{Told, certified, alone, told_of, LacksOne, IsTold, IsToldFor, IsFoundFor}
 use Rattle.nk_compile.proofs.Orders.{one_least}
 use Rattle.nk_compile.proofs.Reasons.{none_some}
 use Rattle.nk_names.proofs.Alike.{fields_alike, named_alike, one_policy}
@@ -63,7 +63,7 @@ OneFinding = (fields : FieldTable) (p q : Policy) (c : CertificateValue) (v w : 
     → IsFinding fields p q c v → IsFinding fields p q c w → v ≡ w
 
 -- what a comparison answers is told of its names
-told_for : (program : Program) (left right : List ℕ) (a : Compared) → IsCompared program left right (Ok a) → IsToldFor program left right (told_by a)
+told_for : (program : Program) (left right : List ℕ) (a : Compared) → IsCompared program left right (Ok a) → IsToldFor program left right (told_of a)
 told_for program left right (Related c) h = h
 told_for program left right (Broken f) h = h
 
@@ -75,8 +75,8 @@ module _ (program other : Program) (same : said_by program ≡ said_by other) (l
       (told_alike other.fields program.fields k.0 h.0 k.1 h.1 b (sym (fields_alike program other same)) (sym (one_policy program other same left h.0 k.0 h.2 k.2)) (sym (one_policy program other same right h.1 k.1 h.3 k.3)) k.4)
 
   -- so is what comparing them answers
-  pub one_compared : OnePrinted → IsFieldTable program.fields → (a b : Compared) → IsCompared program left right (Ok a) → IsCompared other left right (Ok b) → told_by a ≡ told_by b
-  one_compared law table a b h k = one_told_for law table (told_by a) (told_by b) (told_for program left right a h) (told_for other left right b k)
+  pub one_compared : OnePrinted → IsFieldTable program.fields → (a b : Compared) → IsCompared program left right (Ok a) → IsCompared other left right (Ok b) → told_of a ≡ told_of b
+  one_compared law table a b h k = one_told_for law table (told_of a) (told_of b) (told_for program left right a h) (told_for other left right b k)
 
   -- nothing is told of a name without a policy
   pub none_told : (a : Told) → IsToldFor program left right a → LacksOne other left right → ⊥

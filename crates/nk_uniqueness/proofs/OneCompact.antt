@@ -9,7 +9,7 @@ use Rattle.nk_field.proofs.Ascending.{members_from_all, rising_from, one_list}
 use Rattle.nk_topo.specs.Topology.{Topology, SwitchPorts}
 use Rattle.nk_policy.specs.Policy.{Policy}
 use Rattle.nk_names.specs.declared.Program.{Program}
-use Rattle.nk_names.specs.Accepted.{IsStart}
+use Rattle.nk_names.specs.Accepted.{IsStartPacket}
 use Rattle.nk_names.specs.ProgramOf.{said_by}
 use Rattle.nk_names.proofs.Alike.{fields_alike, topo_alike, one_policy}
 use Rattle.nk_store.specs.Diagram.{leaf_at}
@@ -21,8 +21,8 @@ use Rattle.nk_group.specs.Groups.{groups_of, rows_after}
 use Rattle.nk_switches.specs.Classed.{class_of}
 use Rattle.nk_compile.specs.declared.compact.Apart.{Apart}
 use Rattle.nk_compile.specs.declared.compact.Compact.{Compact}
-use Rattle.nk_compile.specs.Compacted.{IsOfOneAlone, IsLeastAlone, IsFirstSet, IsApartIn, classes_apart, AreAparts, IsCompactOf, IsCompacted}
-use Rattle.nk_compile.specs.MergedTable.{GivesBehind, IsMember, IsMetMember, IsFirstPlace, IsActingMember, ActsFor, IsNumberedList, IsClassTree, HasClassRowsAt, IsClassTable, IsMergedTable}
+use Rattle.nk_compile.specs.Compacted.{IsOfFirstSetAlone, IsLeastAlone, IsFirstSet, IsApartIn, classes_apart, AreAparts, IsCompactOf, IsCompacted}
+use Rattle.nk_compile.specs.MergedTable.{GivesBehind, IsOfClass, IsMetMember, IsFirstPlace, IsActingMember, ActsFor, IsNumberedList, IsClassTree, HasClassRowsAt, IsClassTable, IsMergedTable}
 use Rattle.nk_compile.specs.Refusals.{found_from}
 use Rattle.nk_compile.specs.WholeTable.{TagTree, rows_of_trees}
 use Rattle.nk_compile.proofs.CompactReasons.{one_classes}
@@ -48,7 +48,7 @@ module _ (p : Policy) (Start : Packet → Type 0) (tags : List (List ℕ)) (clas
   one_member c x i j (inl a) (inl b) = one_first (IsMetMember p Start tags classes c x) i j a b
   one_member c x i j (inl a) (inr b) = absurd (b.0 i a.0)
   one_member c x i j (inr a) (inl b) = absurd (a.0 j b.0)
-  one_member c x i j (inr a) (inr b) = one_first (IsMember classes c) i j a.1 b.1
+  one_member c x i j (inr a) (inr b) = one_first (IsOfClass classes c) i j a.1 b.1
 
   one_acts : (c : ℕ) (x : Packet) (t u : ℕ) → ActsFor p Start tags classes c x t → ActsFor p Start tags classes c x u → t ≡ u
   one_acts zero x t u h k = h ∙ sym k
@@ -129,29 +129,29 @@ set_is s t e = cc
 
 module _ (fields : FieldTable) (p : Policy) where
   -- the least of two kinds is that of both in the other order
-  swapped : (s t : List ℕ) (f : Found) → IsLeast (λ g. IsOfOneAlone fields p t s g ⊎ IsOfOneAlone fields p s t g) f → IsLeast (λ g. IsOfOneAlone fields p s t g ⊎ IsOfOneAlone fields p t s g) f
+  swapped : (s t : List ℕ) (f : Found) → IsLeast (λ g. IsOfFirstSetAlone fields p t s g ⊎ IsOfFirstSetAlone fields p s t g) f → IsLeast (λ g. IsOfFirstSetAlone fields p s t g ⊎ IsOfFirstSetAlone fields p t s g) f
   swapped s t f h = (⊎_elim (λ a. inr a) (λ b. inl b) h.0, λ g k. h.1 g (⊎_elim (λ a. inr a) (λ b. inl b) k))
 
   -- the found history and which of both has it
   abbrev Sided : List ℕ → List ℕ → ℕ → ℕ → ℕ → Found → Type 0
   Sided s t first second alone f = ((alone ≡ first) × IsLeastAlone fields p s t f) ⊎ ((alone ≡ second) × IsLeastAlone fields p t s f)
 
-  clash : (s t : List ℕ) (f g : Found) → f ≡ g → IsOfOneAlone fields p s t f → IsOfOneAlone fields p t s g → ⊥
+  clash : (s t : List ℕ) (f g : Found) → f ≡ g → IsOfFirstSetAlone fields p s t f → IsOfFirstSetAlone fields p t s g → ⊥
   clash s t f g e a b = b.2 (subst (λ z. GivesBehind p s z.start z.records z.last) e a.1)
 
   one_sided : (s t : List ℕ) (first second m n : ℕ) (f g : Found) → Sided s t first second m f → Sided s t first second n g → (m ≡ n) × (f ≡ g)
   one_sided s t first second m n f g (inl a) (inl b) =
-      (a.0 ∙ sym b.0, one_least (λ z. IsOfOneAlone fields p s t z ⊎ IsOfOneAlone fields p t s z) f g a.1.1 b.1.1)
+      (a.0 ∙ sym b.0, one_least (λ z. IsOfFirstSetAlone fields p s t z ⊎ IsOfFirstSetAlone fields p t s z) f g a.1.1 b.1.1)
   one_sided s t first second m n f g (inl a) (inr b) =
-      absurd (clash s t f g (one_least (λ z. IsOfOneAlone fields p s t z ⊎ IsOfOneAlone fields p t s z) f g a.1.1 (swapped s t g b.1.1)) a.1.0 b.1.0)
+      absurd (clash s t f g (one_least (λ z. IsOfFirstSetAlone fields p s t z ⊎ IsOfFirstSetAlone fields p t s z) f g a.1.1 (swapped s t g b.1.1)) a.1.0 b.1.0)
   one_sided s t first second m n f g (inr a) (inl b) =
-      absurd (clash t s f g (one_least (λ z. IsOfOneAlone fields p t s z ⊎ IsOfOneAlone fields p s t z) f g a.1.1 (swapped t s g b.1.1)) a.1.0 b.1.0)
+      absurd (clash t s f g (one_least (λ z. IsOfFirstSetAlone fields p t s z ⊎ IsOfFirstSetAlone fields p s t z) f g a.1.1 (swapped t s g b.1.1)) a.1.0 b.1.0)
   one_sided s t first second m n f g (inr a) (inr b) =
-      (a.0 ∙ sym b.0, one_least (λ z. IsOfOneAlone fields p t s z ⊎ IsOfOneAlone fields p s t z) f g a.1.1 b.1.1)
+      (a.0 ∙ sym b.0, one_least (λ z. IsOfFirstSetAlone fields p t s z ⊎ IsOfFirstSetAlone fields p s t z) f g a.1.1 b.1.1)
 
   module _ (tags : List (List ℕ)) (classes : List ℕ) where
     one_first_set : (c : ℕ) (s t : List ℕ) → IsFirstSet tags classes c s → IsFirstSet tags classes c t → s ≡ t
-    one_first_set c s t h k = set_is s t (sym h.2 ∙ ap (λ i. slice_get tags i) (one_first (IsMember classes c) h.0 k.0 h.1 k.1) ∙ k.2)
+    one_first_set c s t h k = set_is s t (sym h.2 ∙ ap (λ i. slice_get tags i) (one_first (IsOfClass classes c) h.0 k.0 h.1 k.1) ∙ k.2)
 
     one_apart : (a b : Apart) → IsApartIn fields p tags classes a → IsApartIn fields p tags classes b → a.first ≡ b.first → a.second ≡ b.second → a ≡ b
     one_apart a b h k e f =
@@ -196,11 +196,11 @@ module _ (fields : FieldTable) (p : Policy) where
 -- what compacting a policy gives is one
 one_compact : (fields : FieldTable) (topo : Topology) (p : Policy) (c d : Compact) → HavePackets fields topo → IsCompactOf fields topo p c → IsCompactOf fields topo p d → c ≡ d
 one_compact fields topo p c d have h k =
-    let tags = one_tag_list p (IsStart fields topo) h.tags k.tags h.merged.in_order k.merged.in_order in
+    let tags = one_tag_list p (IsStartPacket fields topo) h.tags k.tags h.merged.in_order k.merged.in_order in
     let classes = one_classes fields topo p h.tags k.tags h.classes k.classes h.merged.in_order k.merged.in_order h.merged.are_classes k.merged.are_classes in
     let tables =
-    one_merged p (IsStart fields topo) k.tags k.classes fields topo c.tables d.tables have
-    (subst (λ cs. IsMergedTable fields topo (IsStart fields topo) p k.tags cs c.tables) classes (subst (λ ts. IsMergedTable fields topo (IsStart fields topo) p ts h.classes c.tables) tags h.merged)) k.merged in
+    one_merged p (IsStartPacket fields topo) k.tags k.classes fields topo c.tables d.tables have
+    (subst (λ cs. IsMergedTable fields topo (IsStartPacket fields topo) p k.tags cs c.tables) classes (subst (λ ts. IsMergedTable fields topo (IsStartPacket fields topo) p ts h.classes c.tables) tags h.merged)) k.merged in
     let aparts =
     one_aparts fields p k.tags k.classes c.aparts d.aparts
     (subst (λ cs. AreAparts fields p k.tags cs c.aparts) classes (subst (λ ts. AreAparts fields p ts h.classes c.aparts) tags h.apart)) k.apart in

@@ -10,7 +10,7 @@ use Rattle.nk_table.specs.declared.Table.{Table}
 use Rattle.nk_table.specs.declared.Tables.{Tables}
 use Rattle.nk_group.specs.Groups.{groups_of, rows_after}
 use Rattle.nk_compile.specs.NumberedBehind.{tags_behind, IsTableBehind}
-use Rattle.nk_compile.specs.PrintedTable.{IsTreeOf}
+use Rattle.nk_compile.specs.PrintedTable.{IsTreeOfTag}
 use Rattle.nk_compile.specs.WholeTable.{HasRowsAt, TagTree, rows_of_trees, IsSwitchTable, IsTableOf}
 use Rattle.nk_uniqueness.specs.Packets.{HavePackets}
 use Rattle.nk_compile.proofs.Behind.{behind_none}
@@ -44,13 +44,13 @@ same_by_key key (x ∷ xs) (y ∷ ys) e one =
 module _ (fields : FieldTable) (few : length fields.maxima ≤ 18) (tag : ℕ) (p : Policy) (tags : List (List ℕ)) where
   -- the trees of a switch are one list
   one_tree_list : (sw : ℕ) → sw ≤ slice_index fields.maxima 0 → (xs ys : List TagTree) → map (λ e. e.tag) xs ≡ map (λ e. e.tag) ys
-      → ((e : TagTree) → In xs e → IsTreeOf fields tag p tags e.tag sw e.tree)
-      → ((e : TagTree) → In ys e → IsTreeOf fields tag p tags e.tag sw e.tree) → xs ≡ ys
+      → ((e : TagTree) → In xs e → IsTreeOfTag fields tag p tags e.tag sw e.tree)
+      → ((e : TagTree) → In ys e → IsTreeOfTag fields tag p tags e.tag sw e.tree) → xs ≡ ys
   one_tree_list sw within xs ys same h k = same_by_key (λ e. e.tag) xs ys same one
     where
       one : (x y : TagTree) → In xs x → In ys y → x.tag ≡ y.tag → x ≡ y
       one x y i j e =
-          let tree = one_tag_tree fields tag p tags y.tag sw x.tree y.tree few within (subst (λ t. IsTreeOf fields tag p tags t sw x.tree) e (h x i)) (k y j) in
+          let tree = one_tag_tree fields tag p tags y.tag sw x.tree y.tree few within (subst (λ t. IsTreeOfTag fields tag p tags t sw x.tree) e (h x i)) (k y j) in
           λ n. record { tag = e n; tree = tree n }
 
   -- the table of a switch is one
@@ -62,8 +62,8 @@ module _ (fields : FieldTable) (few : length fields.maxima ≤ 18) (tag : ℕ) (
       (λ t i. in_from_contains (map (λ z. z.tag) h.trees) t ((h.exactly t).1 (subst (λ sw. HasRowsAt p tags sw t) (sym e) ((k.exactly t).0 (contains_from_in (map (λ z. z.tag) k.trees) t i))))) in
       let trees =
       one_tree_list a.switch within h.trees k.trees tags_are
-      (λ z i. members_from_all (λ (w : TagTree). IsTreeOf fields tag p tags w.tag a.switch w.tree) h.trees h.each z i)
-      (λ z i. subst (λ sw. IsTreeOf fields tag p tags z.tag sw z.tree) (sym e) (members_from_all (λ (w : TagTree). IsTreeOf fields tag p tags w.tag b.switch w.tree) k.trees k.each z i)) in
+      (λ z i. members_from_all (λ (w : TagTree). IsTreeOfTag fields tag p tags w.tag a.switch w.tree) h.trees h.each z i)
+      (λ z i. subst (λ sw. IsTreeOfTag fields tag p tags z.tag sw z.tree) (sym e) (members_from_all (λ (w : TagTree). IsTreeOfTag fields tag p tags w.tag b.switch w.tree) k.trees k.each z i)) in
       let groups = h.groups ∙ ap (λ ts. groups_of (rows_of_trees fields.maxima tag ts)) trees ∙ sym k.groups in
       let rows = h.rows ∙ ap (λ ts. rows_after [] (rows_of_trees fields.maxima tag ts)) trees ∙ sym k.rows in
       λ n. record { switch = e n; groups = groups n; rows = rows n }

@@ -3,7 +3,7 @@ use Rattle.std.proofs.Common.{◌≡◌, ℕ, ◌⊎◌, inl, inr, Some, List, l
 use Rattle.std.specs.Prelude.{Result, Ok, Err}
 use Rattle.nk_policy.specs.Policy.{Policy}
 use Rattle.nk_names.specs.declared.Program.{Program}
-use Rattle.nk_names.specs.Accepted.{IsStart, IsAccepted}
+use Rattle.nk_names.specs.Accepted.{IsStartPacket, IsAccepted}
 use Rattle.nk_names.specs.Named.{policy_named}
 use Rattle.nk_names.specs.ProgramOf.{said_by}
 use Rattle.nk_names.proofs.Alike.{fields_alike, topo_alike, one_policy}
@@ -47,15 +47,15 @@ module _ (program other : Program) (same : said_by program ≡ said_by other) (o
       let q_is = sym (one_policy program other same new h.q k.q h.named_new k.named_new) in
       let counted = alike (λ f t z. HasTagSets f t z b.old_tags) other.fields fields other.topo topo k.p h.p e d p_is k.old_tags in
       let counted_a : a.old_tags ≡ length h.old_tags.0 = h.old_tags.2 in
-      let lists = one_tag_list h.p (IsStart fields topo) h.old_tags.0 counted.0 h.old_tags.1 counted.1 in
+      let lists = one_tag_list h.p (IsStartPacket fields topo) h.old_tags.0 counted.0 h.old_tags.1 counted.1 in
       let many : a.old_tags ≡ b.old_tags = counted_a ∙ ap (λ l. length l) lists ∙ sym counted.2 in
       let olds =
-      one_table fields topo (IsStart fields topo) h.p a.old b.old there h.printed_old
-      (alike (λ f t z. IsTableOf f t (IsStart f t) z b.old) other.fields fields other.topo topo k.p h.p e d p_is k.printed_old) in
+      one_table fields topo (IsStartPacket fields topo) h.p a.old b.old there h.printed_old
+      (alike (λ f t z. IsTableOf f t (IsStartPacket f t) z b.old) other.fields fields other.topo topo k.p h.p e d p_is k.printed_old) in
       let news =
-      one_table_behind b.old_tags fields topo (IsStart fields topo) h.q a.new b.new there
-      (subst (λ n. IsTableBehind n fields topo (IsStart fields topo) h.q a.new) many h.printed_new)
-      (alike (λ f t z. IsTableBehind b.old_tags f t (IsStart f t) z b.new) other.fields fields other.topo topo k.q h.q e d q_is k.printed_new) in
+      one_table_behind b.old_tags fields topo (IsStartPacket fields topo) h.q a.new b.new there
+      (subst (λ n. IsTableBehind n fields topo (IsStartPacket fields topo) h.q a.new) many h.printed_new)
+      (alike (λ f t z. IsTableBehind b.old_tags f t (IsStartPacket f t) z b.new) other.fields fields other.topo topo k.q h.q e d q_is k.printed_new) in
       λ n. record { old = olds n; new = news n; old_tags = many n }
 
 -- two answers

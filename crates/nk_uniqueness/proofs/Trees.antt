@@ -9,7 +9,7 @@ use Rattle.nk_store.specs.Diagram.{Diagram, Branches, leaf, case, no_branch, bra
 use Rattle.nk_store.proofs.Same.{set_in_range}
 use Rattle.nk_table.specs.declared.Bucket.{Bucket}
 use Rattle.nk_extract.specs.Buckets.{bucket_key, tag_of, IsBucketBefore}
-use Rattle.nk_compile.specs.PrintedTable.{IsBucketList, IsTreeOf}
+use Rattle.nk_compile.specs.PrintedTable.{IsBucketList, IsTreeOfTag}
 use Rattle.nk_cert.proofs.OneTree.{one_tree}
 use Rattle.nk_compile.proofs.Orders.{lex_once, listed_once, same_sorted}
 use Rattle.nk_field.specs.Order.{IsListedBefore}
@@ -81,7 +81,7 @@ one_tree_at fields sw d e few within d_reduced e_reduced there =
 -- the tree of a tag at a switch is one
 pub one_tag_tree : (fields : FieldTable) (tag : ℕ) (p : Policy) (tags : List (List ℕ)) (t sw : ℕ) (d e : Tree)
     → length fields.maxima ≤ 18 → sw ≤ slice_index fields.maxima 0
-    → IsTreeOf fields tag p tags t sw d → IsTreeOf fields tag p tags t sw e → d ≡ e
+    → IsTreeOfTag fields tag p tags t sw d → IsTreeOfTag fields tag p tags t sw e → d ≡ e
 one_tag_tree fields tag p tags t sw d e few within h k =
     one_tree_at fields sw d e few within h.reduced k.reduced
     (λ pk good at. one_bucket_list (length fields.maxima) tag p tags t pk (leaf_at d [] pk) (leaf_at e [] pk) (h.leaves pk good at) (k.leaves pk good at))

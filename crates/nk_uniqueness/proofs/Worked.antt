@@ -8,15 +8,15 @@ use Rattle.nk_field.proofs.Ascending.{all_from_members}
 use Rattle.nk_topo.specs.Topology.{SwitchPorts}
 use Rattle.nk_policy.specs.After.{id_policy, drop_policy}
 use Rattle.nk_policy.specs.Labels.{IsTagSet}
-use Rattle.nk_names.specs.Accepted.{IsStart, IsCompilable}
+use Rattle.nk_names.specs.Accepted.{IsStartPacket, IsCompilable}
 use Rattle.nk_store.specs.Diagram.{leaf}
 use Rattle.nk_table.specs.declared.Bucket.{Bucket}
 use Rattle.nk_table.specs.declared.Row.{Row}
 use Rattle.nk_table.specs.declared.Table.{Table}
 use Rattle.nk_table.specs.declared.Tables.{Tables}
-use Rattle.nk_compile.specs.PrintedTable.{IsTreeOf}
+use Rattle.nk_compile.specs.PrintedTable.{IsTreeOfTag}
 use Rattle.nk_compile.specs.WholeTable.{HasRowsAt, TagTree, IsSwitchTable, IsTableOf}
-use Rattle.nk_compile.specs.Smallest.{tag_alone, one_port, straight_back, one_table, one_row}
+use Rattle.nk_compile.specs.Smallest.{tag_alone, one_port, straight_back, smallest_table, one_row}
 use Rattle.nk_cert.specs.Equality.{Side, on_left, on_right, IsOfOneAlone}
 use Rattle.nk_uniqueness.specs.Packets.{HavePackets}
 use Rattle.nk_uniqueness.specs.Worked.{far_port, far_tables, ArePrintedFar, HasSeveralTables, AreMetBySmallPolicy, zeros, zeros_stay, IsSmallDifference}
@@ -37,7 +37,7 @@ rows_at_zero sw (suc t) = (
 )
 
 -- any leaf is the tree at a switch without packets
-any_tree : (bs : List Bucket) → IsTreeOf tag_alone 2 id_policy [] 0 65536 (leaf bs)
+any_tree : (bs : List Bucket) → IsTreeOfTag tag_alone 2 id_policy [] 0 65536 (leaf bs)
 any_tree bs = record {
   reduced = tt;
   tag_free = tt;
@@ -48,11 +48,11 @@ any_tree bs = record {
 abbrev leaf_of : List Bucket → TagTree
 leaf_of bs = record { tag = 0; tree = leaf bs }
 
-only_tree : (bs : List Bucket) → All (λ (e : TagTree). IsTreeOf tag_alone 2 id_policy [] e.tag 65536 e.tree) (leaf_of bs ∷ [])
+only_tree : (bs : List Bucket) → All (λ (e : TagTree). IsTreeOfTag tag_alone 2 id_policy [] e.tag 65536 e.tree) (leaf_of bs ∷ [])
 only_tree bs =
-    all_from_members (λ (e : TagTree). IsTreeOf tag_alone 2 id_policy [] e.tag 65536 e.tree) (leaf_of bs ∷ []) (λ e i.
+    all_from_members (λ (e : TagTree). IsTreeOfTag tag_alone 2 id_policy [] e.tag 65536 e.tree) (leaf_of bs ∷ []) (λ e i.
     ⊎_elim
-    (λ s. subst (λ (q : TagTree). IsTreeOf tag_alone 2 id_policy [] q.tag 65536 q.tree) (sym s) (any_tree bs))
+    (λ s. subst (λ (q : TagTree). IsTreeOfTag tag_alone 2 id_policy [] q.tag 65536 q.tree) (sym s) (any_tree bs))
     (λ n. absurd n)
     i)
 
@@ -60,7 +60,7 @@ only_tree bs =
 abbrev far_table : List Row → Table
 far_table rows = record { switch = 65536; groups = []; rows = rows }
 
-with_row : IsSwitchTable tag_alone 2 id_policy [] (far_table one_table.rows)
+with_row : IsSwitchTable tag_alone 2 id_policy [] (far_table smallest_table.rows)
 with_row = record {
   trees = leaf_of (straight_back ∷ []) ∷ [];
   ascending = λ k lt. absurd (omega (arith, lt));
@@ -86,7 +86,7 @@ far_printed rows h = record {
   tag = 2;
   tags = [];
   tag_declared = refl;
-  in_order = record { exactly = λ s. (λ c. absurd (in_from_contains [] s c), λ k. absurd (no_tag_set (IsStart tag_alone far_port) s k)); in_order = λ i j d lt less. absurd (omega (arith, lt, less)) };
+  in_order = record { exactly = λ s. (λ c. absurd (in_from_contains [] s c), λ k. absurd (no_tag_set (IsStartPacket tag_alone far_port) s k)); in_order = λ i j d lt less. absurd (omega (arith, lt, less)) };
   same_fields = refl;
   same_topology = refl;
   switches = refl;
@@ -98,9 +98,9 @@ abbrev first_rows : List Table → ℕ
 first_rows [] = 0
 first_rows (t ∷ ts) = length t.rows
 
-unlike : far_tables one_table.rows ≡ far_tables [] → ⊥
+unlike : far_tables smallest_table.rows ≡ far_tables [] → ⊥
 unlike e =
-    let n : 1 ≡ 0 = rows_are (far_tables one_table.rows) (far_tables []) e in
+    let n : 1 ≡ 0 = rows_are (far_tables smallest_table.rows) (far_tables []) e in
     omega (arith, n)
   where
     rows_are : (t u : Tables) → t ≡ u → first_rows t.tables ≡ first_rows u.tables
@@ -114,7 +114,7 @@ far_switch h =
 
 pub several_tables : HasSeveralTables
 several_tables = record {
-  one_row = far_printed one_table.rows with_row;
+  one_row = far_printed smallest_table.rows with_row;
   no_row = far_printed [] without_row;
   differ = unlike;
   without_packets = far_switch;
@@ -135,14 +135,14 @@ pub small_policy : IsCompilable tag_alone one_port id_policy → AreMetBySmallPo
 small_policy compilable = record {
   packets = packets_there;
   compilable = compilable;
-  few = ([], omega arith, λ s h. absurd (no_tag_set (IsStart tag_alone one_port) s h));
+  few = ([], omega arith, λ s h. absurd (no_tag_set (IsStartPacket tag_alone one_port) s h));
   refused = refl;
 }
 
 -- the smallest table is the one
-pub smallest_is_one : IsTableOf tag_alone one_port (IsStart tag_alone one_port) id_policy one_row
-    → (u : Tables) → IsTableOf tag_alone one_port (IsStart tag_alone one_port) id_policy u → u ≡ one_row
-smallest_is_one h u k = one_printed_table tag_alone one_port (IsStart tag_alone one_port) id_policy u one_row packets_there k h
+pub smallest_is_one : IsTableOf tag_alone one_port (IsStartPacket tag_alone one_port) id_policy one_row
+    → (u : Tables) → IsTableOf tag_alone one_port (IsStartPacket tag_alone one_port) id_policy u → u ≡ one_row
+smallest_is_one h u k = one_printed_table tag_alone one_port (IsStartPacket tag_alone one_port) id_policy u one_row packets_there k h
 
 -- ---- a least difference
 

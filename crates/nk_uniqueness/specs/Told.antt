@@ -20,9 +20,9 @@ pub data Told : Type 0 where
   alone : Side → Found → Told
 
 -- what a comparison in memory tells
-abbrev pub told_by : Compared → Told
-told_by (Related c) = certified (certificate_value c)
-told_by (Broken f) = alone (whose f.side) (found_of f)
+abbrev pub told_of : Compared → Told
+told_of (Related c) = certified (certificate_value c)
+told_of (Broken f) = alone (whose f.side) (found_of f)
 
 -- what is told is so: both policies give the same histories, and the certificate is their printed one; or it is the least
 -- history that one of them alone has

@@ -8,7 +8,7 @@ ghost use Rattle.nk_topo.specs.Topology.{Topology};
 ghost use Rattle.nk_policy.specs.After.{id_policy};
 ghost use Rattle.nk_policy.specs.Policy.{Policy};
 ghost use Rattle.nk_names.specs.declared.Program.{Program};
-ghost use Rattle.nk_names.specs.Accepted.{IsStart, IsAccepted};
+ghost use Rattle.nk_names.specs.Accepted.{IsStartPacket, IsAccepted};
 ghost use Rattle.nk_names.specs.ProgramOf.{said_by};
 ghost use Rattle.nk_names.specs.ProgramValue.{IsProgram};
 ghost use Rattle.nk_names.specs.Topologies.{IsDeclarable};
@@ -33,14 +33,14 @@ ghost use Rattle.nk_cert.specs.Verdicts.{Finding};
 ghost use Rattle.nk_bisim.specs.Answers.{IsCompared};
 ghost use Rattle.nk_cert.specs.declared.compared.Compared.{Compared};
 ghost use Rattle.nk_query.specs.Asked.{Asked, Question, NamesQuestion};
-ghost use Rattle.nk_query.specs.Answers.{IsNamedQuestion, IsCause, IsAsked};
+ghost use Rattle.nk_query.specs.Answers.{IsNamedQuestion, IsHindranceByName, IsAsked};
 ghost use Rattle.nk_query.specs.declared.error.QueryError.{QueryError};
 ghost use Rattle.nk_query.specs.declared.error.QueryError.TheVariants as query;
 ghost use Rattle.nk_query.specs.declared.query.Answer.{Answer};
 ghost use Rattle.nk_uniqueness.specs.Packets.{HavePackets};
 ghost use Rattle.nk_uniqueness.specs.Queried.{Queried, queried_by, IsToldOf, IsToldOfNamed, IsFoundOfNamed};
 ghost use Rattle.nk_uniqueness.specs.Texts.{TextsHavePackets};
-ghost use Rattle.nk_uniqueness.specs.Told.{Told, told_by, LacksOne, IsTold, IsToldFor, IsFoundFor};
+ghost use Rattle.nk_uniqueness.specs.Told.{Told, told_of, LacksOne, IsTold, IsToldFor, IsFoundFor};
 ghost use Rattle.nk_uniqueness.specs.Worked.{AreMetBySmallPolicy, HasSeveralTables, IsSmallDifference};
 
 use nk_cert::laws::{one_certificate_is_printed, one_thing_is_found};
@@ -69,9 +69,9 @@ pub fn a_policy_has_one_reason()
 /// behind; and so has a name, in programs that say the same.
 pub fn one_table_is_printed()
     ensures policy { (fields : FieldTable) (topo : Topology) (p : Policy) (t u : Tables) → HavePackets fields topo
-        → IsTableOf fields topo (IsStart fields topo) p t → IsTableOf fields topo (IsStart fields topo) p u → t ≡ u }
+        → IsTableOf fields topo (IsStartPacket fields topo) p t → IsTableOf fields topo (IsStartPacket fields topo) p u → t ≡ u }
     ensures behind { (first : ℕ) (fields : FieldTable) (topo : Topology) (p : Policy) (t u : Tables) → HavePackets fields topo
-        → IsTableBehind first fields topo (IsStart fields topo) p t → IsTableBehind first fields topo (IsStart fields topo) p u → t ≡ u }
+        → IsTableBehind first fields topo (IsStartPacket fields topo) p t → IsTableBehind first fields topo (IsStartPacket fields topo) p u → t ≡ u }
     ensures name { (program other : Program) (name : List ℕ) (t u : Tables) → said_by program ≡ said_by other
         → HavePackets program.fields program.topo
         → IsCompiled program name t → IsCompiled other name u → t ≡ u }
@@ -154,7 +154,7 @@ pub fn one_comparison_is_told()
         → IsFieldTable program.fields → IsToldFor program left right a → IsToldFor other left right b → a ≡ b }
     ensures answers { (program other : Program) (left right : List ℕ) (a b : Compared) → said_by program ≡ said_by other
         → IsFieldTable program.fields → IsCompared program left right (Ok a) → IsCompared other left right (Ok b)
-        → told_by a ≡ told_by b }
+        → told_of a ≡ told_of b }
     ensures no_policy { (program other : Program) (left right : List ℕ) (a : Told) → said_by program ≡ said_by other
         → IsToldFor program left right a → LacksOne other left right → ⊥ }
 {
@@ -178,9 +178,9 @@ pub fn one_question_is_asked()
     ensures question { (program other : Program) (asked : Asked) (x y : Question) → said_by program ≡ said_by other
         → NamesQuestion program asked x → NamesQuestion other asked y → x ≡ y }
     ensures no_cause { (program other : Program) (asked : Asked) (x : Question) (cause : QueryError) → said_by program ≡ said_by other
-        → IsNamedQuestion program asked x → IsCause other asked cause → cause ≡ query.NoMemory }
+        → IsNamedQuestion program asked x → IsHindranceByName other asked cause → cause ≡ query.NoMemory }
     ensures one_cause { (program other : Program) (asked : Asked) (a b : QueryError) → said_by program ≡ said_by other
-        → IsCause program asked a → IsCause other asked b → (a ≡ query.NoMemory) ⊎ ((b ≡ query.NoMemory) ⊎ (a ≡ b)) }
+        → IsHindranceByName program asked a → IsHindranceByName other asked b → (a ≡ query.NoMemory) ⊎ ((b ≡ query.NoMemory) ⊎ (a ≡ b)) }
 {}
 
 /// Of a query's question at most one thing can be answered: the printed certificate of the question and `drop`, where no
@@ -205,7 +205,7 @@ pub fn one_thing_is_told_of_a_query()
 /// of number 65,536, at which no packet can be, has two printed tables, so the premise is needed.
 pub fn worked_answers()
     ensures met { AreMetBySmallPolicy }
-    ensures smallest { (u : Tables) → IsTableOf tag_alone one_port (IsStart tag_alone one_port) id_policy u → u ≡ one_row }
+    ensures smallest { (u : Tables) → IsTableOf tag_alone one_port (IsStartPacket tag_alone one_port) id_policy u → u ≡ one_row }
     ensures difference { IsSmallDifference }
     ensures several { HasSeveralTables }
 {

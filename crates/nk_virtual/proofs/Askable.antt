@@ -13,9 +13,9 @@ use Rattle.nk_policy.proofs.Remade.{dupless_marked}
 use Rattle.nk_names.proofs.Good.{few_dups, over_in_range}
 use Rattle.nk_names.proofs.Predicates.{no_dups}
 use Rattle.nk_virtual.specs.Physical.{VirtualLink}
-use Rattle.nk_virtual.specs.Fabrics.{moved}
+use Rattle.nk_virtual.specs.Fabrics.{moved_along}
 use Rattle.nk_virtual.specs.Endings.{without_records, all_without_records}
-use Rattle.nk_virtual.specs.Questions.{tag_tests, entry, from_entry, move, ends_or_move, tests_from, only, elsewhere}
+use Rattle.nk_virtual.specs.Questions.{tag_tests, at_entry, from_entry, move, ends_or_move, tests_from, only, elsewhere}
 use Rattle.nk_virtual.specs.Carriage.{IsAskable, AreComparable}
 use Rattle.nk_virtual.proofs.Entries.{move_way}
 use Rattle.nk_virtual.proofs.Only.{ends_in_range}
@@ -133,7 +133,7 @@ module _ (fields : FieldTable) (k : VirtualLink) (askable : IsAskable fields k) 
   tag_over None e = tt
   tag_over (Some tag) e = (((askable.table.tag_past_port tag e).1, omega arith), tt)
 
-  entry_over : IsOver fields (entry fields.tag k)
+  entry_over : IsOver fields (at_entry fields.tag k)
   entry_over = (
     place 0 k.ends.from_switch (omega arith) askable.from_switch,
     (place 1 k.ends.from_port (omega arith) askable.from_port, tag_over fields.tag refl),
@@ -191,19 +191,19 @@ module _ (fields : FieldTable) (k : VirtualLink) (askable : IsAskable fields k) 
       refl
 
   -- the moved packet is in range
-  pub moved_in_range : (x : Packet) → IsPacket fields x → IsPacket fields (moved k x)
+  pub moved_in_range : (x : Packet) → IsPacket fields x → IsPacket fields (moved_along k x)
   moved_in_range x h =
-      ends_in_range fields (move k) (over_in_range fields (move k) move_over) x [] (moved k x)
-      ((move_way k x [] (moved k x)).1 (refl, refl))
+      ends_in_range fields (move k) (over_in_range fields (move k) move_over) x [] (moved_along k x)
+      ((move_way k x [] (moved_along k x)).1 (refl, refl))
       h
 
   -- the fabric's histories from a packet in range that end elsewhere, beside none
   pub elsewhere_and_none : (x : Packet) → IsPacket fields x → AreComparable fields (elsewhere fields k x) drop_policy
   elsewhere_and_none x h =
       let first = only fields x in
-      let last = only fields (moved k x) in
+      let last = only fields (moved_along k x) in
       let first_dups : dups_of first ≡ 0 = no_dups first (only_is fields x) in
-      let last_dups : dups_of last ≡ 0 = no_dups last (only_is fields (moved k x)) in
+      let last_dups : dups_of last ≡ 0 = no_dups last (only_is fields (moved_along k x)) in
       let few : dups_of k.fabric ≤ 2097152 = omega (arith, few_dups k.fabric, askable.fabric.small) in
       record {
         numbered =
@@ -212,8 +212,8 @@ module _ (fields : FieldTable) (k : VirtualLink) (askable : IsAskable fields k) 
             ∙ ap (λ q. seq_of (part first (part q (part (not_of (marked_from last (1 + dups_of k.fabric))) no_part)))) askable.fabric.numbered
             ∙ ap (λ q. seq_of (part first (part k.fabric (part (not_of q) no_part)))) (dupless_marked last (1 + dups_of k.fabric) last_dups);
         few = omega (arith, first_dups, last_dups, few);
-        left_complements = (only_negates fields x, (askable.fabric.complements, ((only_is fields (moved k x), only_negates fields (moved k x)), tt)));
+        left_complements = (only_negates fields x, (askable.fabric.complements, ((only_is fields (moved_along k x), only_negates fields (moved_along k x)), tt)));
         right_complements = tt;
-        left_over = (only_over fields x h, (askable.fabric.over, (only_over fields (moved k x) (moved_in_range x h), tt)));
+        left_over = (only_over fields x h, (askable.fabric.over, (only_over fields (moved_along k x) (moved_in_range x h), tt)));
         right_over = tt;
       }

@@ -10,7 +10,7 @@ use Rattle.nk_policy.specs.Ranges.{IsInRange}
 use Rattle.nk_reach.specs.Histories.{IsUpTo}
 use Rattle.nk_cert.specs.Equality.{Side, on_left, on_right, AreSame, IsOfFirstAlone, IsOfOneAlone, IsLeastDifference}
 use Rattle.nk_virtual.specs.Physical.{VirtualLink}
-use Rattle.nk_virtual.specs.Fabrics.{moved, IsCarried}
+use Rattle.nk_virtual.specs.Fabrics.{moved_along, IsCarried}
 use Rattle.nk_virtual.specs.Endings.{without_records}
 use Rattle.nk_virtual.specs.Questions.{from_entry, move, ends_or_move, elsewhere}
 use Rattle.nk_virtual.specs.Carriage.{Enters, IsOnTarget, IsOffTarget, IsNotCarried, IsFirstOffTarget, IsFirstNotCarried, IsLeastFrom}
@@ -58,8 +58,8 @@ module _ (fields : FieldTable) (k : VirtualLink) where
   from_there p x w y e g = (entered fields.tag k p x w y).1 (e.at_start, e.untagged, g)
 
   -- the move of a packet that enters
-  moved_there : (x : Packet) → Enters fields k x → Gives moves x [] (moved k x)
-  moved_there x e = from_there (move k) x [] (moved k x) e ((move_way k x [] (moved k x)).1 (refl, refl))
+  moved_there : (x : Packet) → Enters fields k x → Gives moves x [] (moved_along k x)
+  moved_there x e = from_there (move k) x [] (moved_along k x) e ((move_way k x [] (moved_along k x)).1 (refl, refl))
 
   -- where the fabric ends
   ended : (x : Packet) (w : List Packet) (y : Packet) → Gives k.fabric x w y → Gives (without_records k.fabric) x [] y
@@ -128,9 +128,9 @@ module _ (fields : FieldTable) (k : VirtualLink) where
       on_target = λ x w last packet untagged at g. target x w last (record { packet = packet; untagged = untagged; at_start = at }) g;
       carried = λ x packet untagged at.
           let e : Enters fields k x = record { packet = packet; untagged = untagged; at_start = at } in
-          let g = (same x packet [] (moved k x)).1 (moved_there x e) in
-          let u = ((same_ends k.fabric x [] (moved k x)).0 (enters (without_records k.fabric) x [] (moved k x) packet g).1).1 in
-          (u.0, moved k x, u.1);
+          let g = (same x packet [] (moved_along k x)).1 (moved_there x e) in
+          let u = ((same_ends k.fabric x [] (moved_along k x)).0 (enters (without_records k.fabric) x [] (moved_along k x) packet g).1).1 in
+          (u.0, moved_along k x, u.1);
     }
 
     -- the fabric has no end that the move hasn't
@@ -155,32 +155,32 @@ module _ (fields : FieldTable) (k : VirtualLink) where
         }
 
     -- and the other way round
-    is_left_out : (x : Packet) → IsNotCarried fields k x → IsOfFirstAlone fields moves ends (found x [] (moved k x))
+    is_left_out : (x : Packet) → IsNotCarried fields k x → IsOfFirstAlone fields moves ends (found x [] (moved_along k x))
     is_left_out x n = (
       n.enters.packet,
       moved_there x n.enters,
       λ g.
-          let e = enters (without_records k.fabric) x [] (moved k x) n.enters.packet g in
-          let u = ((same_ends k.fabric x [] (moved k x)).0 e.1).1 in
-          n.none u.0 (moved k x) u.1,
+          let e = enters (without_records k.fabric) x [] (moved_along k x) n.enters.packet g in
+          let u = ((same_ends k.fabric x [] (moved_along k x)).0 e.1).1 in
+          n.none u.0 (moved_along k x) u.1,
     )
 
     -- so the least difference starts at the least packet without a history
     pub least_left : (side : Side) (f : Found) → IsLeastDifference fields ends moves side f
         → IsFirstNotCarried fields k f.start
-    least_left side f d = (some side f d.0, λ x n. starts_no_later f (found x [] (moved k x)) refl (d.1.1 (found x [] (moved k x)) (on_right, is_left_out x n)))
+    least_left side f d = (some side f d.0, λ x n. starts_no_later f (found x [] (moved_along k x)) refl (d.1.1 (found x [] (moved_along k x)) (on_right, is_left_out x n)))
       where
         some : (side : Side) (f : Found) → IsOfOneAlone fields ends moves side f → IsNotCarried fields k f.start
         some on_left f a = absurd (none_more f a)
         some on_right f a = left_out f a
 
-  module _ (range : IsInRange k.fabric fields) (x : Packet) (enters : Enters fields k x) (there : IsPacket fields (moved k x)) where
+  module _ (range : IsInRange k.fabric fields) (x : Packet) (enters : Enters fields k x) (there : IsPacket fields (moved_along k x)) where
     -- a history off target from the packet is one of those that end elsewhere
     is_elsewhere : (g : Found) → IsOffTarget fields k g → g.start ≡ x
         → IsOfFirstAlone fields (elsewhere fields k x) drop_policy g
     is_elsewhere g o e = (
       o.enters.packet,
-      (elsewhere_way fields k range x enters.packet there g.start o.enters.packet g.records g.last).1 (e, o.given, λ t. o.elsewhere (t ∙ ap (moved k) (sym e))),
+      (elsewhere_way fields k range x enters.packet there g.start o.enters.packet g.records g.last).1 (e, o.given, λ t. o.elsewhere (t ∙ ap (moved_along k) (sym e))),
       λ n. absurd n,
     )
 
@@ -192,7 +192,7 @@ module _ (fields : FieldTable) (k : VirtualLink) where
           record {
             enters = subst (λ z. Enters fields k z) (sym h.0) enters;
             given = h.1;
-            elsewhere = λ t. h.2 (t ∙ ap (moved k) h.0);
+            elsewhere = λ t. h.2 (t ∙ ap (moved_along k) h.0);
           },
           h.0,
         )

@@ -12,13 +12,13 @@ use Rattle.nk_policy.specs.Ranges.{AssignsOnly, AllAssignOnly}
 use Rattle.nk_policy.proofs.Tests.{false_true, both_false}
 use Rattle.nk_names.specs.Accepted.{is_link_outside}
 use Rattle.nk_virtual.specs.Physical.{VirtualLink, through_fabric, link_through, physical, all_physical}
-use Rattle.nk_virtual.specs.Fabrics.{IsAtStartOf, moved, LiesOver}
+use Rattle.nk_virtual.specs.Fabrics.{IsAtStartOf, moved_along, LiesOver}
 use Rattle.nk_virtual.proofs.Over.{over_same, over_joined}
 use Rattle.nk_virtual.proofs.Literals.{plain, moved_to, crosses, crossed, into_fabric, out_of_fabric, IsFound, is_found, not_false}
 
 -- from a packet with the property at its start a virtual link's fabric ends at the moved packet alone, and does end
 pub record Carries (Ready : Packet → Type 0) (k : VirtualLink) : Type 0 where
-  pub ends : (x : Packet) (w : List Packet) (y : Packet) → Ready x → IsAtStartOf k x → Gives k.fabric x w y → y ≡ moved k x
+  pub ends : (x : Packet) (w : List Packet) (y : Packet) → Ready x → IsAtStartOf k x → Gives k.fabric x w y → y ≡ moved_along k x
   pub some : (x : Packet) → Ready x → IsAtStartOf k x → (w : List Packet) × (y : Packet) × Gives k.fabric x w y
 
 module _ (Allowed : ℕ → ℕ → Type 0) (Ready : Packet → Type 0)
@@ -87,7 +87,7 @@ module _ (Allowed : ℕ → ℕ → Type 0) (Ready : Packet → Type 0)
   moved_ready b n p q x h = set_keeps (slice_set x 0 b) 1 n q (set_keeps x 0 b p h)
 
   -- the packet that a literal's virtual link moves is the one that the literal moves
-  same_move : (a m b n l : ℕ) (i : IsFound links a m b n l) (x : Packet) → moved i.found x ≡ moved_to b n x
+  same_move : (a m b n l : ℕ) (i : IsFound links a m b n l) (x : Packet) → moved_along i.found x ≡ moved_to b n x
   same_move a m b n l i x =
       ap (λ t. slice_set (slice_set x 0 t) 1 i.found.ends.to_port) i.to_switch
       ∙ ap (λ t. slice_set (slice_set x 0 b) 1 t) i.to_port

@@ -8,8 +8,8 @@ use Rattle.nk_field.specs.Packet.{without}
 use Rattle.nk_policy.specs.Policy.{Policy, test, part}
 use Rattle.nk_policy.specs.Meaning.{Way, keep, keep_where, set_field, followed_by, way_of, way_of_all, Gives}
 use Rattle.nk_virtual.specs.Physical.{VirtualLink}
-use Rattle.nk_virtual.specs.Fabrics.{IsAtStartOf, moved}
-use Rattle.nk_virtual.specs.Questions.{tag_tests, entry, from_entry, move}
+use Rattle.nk_virtual.specs.Fabrics.{IsAtStartOf, moved_along}
+use Rattle.nk_virtual.specs.Questions.{tag_tests, at_entry, from_entry, move}
 use Rattle.nk_virtual.proofs.Literals.{plain}
 
 -- behind a test
@@ -64,7 +64,7 @@ tag_way (Some tag) z w y =
 module _ (tag : Option ℕ) (k : VirtualLink) where
   -- the entry keeps the packets without a tag at the start
   entry_way : (z : Packet) (w : List Packet) (y : Packet)
-      → way_of (entry tag k) plain z w y ↔ (IsAtStartOf k z × (without tag z ≡ z) × keep z w y)
+      → way_of (at_entry tag k) plain z w y ↔ (IsAtStartOf k z × (without tag z ≡ z) × keep z w y)
   entry_way z w y =
       let first = test_first 0 k.ends.from_switch (way_of_all (part (test 1 k.ends.from_port) (tag_tests tag)) plain) z w y in
       let second = test_first 1 k.ends.from_port (way_of_all (tag_tests tag) plain) z w y in
@@ -94,7 +94,7 @@ module _ (tag : Option ℕ) (k : VirtualLink) where
 
 -- the move records nothing and moves the packet
 pub move_way : (k : VirtualLink) (z : Packet) (w : List Packet) (y : Packet)
-    → Gives (move k) z w y ↔ ((w ≡ []) × (y ≡ moved k z))
+    → Gives (move k) z w y ↔ ((w ≡ []) × (y ≡ moved_along k z))
 move_way k z w y =
     let second = set_first 1 k.ends.to_port keep (slice_set z 0 k.ends.to_switch) w y in
     let first = set_first 0 k.ends.to_switch (followed_by (set_field 1 k.ends.to_port) keep) z w y in

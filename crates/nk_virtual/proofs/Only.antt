@@ -12,7 +12,7 @@ use Rattle.nk_policy.specs.Ranges.{IsInRange}
 use Rattle.nk_policy.proofs.InRange.{ways_keep}
 use Rattle.nk_policy.proofs.LabelSteps.{gives_is_runs}
 use Rattle.nk_virtual.specs.Physical.{VirtualLink}
-use Rattle.nk_virtual.specs.Fabrics.{moved}
+use Rattle.nk_virtual.specs.Fabrics.{moved_along}
 use Rattle.nk_virtual.specs.Questions.{tests_from, only, elsewhere}
 use Rattle.nk_virtual.proofs.Literals.{plain}
 use Rattle.nk_virtual.proofs.Entries.{test_first}
@@ -89,8 +89,8 @@ module _ (fields : FieldTable) where
 
   -- the fabric's histories from one packet that end elsewhere
   pub elsewhere_way : (k : VirtualLink) → IsInRange k.fabric fields → (x : Packet) → IsPacket fields x
-      → IsPacket fields (moved k x) → (z : Packet) → IsPacket fields z → (w : List Packet) (y : Packet)
-      → Gives (elsewhere fields k x) z w y ↔ ((z ≡ x) × Gives k.fabric z w y × (y ≢ moved k x))
+      → IsPacket fields (moved_along k x) → (z : Packet) → IsPacket fields z → (w : List Packet) (y : Packet)
+      → Gives (elsewhere fields k x) z w y ↔ ((z ≡ x) × Gives k.fabric z w y × (y ≢ moved_along k x))
   elsewhere_way k range x a m z b w y = (
     λ r.
         let o = (only_way x z a b r.0 r.2).0 r.4 in
@@ -104,7 +104,7 @@ module _ (fields : FieldTable) where
         let last : IsPacket fields s.2 = ends_in_range k.fabric range z s.0 s.2 g b in (
           o.0,
           g',
-          λ e. t.4.1 ((only_way (moved k x) s.2 m last [] s.2).1 (sym end ∙ e, (refl, refl))),
+          λ e. t.4.1 ((only_way (moved_along k x) s.2 m last [] s.2).1 (sym end ∙ e, (refl, refl))),
         ),
     λ h.
         let last : IsPacket fields y = ends_in_range k.fabric range z w y h.1 b in (
@@ -119,7 +119,7 @@ module _ (fields : FieldTable) where
             y,
             sym (append-nil w),
             h.1,
-            ([], [], y, refl, ((refl, refl), λ o. h.2 ((only_way (moved k x) y m last [] y).0 o).0), (refl, refl)),
+            ([], [], y, refl, ((refl, refl), λ o. h.2 ((only_way (moved_along k x) y m last [] y).0 o).0), (refl, refl)),
           ),
         ),
   )

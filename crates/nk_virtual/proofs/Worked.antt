@@ -7,7 +7,7 @@ use Rattle.nk_field.proofs.FieldTables.{distinct_with, with_field_is}
 use Rattle.nk_field.proofs.Ascending.{all_from_members}
 use Rattle.nk_policy.specs.Policy.{link}
 use Rattle.nk_policy.specs.Meaning.{way_of, Gives}
-use Rattle.nk_virtual.specs.Fabrics.{moved, IsCarried, IsVirtual}
+use Rattle.nk_virtual.specs.Fabrics.{moved_along, IsCarried, IsVirtual}
 use Rattle.nk_virtual.specs.Worked.{by_switch_two, one_to_three, across_virtual, dst_and_vlan, untagged, HasAllThatIsAsked}
 use Rattle.nk_virtual.proofs.Literals.{plain, crosses, crossed, moved_to}
 
@@ -87,7 +87,7 @@ ends_there x w y g =
     ∙ ap (λ z. moved_to 3 1 (slice_set (moved_to 2 1 z) 1 2)) g.4.1
 
 -- which is the packet moved
-fourth_is : (x : Packet) → length x ≡ 18 → fourth x ≡ moved one_to_three x
+fourth_is : (x : Packet) → length x ≡ 18 → fourth x ≡ moved_along one_to_three x
 fourth_is [] e = absurd (omega (arith, e))
 fourth_is (sw ∷ []) e = absurd (omega (arith, e))
 fourth_is (sw ∷ pt ∷ r) e = refl

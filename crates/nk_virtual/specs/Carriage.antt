@@ -11,7 +11,7 @@ use Rattle.nk_policy.specs.Complements.{NegatesPredicates}
 use Rattle.nk_names.specs.ProgramValue.{IsLet}
 use Rattle.nk_reach.specs.Histories.{IsUpTo}
 use Rattle.nk_virtual.specs.Physical.{VirtualLink}
-use Rattle.nk_virtual.specs.Fabrics.{IsAtStartOf, moved, IsCarried}
+use Rattle.nk_virtual.specs.Fabrics.{IsAtStartOf, moved_along, IsCarried}
 use Rattle.nk_virtual.specs.declared.judging.Carriage.{Carriage}
 use Rattle.nk_virtual.specs.declared.judging.Carriage.TheVariants.{Carried, OffTarget, NotCarried}
 
@@ -24,13 +24,13 @@ pub record Enters (fields : FieldTable) (k : VirtualLink) (x : Packet) : Type 0 
 -- each history of the fabric from such a packet ends at the moved packet
 abbrev pub IsOnTarget : FieldTable → VirtualLink → Type 0
 IsOnTarget fields k =
-    (x : Packet) (w : List Packet) (last : Packet) → Enters fields k x → Gives k.fabric x w last → last ≡ moved k x
+    (x : Packet) (w : List Packet) (last : Packet) → Enters fields k x → Gives k.fabric x w last → last ≡ moved_along k x
 
 -- from such a packet the fabric has this history, which ends at another one
 pub record IsOffTarget (fields : FieldTable) (k : VirtualLink) (f : Found) : Type 0 where
   pub enters : Enters fields k f.start
   pub given : Gives k.fabric f.start f.records f.last
-  pub elsewhere : f.last ≢ moved k f.start
+  pub elsewhere : f.last ≢ moved_along k f.start
 
 -- from such a packet the fabric has no history
 pub record IsNotCarried (fields : FieldTable) (k : VirtualLink) (x : Packet) : Type 0 where
@@ -51,14 +51,14 @@ abbrev pub IsFirstNotCarried : FieldTable → VirtualLink → Packet → Type 0
 IsFirstNotCarried fields k x = IsNotCarried fields k x × ((y : Packet) → IsNotCarried fields k y → IsUpTo x y)
 
 -- the history from a packet
-abbrev pub from_start : Packet → History → Found
-from_start x h = record { start = x; records = h.records; last = h.last }
+abbrev pub history_from : Packet → History → Found
+history_from x h = record { start = x; records = h.records; last = h.last }
 
 -- what is found of a virtual link: it is carried; or the first history off target; or, where there is none, the least packet
 -- without a history
 abbrev pub IsCarriage : FieldTable → VirtualLink → Carriage → Type 0
 IsCarriage fields k Carried = IsCarried fields k
-IsCarriage fields k (OffTarget start history) = IsFirstOffTarget fields k (from_start start history)
+IsCarriage fields k (OffTarget start history) = IsFirstOffTarget fields k (history_from start history)
 IsCarriage fields k (NotCarried start) = IsOnTarget fields k × IsFirstNotCarried fields k start
 
 -- the least packet from which a history is off target, if there is one

@@ -5,7 +5,7 @@ use Rattle.nk_field.specs.Packet.{FieldTable}
 use Rattle.nk_policy.specs.Policy.{Policy, Policies, test, assign, sum_of, seq_of, not_of, no_part, part}
 use Rattle.nk_virtual.specs.Physical.{VirtualLink}
 use Rattle.nk_virtual.specs.Endings.{without_records}
-use Rattle.nk_virtual.specs.Fabrics.{moved}
+use Rattle.nk_virtual.specs.Fabrics.{moved_along}
 
 -- the test for tag 0, where there is a tag
 abbrev pub tag_tests : Option ℕ → Policies
@@ -13,12 +13,12 @@ tag_tests None = no_part
 tag_tests (Some tag) = part (test tag 0) no_part
 
 -- keeps the packets without a tag at the start of the virtual link
-abbrev pub entry : Option ℕ → VirtualLink → Policy
-entry tag k = seq_of (part (test 0 k.ends.from_switch) (part (test 1 k.ends.from_port) (tag_tests tag)))
+abbrev pub at_entry : Option ℕ → VirtualLink → Policy
+at_entry tag k = seq_of (part (test 0 k.ends.from_switch) (part (test 1 k.ends.from_port) (tag_tests tag)))
 
 -- from these packets alone
 abbrev pub from_entry : Option ℕ → VirtualLink → Policy → Policy
-from_entry tag k p = seq_of (part (entry tag k) (part p no_part))
+from_entry tag k p = seq_of (part (at_entry tag k) (part p no_part))
 
 -- moves each packet to where the virtual link ends
 abbrev pub move : VirtualLink → Policy
@@ -39,4 +39,4 @@ only fields x = seq_of (tests_from 0 fields.maxima x)
 
 -- the fabric's histories from one packet that end elsewhere than at the moved packet
 abbrev pub elsewhere : FieldTable → VirtualLink → Packet → Policy
-elsewhere fields k x = seq_of (part (only fields x) (part k.fabric (part (not_of (only fields (moved k x))) no_part)))
+elsewhere fields k x = seq_of (part (only fields x) (part k.fabric (part (not_of (only fields (moved_along k x))) no_part)))

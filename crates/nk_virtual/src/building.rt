@@ -2,7 +2,7 @@
 ghost use Rattle.std.specs.Prelude.{◌≡◌, ◌≤◌, map, IfOk, IfErr};
 ghost use Rattle.nk_policy.specs.Policy.{size_of, marked_from};
 ghost use Rattle.nk_policy.specs.Tree.{tree_of, trees_of};
-ghost use Rattle.nk_virtual.specs.Answers.{IsBuilt, IsCause};
+ghost use Rattle.nk_virtual.specs.Answers.{IsBuilt, IsPhysicalCause};
 ghost use Rattle.nk_virtual.specs.Held.{virtual_link_of};
 ghost use Rattle.nk_virtual.specs.Physical.{physical as physical_of, all_physical, link_through, through_fabric as fabric_of};
 
@@ -18,7 +18,7 @@ const MOST: u64 = 1_048_576;
 /// The policy with each literal of a virtual link replaced by the link's fabric, its dups numbered from 1.
 pub fn physical(alloc: Global, links: &[FabricLink], p: &Pol) -> Result<Pol, PhysicalError>
     ensures ok { IfOk result (λ q. IsBuilt (physical_of (map virtual_link_of links.now) (tree_of p.now)) (tree_of q)) }
-    ensures err { IfErr result (λ e. IsCause (physical_of (map virtual_link_of links.now) (tree_of p.now)) e) }
+    ensures err { IfErr result (λ e. IsPhysicalCause (physical_of (map virtual_link_of links.now) (tree_of p.now)) e) }
 {
     if physical_size(links, p) > MOST {
         return Err(PhysicalError::TooLarge);

@@ -5,7 +5,7 @@ ghost use Rattle.nk_policy.specs.After.{drop_policy};
 ghost use Rattle.nk_policy.specs.Tree.{tree_of};
 ghost use Rattle.nk_names.specs.ProgramValue.{IsLet};
 ghost use Rattle.nk_cert.specs.Comparison.{IsComparison};
-ghost use Rattle.nk_virtual.specs.Carriage.{IsCarriage, IsLeastStart, IsLeastFrom, IsLeastLeft, IsOnTarget, IsOffTarget, IsAskable, AreComparable, from_start};
+ghost use Rattle.nk_virtual.specs.Carriage.{IsCarriage, IsLeastStart, IsLeastFrom, IsLeastLeft, IsOnTarget, IsOffTarget, IsAskable, AreComparable, history_from};
 ghost use Rattle.nk_virtual.specs.Held.{virtual_link_of};
 
 use crate::fabric::FabricLink;
@@ -115,7 +115,7 @@ fn least_from(
 ) -> Result<(Packet, History), AllocError>
     requires askable { IsAskable fields.now (virtual_link_of k.now) }
     requires some { (f : Found) × IsOffTarget fields.now (virtual_link_of k.now) f × (f.start ≡ start.now) }
-    ensures { IfOk result (λ r. IsLeastFrom fields.now (virtual_link_of k.now) start.now (from_start r.0 r.1)) }
+    ensures { IfOk result (λ r. IsLeastFrom fields.now (virtual_link_of k.now) start.now (history_from r.0 r.1)) }
 {
     let others = elsewhere(alloc, fields, k, start)?;
     let nothing = dropping(alloc);

@@ -15,7 +15,7 @@ ghost use Rattle.nk_policy.specs.Worked.{HasHistories};
 ghost use Rattle.nk_field.specs.Order.{Found};
 ghost use Rattle.nk_virtual.specs.Carriage.{IsOnTarget, IsOffTarget, IsNotCarried, IsFirstOffTarget, IsFirstNotCarried};
 ghost use Rattle.nk_virtual.specs.Endings.{without_records};
-ghost use Rattle.nk_virtual.specs.Fabrics.{LiesOver, IsVirtual, IsCarried, IsAtStartOf, moved};
+ghost use Rattle.nk_virtual.specs.Fabrics.{LiesOver, IsVirtual, IsCarried, IsAtStartOf, moved_along};
 ghost use Rattle.nk_virtual.specs.Physical.{VirtualLink, physical};
 ghost use Rattle.nk_virtual.specs.Worked.{one_to_three, across_virtual, virtual_history, physical_history, HasAllThatIsAsked};
 
@@ -104,7 +104,7 @@ pub fn a_fabric_ends_where_it_does_without_dups()
 pub fn ends_tell_whether_a_link_is_carried()
     ensures { (fields : FieldTable) (k : VirtualLink) → IsCarried fields k
         ↔ ((x : Packet) → IsPacket fields x → IsUntagged fields x → IsAtStartOf k x
-        → ((last : Packet) → Gives (without_records k.fabric) x [] last → last ≡ moved k x)
+        → ((last : Packet) → Gives (without_records k.fabric) x [] last → last ≡ moved_along k x)
         × ((last : Packet) × Gives (without_records k.fabric) x [] last)) }
 {}
 

@@ -3,8 +3,8 @@ ghost use Rattle.std.specs.Prelude.{◌≡◌, None, Some, IfOk};
 ghost use Rattle.nk_policy.specs.Tree.{tree_of, trees_of};
 ghost use Rattle.nk_virtual.specs.Endings.{without_records as bare_of};
 ghost use Rattle.nk_virtual.specs.Held.{virtual_link_of};
-ghost use Rattle.nk_virtual.specs.Questions.{entry as entry_of, from_entry as from_entry_of, move as move_of, ends_or_move as ends_or_move_of, tests_from, only as only_of, elsewhere as elsewhere_of};
-ghost use Rattle.nk_virtual.specs.Fabrics.{moved as moved_of};
+ghost use Rattle.nk_virtual.specs.Questions.{at_entry as entry_of, from_entry as from_entry_of, move as move_of, ends_or_move as ends_or_move_of, tests_from, only as only_of, elsewhere as elsewhere_of};
+ghost use Rattle.nk_virtual.specs.Fabrics.{moved_along as moved_of};
 
 use crate::ends::without_records;
 use crate::fabric::FabricLink;

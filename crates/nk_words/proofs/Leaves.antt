@@ -3,18 +3,18 @@ use Rattle.std.proofs.Common.{◌≡◌, ◌<◌, ◌+◌, ℕ, List, [], ◌∷
 use Rattle.std.proofs.lemmas.List.{map_more, map-append}
 use Rattle.clap.specs.Walk.{Text}
 use Rattle.clap.specs.Simple.{App, Shape, with_rule, with_subcommand}
-use Rattle.nk_words.specs.App.{leaf_app, wanted}
+use Rattle.nk_words.specs.App.{leaf_app, wanted_argument}
 
 -- a command with one more of its arguments
 pub more_leaf : (name : Text) (arguments : List (Bor Text)) (i : ℕ) (d : Bor Text) (a : App)
     → i < length arguments
     → a ≡ leaf_app name (map (λ t. t.now) (take i arguments))
-    → with_rule a (wanted (get_or arguments i d).now) ≡ leaf_app name (map (λ t. t.now) (take (i + 1) arguments))
+    → with_rule a (wanted_argument (get_or arguments i d).now) ≡ leaf_app name (map (λ t. t.now) (take (i + 1) arguments))
 more_leaf name arguments i d a h e =
     rw (
       e,
       map_more (λ (t : Bor Text). t.now) arguments i d h,
-      map-append wanted (map (λ (t : Bor Text). t.now) (take i arguments)) ((get_or arguments i d).now ∷ []),
+      map-append wanted_argument (map (λ (t : Bor Text). t.now) (take i arguments)) ((get_or arguments i d).now ∷ []),
     ) refl
 
 -- an application with four more commands, one after another

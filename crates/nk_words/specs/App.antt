@@ -4,12 +4,12 @@ use Rattle.clap.specs.Walk.{Rule, Text}
 use Rattle.clap.specs.Simple.{App, Shape, new_rule, new_shape, with_subcommand}
 
 -- an argument that is wanted
-abbrev pub wanted : Text → Rule
-wanted id = record (new_rule id) { required = true }
+abbrev pub wanted_argument : Text → Rule
+wanted_argument id = record (new_rule id) { required = true }
 
 -- a command with arguments of these names, each of which is wanted
 abbrev pub leaf_shape : Text → List Text → Shape
-leaf_shape name arguments = record (new_shape name) { rules = map wanted arguments }
+leaf_shape name arguments = record (new_shape name) { rules = map wanted_argument arguments }
 
 -- the same as a command of its own
 abbrev pub leaf_app : Text → List Text → App

@@ -4,7 +4,7 @@ ghost use Rattle.clap.specs.declared.builder.command.Command.TheViews.{out-Comma
 ghost use Rattle.clap.specs.Matches.{found_of};
 ghost use Rattle.clap.specs.Simple.{app_of, subcommand_rows_of, with_rule, with_subcommand};
 ghost use Rattle.clap.specs.Walk.{first_of, rows_of};
-ghost use Rattle.nk_words.specs.App.{leaf_app, leaf_shape, nk_app, nk_top, nk_without_generation, nk_without_queries, wanted};
+ghost use Rattle.nk_words.specs.App.{leaf_app, leaf_shape, nk_app, nk_top, nk_without_generation, nk_without_queries, wanted_argument};
 ghost use Rattle.nk_words.specs.Words.{IsWithinLimits, Reads, command_found, command_of, command_with, compact_of, compile_of};
 ghost use Rattle.nk_words.specs.Words.{apart_of, check_apart_of, check_of, check_waypoint_of, equal_of, fly_of};
 ghost use Rattle.nk_words.specs.Words.{gen_of, job_of, network_numbers};
@@ -73,7 +73,7 @@ fn with_wanted<'a>(
     name: &'a str,
 ) -> Result<clap::Command<'a>, AllocError>
     ensures app { IfOk result (λ c.
-        app_of c ≡ with_rule (app_of command.entry) (wanted name.entry.now)) }
+        app_of c ≡ with_rule (app_of command.entry) (wanted_argument name.entry.now)) }
     ensures local { IfOk result (λ c.
         (fields_of c).has_globals ≡ (fields_of command.entry).has_globals) }
 {

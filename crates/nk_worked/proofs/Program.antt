@@ -1,5 +1,5 @@
 -- A program has the policy as its one let, and it is accepted.
-use Rattle.std.proofs.Common.{◌≡◌, ℕ, ◌<◌, ◌≤◌, zero, suc, ⊎_elim, Some, List, [], ◌∷◌, codes, refl, sym, subst, arith}
+use Rattle.std.proofs.Common.{ℕ, ◌<◌, ◌≤◌, zero, suc, ⊎_elim, List, [], ◌∷◌, codes, refl, sym, subst, arith}
 use Rattle.std.specs.Prelude.{AllPairs, Contains}
 use Rattle.nk_field.proofs.Lists.{In}
 use Rattle.nk_field.proofs.Ascending.{all_from_members}

@@ -2,10 +2,10 @@
 use Rattle.std.proofs.Common.{◌≡◌, List, [], ◌∷◌, refl, sym, arith}
 use Rattle.nk_store.specs.Diagram.{leaf}
 use Rattle.nk_table.specs.declared.Bucket.{Bucket}
-use Rattle.nk_worked.specs.WorkedRows.{back, both, HasDropRowAndGroup}
+use Rattle.nk_worked.specs.WorkedRows.{back_alone, back_and_out, HasDropRowAndGroup}
 use Rattle.nk_worked.proofs.Packets.{in_range}
 
-back_not_both : leaf back ≡ leaf both → ⊥
+back_not_both : leaf back_alone ≡ leaf back_and_out → ⊥
 back_not_both e = cc
 
 some_not_none : (b : Bucket) (bs : List Bucket) → leaf (b ∷ bs) ≡ leaf [] → ⊥

@@ -9,10 +9,10 @@ use Rattle.nk_field.proofs.Ascending.{all_from_members, increasing_from}
 use Rattle.nk_topo.specs.Topology.{Link, AreLinks, is_port, link_from}
 use Rattle.nk_policy.specs.Distinct.{HasDistinct}
 use Rattle.nk_policy.specs.Ranges.{IsInRange}
-use Rattle.nk_names.specs.Accepted.{IsStart}
+use Rattle.nk_names.specs.Accepted.{IsStartPacket}
 use Rattle.nk_store.specs.Diagram.{leaf}
 use Rattle.nk_table.specs.Worked.{one_link}
-use Rattle.nk_compile.specs.PrintedTable.{IsTreeOf}
+use Rattle.nk_compile.specs.PrintedTable.{IsTreeOfTag}
 use Rattle.nk_compile.specs.WholeTable.{HasRowsAt, TagTree, IsSwitchTable, IsTableOf, link_end}
 use Rattle.nk_worked.specs.TwoSwitches.{dst_and_tag, over_one_link, one_set, first_table, second_table, two_tables}
 use Rattle.nk_worked.specs.TheirTable.{IsPrintedThere}
@@ -52,7 +52,7 @@ first_is = record {
   trees = record { tag = 0; tree = first_tree } ∷ [];
   ascending = one_ascends 0;
   exactly = at_first;
-  each = all_of_one (λ (e : TagTree). IsTreeOf dst_and_tag 3 over_one_link one_set e.tag 1 e.tree) (record { tag = 0; tree = first_tree }) first_tree_is;
+  each = all_of_one (λ (e : TagTree). IsTreeOfTag dst_and_tag 3 over_one_link one_set e.tag 1 e.tree) (record { tag = 0; tree = first_tree }) first_tree_is;
   groups = refl;
   rows = refl;
 }
@@ -82,13 +82,13 @@ second_is = record {
   trees = record { tag = 0; tree = leaf [] } ∷ record { tag = 1; tree = second_tree } ∷ [];
   ascending = two_ascend;
   exactly = at_second;
-  each = all_of_two (λ (e : TagTree). IsTreeOf dst_and_tag 3 over_one_link one_set e.tag 2 e.tree)
+  each = all_of_two (λ (e : TagTree). IsTreeOfTag dst_and_tag 3 over_one_link one_set e.tag 2 e.tree)
       (record { tag = 0; tree = leaf [] }) (record { tag = 1; tree = second_tree }) empty_tree_is second_tree_is;
   groups = refl;
   rows = refl;
 }
 
-pub table_is : IsTableOf dst_and_tag one_link (IsStart dst_and_tag one_link) over_one_link two_tables
+pub table_is : IsTableOf dst_and_tag one_link (IsStartPacket dst_and_tag one_link) over_one_link two_tables
 table_is = record {
   tag = 3;
   tags = one_set;

@@ -9,16 +9,16 @@ use Rattle.nk_policy.specs.Meaning.{Gives}
 use Rattle.nk_policy.specs.Progress.{Marked, RecordsAt}
 use Rattle.nk_policy.specs.Labels.{IsAt, IsLabelSet, IsTagSet}
 use Rattle.nk_policy.specs.Tags.{AreTags}
-use Rattle.nk_names.specs.Accepted.{IsStart, IsCompilable}
+use Rattle.nk_names.specs.Accepted.{IsStartPacket, IsCompilable}
 use Rattle.nk_table.specs.Worked.{one_link}
 use Rattle.nk_worked.specs.TwoSwitches.{dst_and_tag, over_one_link, one_set}
-use Rattle.nk_worked.specs.TheirTable.{entering}
+use Rattle.nk_worked.specs.TheirTable.{entering_packet}
 use Rattle.nk_worked.proofs.Packets.{is_packet, from_front}
 use Rattle.nk_worked.proofs.Crossing.{near, crossed, at_dups, recorded}
 use Rattle.nk_worked.proofs.States.{not_empty, only_one, there, one_ascends}
 
 -- the packet enters there
-pub starts : IsStart dst_and_tag one_link entering
+pub starts : IsStartPacket dst_and_tag one_link entering_packet
 starts = record { packet = is_packet 1 1 (omega arith) (omega arith); located = refl; untagged = refl }
 
 -- what it has behind the switch and the port
@@ -69,31 +69,31 @@ one_alone (a ∷ b ∷ r) filled up only =
     absurd (omega (arith, (rising_from (a ∷ b ∷ r) up).0 b (inl refl), first, second))
 
 -- a tag set is the one
-pub is_the_one : (s : List ℕ) → IsTagSet over_one_link (λ pk. IsStart dst_and_tag one_link pk) s → s ≡ 1 ∷ []
+pub is_the_one : (s : List ℕ) → IsTagSet over_one_link (λ pk. IsStartPacket dst_and_tag one_link pk) s → s ≡ 1 ∷ []
 is_the_one s h = one_alone s h.5.0 h.5.1.0 (λ l c. at_one h.0 h.1 h.2 l h.4 ((h.5.1.1 l).0 c))
 
 -- the numbers at which the packet can be that has crossed to the near end
-labels : IsLabelSet over_one_link entering (near entering ∷ []) (1 ∷ [])
+labels : IsLabelSet over_one_link entering_packet (near entering_packet ∷ []) (1 ∷ [])
 labels = (
   λ e. not_empty 1 [] (sym e),
   (
     one_ascends 1,
     λ l. (
-      λ c. ([], near entering, refl, subst (λ k. RecordsAt over_one_link entering [] (near entering) k) (sym (only_one 1 l c)) (recorded its_rest)),
-      λ h. subst (λ k. Contains (1 ∷ []) k) (sym (at_one entering (near entering ∷ []) 0 l refl h)) (there 1),
+      λ c. ([], near entering_packet, refl, subst (λ k. RecordsAt over_one_link entering_packet [] (near entering_packet) k) (sym (only_one 1 l c)) (recorded its_rest)),
+      λ h. subst (λ k. Contains (1 ∷ []) k) (sym (at_one entering_packet (near entering_packet ∷ []) 0 l refl h)) (there 1),
     ),
   ),
 )
 
 -- it is one
-pub is_one : IsTagSet over_one_link (λ pk. IsStart dst_and_tag one_link pk) (1 ∷ [])
-is_one = (entering, near entering ∷ [], 0, starts, refl, labels)
+pub is_one : IsTagSet over_one_link (λ pk. IsStartPacket dst_and_tag one_link pk) (1 ∷ [])
+is_one = (entering_packet, near entering_packet ∷ [], 0, starts, refl, labels)
 
 -- the tag sets in their order
-pub are_tags : AreTags over_one_link (IsStart dst_and_tag one_link) one_set
+pub are_tags : AreTags over_one_link (IsStartPacket dst_and_tag one_link) one_set
 are_tags = record {
   exactly = λ s. (
-    λ c. subst (λ q. IsTagSet over_one_link (λ pk. IsStart dst_and_tag one_link pk) q) (sym (only_one (1 ∷ []) s c)) is_one,
+    λ c. subst (λ q. IsTagSet over_one_link (λ pk. IsStartPacket dst_and_tag one_link pk) q) (sym (only_one (1 ∷ []) s c)) is_one,
     λ h. subst (λ q. Contains one_set q) (sym (is_the_one s h)) (there (1 ∷ [])),
   );
   in_order = λ i j d lt less. absurd (omega (arith, lt, less));

@@ -8,7 +8,7 @@ use Rattle.nk_table.specs.declared.Bucket.{Bucket}
 use Rattle.nk_table.specs.declared.Exit.{Exit}
 use Rattle.nk_table.specs.declared.Exit.TheVariants.{Back, Port}
 use Rattle.nk_extract.specs.Buckets.{bucket_of, IsBucketBefore}
-use Rattle.nk_compile.specs.PrintedTable.{IsResult, IsBucketList, IsTreeOf}
+use Rattle.nk_compile.specs.PrintedTable.{IsResult, IsBucketList, IsTreeOfTag}
 use Rattle.nk_worked.specs.TwoSwitches.{dst_and_tag, over_one_link, one_set, tagged}
 use Rattle.nk_worked.proofs.Packets.{from_front}
 use Rattle.nk_worked.proofs.States.{only_one, there, first_result, leads_over, second_result, leads_out}
@@ -104,7 +104,7 @@ out_leaf sw pt r most = elim (numbers_decided pt 2) [
 ]
 
 -- they are the trees
-pub first_tree_is : IsTreeOf dst_and_tag 3 over_one_link one_set 0 1 first_tree
+pub first_tree_is : IsTreeOfTag dst_and_tag 3 over_one_link one_set 0 1 first_tree
 first_tree_is = record {
   reduced = (omega arith, tt, (omega arith, tt, λ e. cc, (omega arith, tt, λ e. cc, (refl, tt, tt, tt))));
   tag_free = (λ e. omega (arith, e), (tt, (tt, (tt, tt))));
@@ -127,7 +127,7 @@ first_tree_is = record {
 }
 
 -- at switch 2 nothing that is untagged is sent
-pub empty_tree_is : IsTreeOf dst_and_tag 3 over_one_link one_set 0 2 (leaf [])
+pub empty_tree_is : IsTreeOfTag dst_and_tag 3 over_one_link one_set 0 2 (leaf [])
 empty_tree_is = record {
   reduced = tt;
   tag_free = tt;
@@ -140,7 +140,7 @@ ways_differ e =
     let b : tagged 0 (Port 2) ≡ tagged 0 Back = cc in
     let x : Port 2 ≡ Back = ap (λ (a : Bucket). a.exit) b in cc
 
-pub second_tree_is : IsTreeOf dst_and_tag 3 over_one_link one_set 1 2 second_tree
+pub second_tree_is : IsTreeOfTag dst_and_tag 3 over_one_link one_set 1 2 second_tree
 second_tree_is = record {
   reduced = (omega arith, tt, (omega arith, tt, λ e. ways_differ e, (omega arith, tt, λ e. ways_differ (sym e), (refl, tt, tt, tt))));
   tag_free = (λ e. omega (arith, e), (tt, (tt, (tt, tt))));

@@ -8,7 +8,7 @@ use Rattle.nk_policy.specs.Meaning.{Gives}
 use Rattle.nk_policy.specs.Distinct.{HasDistinct}
 use Rattle.nk_policy.specs.Ranges.{IsInRange}
 use Rattle.nk_policy.specs.Tags.{AreTags}
-use Rattle.nk_names.specs.Accepted.{IsStart, IsCompilable, IsAccepted}
+use Rattle.nk_names.specs.Accepted.{IsStartPacket, IsCompilable, IsAccepted}
 use Rattle.nk_names.specs.Named.{policy_named}
 use Rattle.nk_names.specs.ProgramValue.{IsProgram}
 use Rattle.nk_names.specs.declared.Program.{Program}
@@ -27,8 +27,8 @@ pub record IsPrintedThere : Type 0 where
   pub distinct : HasDistinct over_one_link
   pub in_range : IsInRange over_one_link dst_and_tag
   pub compilable : IsCompilable dst_and_tag one_link over_one_link
-  pub one_tag : AreTags over_one_link (IsStart dst_and_tag one_link) one_set
-  pub table : IsTableOf dst_and_tag one_link (IsStart dst_and_tag one_link) over_one_link two_tables
+  pub one_tag : AreTags over_one_link (IsStartPacket dst_and_tag one_link) one_set
+  pub table : IsTableOf dst_and_tag one_link (IsStartPacket dst_and_tag one_link) over_one_link two_tables
 
 -- the program whose one let has the name p
 abbrev pub program_with : Policy → Program
@@ -39,24 +39,24 @@ pub record IsAcceptedThere : Type 0 where
   pub program : IsProgram dst_and_tag one_link ((codes "p", over_one_link) ∷ [])
   pub named : policy_named (program_with over_one_link) (codes "p") ≡ Some over_one_link
   pub accepted : IsAccepted (program_with over_one_link) over_one_link
-  pub table : IsTableOf dst_and_tag one_link (IsStart dst_and_tag one_link) over_one_link two_tables
+  pub table : IsTableOf dst_and_tag one_link (IsStartPacket dst_and_tag one_link) over_one_link two_tables
   pub carries : Carries (program_with over_one_link) over_one_link two_tables
 
 -- the packet that enters at port 1 of switch 1 with dst 3, and the history with which it leaves
-abbrev pub entering : List ℕ
-entering = packet 1 1 3 0
+abbrev pub entering_packet : List ℕ
+entering_packet = packet 1 1 3 0
 
 abbrev pub its_history : Copy
 its_history = record { records = packet 1 2 3 0 ∷ packet 2 1 3 0 ∷ []; packet = packet 2 2 3 0 }
 
 -- it leaves after one crossing, once, and neither before nor later; and this is the policy's one history from there
 pub record LeavesAfterOneCrossing : Type 0 where
-  pub start : IsStart dst_and_tag one_link entering
-  pub not_at_once : left_after two_tables 0 entering ≡ []
-  pub then : left_after two_tables 1 entering ≡ its_history ∷ []
-  pub no_more : waiting two_tables 2 entering ≡ []
-  pub given : Gives over_one_link entering its_history.records its_history.packet
-  pub alone : (w : List (List ℕ)) (last : List ℕ) → Gives over_one_link entering w last → record { records = w; packet = last } ≡ its_history
+  pub start : IsStartPacket dst_and_tag one_link entering_packet
+  pub not_at_once : left_after two_tables 0 entering_packet ≡ []
+  pub then : left_after two_tables 1 entering_packet ≡ its_history ∷ []
+  pub no_more : waiting two_tables 2 entering_packet ≡ []
+  pub given : Gives over_one_link entering_packet its_history.records its_history.packet
+  pub alone : (w : List (List ℕ)) (last : List ℕ) → Gives over_one_link entering_packet w last → record { records = w; packet = last } ≡ its_history
 
 -- the tables' text
 abbrev pub its_text : List ℕ

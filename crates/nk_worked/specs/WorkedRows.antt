@@ -19,28 +19,28 @@ use Rattle.nk_group.specs.Groups.{groups_of, rows_after}
 use Rattle.nk_worked.specs.TwoSwitches.{dst_and_tag, tagged}
 
 -- back alone, and back and out of port 9
-abbrev pub back : List Bucket
-back = tagged 0 Back ∷ []
+abbrev pub back_alone : List Bucket
+back_alone = tagged 0 Back ∷ []
 
-abbrev pub both : List Bucket
-both = tagged 0 Back ∷ tagged 0 (Port 9) ∷ []
+abbrev pub back_and_out : List Bucket
+back_and_out = tagged 0 Back ∷ tagged 0 (Port 9) ∷ []
 
 abbrev pub by_port : Diagram (List Bucket)
 by_port =
     case 1 (
-    branch 0 (leaf back) (
-    branch 1 (leaf both) (
+    branch 0 (leaf back_alone) (
+    branch 1 (leaf back_and_out) (
     branch 2 (leaf []) (
-    branch 3 (leaf both) (
-    branch 65535 (leaf back) no_branch)))))
+    branch 3 (leaf back_and_out) (
+    branch 65535 (leaf back_alone) no_branch)))))
 
 -- the rows with their whole bucket lists: those of ports 1, 2 and 3, and the one of every other port
 abbrev pub port_rows : List Plain
 port_rows =
-    plain 2 ((1, 1, 16) ∷ (3, 0, 3) ∷ []) both
+    plain 2 ((1, 1, 16) ∷ (3, 0, 3) ∷ []) back_and_out
     ∷ plain 2 ((1, 2, 16) ∷ (3, 0, 3) ∷ []) []
-    ∷ plain 2 ((1, 3, 16) ∷ (3, 0, 3) ∷ []) both
-    ∷ plain 0 ((3, 0, 3) ∷ []) back
+    ∷ plain 2 ((1, 3, 16) ∷ (3, 0, 3) ∷ []) back_and_out
+    ∷ plain 0 ((3, 0, 3) ∷ []) back_alone
     ∷ []
 
 -- the row that drops
@@ -57,7 +57,7 @@ grouped_rows =
     ∷ []
 
 abbrev pub one_group : List Group
-one_group = record { number = 1; buckets = both } ∷ []
+one_group = record { number = 1; buckets = back_and_out } ∷ []
 
 -- the row that acts on a packet, and the buckets of its target
 abbrev pub acting : List ℕ → List Bucket
@@ -73,7 +73,7 @@ pub record HasDropRowAndGroup : Type 0 where
   pub rows : rows_for dst_and_tag.maxima 3 0 by_port ≡ port_rows
   pub groups : groups_of port_rows ≡ one_group
   pub grouped : rows_after [] port_rows ≡ grouped_rows
-  pub match_two : matching dst_and_tag.maxima port_rows (packet 1 2 3 0) ≡ plain 2 ((1, 2, 16) ∷ (3, 0, 3) ∷ []) [] ∷ plain 0 ((3, 0, 3) ∷ []) back ∷ []
+  pub match_two : matching dst_and_tag.maxima port_rows (packet 1 2 3 0) ≡ plain 2 ((1, 2, 16) ∷ (3, 0, 3) ∷ []) [] ∷ plain 0 ((3, 0, 3) ∷ []) back_alone ∷ []
   pub drops : highest [] (filter (agrees dst_and_tag.maxima (packet 1 2 3 0)) grouped_rows) ≡ Some drop_row
-  pub copies : (acting (packet 1 1 3 0) ≡ both) × (acting (packet 1 3 3 0) ≡ both)
-  pub goes_back : acting (packet 1 4 3 0) ≡ back
+  pub copies : (acting (packet 1 1 3 0) ≡ back_and_out) × (acting (packet 1 3 3 0) ≡ back_and_out)
+  pub goes_back : acting (packet 1 4 3 0) ≡ back_alone

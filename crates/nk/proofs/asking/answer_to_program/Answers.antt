@@ -2,7 +2,7 @@ use Rattle.std.proofs.Common.{◌≡◌, refl, subst}
 use Rattle.nk_names.specs.declared.Program.{Program}
 use Rattle.nk_reach.specs.Finds.{found_of}
 use Rattle.nk_cert.specs.Values.{certificate_value}
-use Rattle.nk_query.specs.Answers.{IsAnswer, asked_of}
+use Rattle.nk_query.specs.Answers.{IsAnswer, asked_in}
 use Rattle.nk.specs.Asking.{broken_lines}
 use Rattle.nk.proofs.Certified.{is_held}
 use Rattle.nk.proofs.asking.answer_to_program.Goals as goal
@@ -11,7 +11,7 @@ pub returns-in_ok-cert_text-in-Ok-Holds : goal.returns-in_ok-cert_text-in-Ok-Hol
 returns-in_ok-cert_text-in-Ok-Holds c =
     let found = c.in-Ok-Holds.ensures in
     let holds = subst (λ a. IsAnswer c.args.program.now.fields found.0 a) c.in-Ok-Holds.field-0-is found.2 in
-    is_held c.certificates_of_policies_are_read.ensures.read c.args.program.now (asked_of c.args.query.now) found.0
+    is_held c.certificates_of_policies_are_read.ensures.read c.args.program.now (asked_in c.args.query.now) found.0
     (certificate_value c.in-Ok-Holds.certificate) c.in_ok-cert_text-in-Ok-Holds.field-0.items found.1 holds.0 holds.1
     c.in_ok-cert_text-in-Ok-Holds.ensures
 

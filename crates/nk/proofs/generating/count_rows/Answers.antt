@@ -1,6 +1,6 @@
 use Rattle.std.proofs.Common.{◌∙◌, ap, subst, sym}
 use Rattle.std.proofs.lemmas.List.{length-map}
-use Rattle.nk_cert.specs.Values.{certificate_value, row_value}
+use Rattle.nk_cert.specs.Values.{certificate_value, held_row_value}
 use Rattle.nk_bisim.specs.Answers.{IsComparison}
 use Rattle.nk.specs.Generating.{rows_line}
 use Rattle.nk.proofs.Jobs.{rows_counted}
@@ -13,4 +13,4 @@ returns-in_ok-rows_message-in-Ok-Related c =
     rows_counted c.certificates_of_policies_are_read.ensures.read c.args.program.now c.args.left.now c.args.right.now
     c.in_ok-rows_message-in-Ok-Related.field-0.items found.0 found.1 c.requires.is (record { left_is = found.2; right_is = found.3 })
     (certificate_value c.in-Ok-Related.certificate) related
-    (c.in_ok-rows_message-in-Ok-Related.ensures ∙ ap rows_line (c.len.ensures ∙ sym (length-map c.in-Ok-Related.certificate.rows row_value)))
+    (c.in_ok-rows_message-in-Ok-Related.ensures ∙ ap rows_line (c.len.ensures ∙ sym (length-map c.in-Ok-Related.certificate.rows held_row_value)))

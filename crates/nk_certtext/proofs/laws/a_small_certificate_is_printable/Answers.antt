@@ -7,7 +7,7 @@ use Rattle.nk_field.specs.Packet.{built_in}
 use Rattle.nk_lex.specs.Lex.{largest}
 use Rattle.nk_cert.specs.Certificates.{RowValue}
 use Rattle.nk_certtext.specs.Text.{cert_bytes}
-use Rattle.nk_certtext.specs.ReadBack.{IsRowOf, IsPrintable, small_predicate, small}
+use Rattle.nk_certtext.specs.ReadBack.{IsReadableRow, IsPrintableCertificate, small_predicate, small_certificate}
 use Rattle.nk_certtext.proofs.laws.a_small_certificate_is_printable.Goals as goal
 
 up : IsStrictlyIncreasing (1 ∷ 3 ∷ [])
@@ -17,7 +17,7 @@ up (suc k) lt = absurd (omega (arith, lt))
 abbrev later : RowValue
 later = record { positions = 1 ∷ 3 ∷ []; predicate = small_predicate }
 
-is_row : IsRowOf built_in later
+is_row : IsReadableRow built_in later
 is_row = record {
   some = omega arith;
   small = All-cons (λ n. n ≤ largest) 1 (3 ∷ []) (omega arith)
@@ -34,14 +34,14 @@ is_row = record {
 apart : AllPairs (λ r s. r.positions ≢ s.positions) (later ∷ [])
 apart i j d lt short = absurd (omega (arith, lt, short))
 
-printable : IsPrintable built_in small
+printable : IsPrintableCertificate built_in small_certificate
 printable = record {
   start = record { predicate = refl; over = tt; shallow = omega arith; no_lone_part = (tt, tt) };
-  rows = All-cons (IsRowOf built_in) later [] is_row (All-nil (IsRowOf built_in));
+  rows = All-cons (IsReadableRow built_in) later [] is_row (All-nil (IsReadableRow built_in));
   apart = apart;
 }
 
-text : cert_bytes built_in small ≡ codes "certificate\nrow start : id\nrow 1 3 : sw=1;~pt in 2..3\n"
+text : cert_bytes built_in small_certificate ≡ codes "certificate\nrow start : id\nrow 1 3 : sw=1;~pt in 2..3\n"
 text =
     let one : decimal 1 ≡ 49 ∷ [] = decimal_digit 1 (omega arith) in
     let two : decimal 2 ≡ 50 ∷ [] = decimal_digit 2 (omega arith) in

@@ -2,7 +2,7 @@ use Rattle.std.proofs.Common.{◌++◌, ◌<◌, ℕ, List}
 use Rattle.nk_store.specs.Held.{Held, Grows}
 use Rattle.nk_determ.specs.Sets.{SetsGrow}
 use Rattle.nk_merge.specs.Twice.{IsTwice}
-use Rattle.nk_compile.specs.Told.{AreTold, IsBase, row}
+use Rattle.nk_compile.specs.Told.{AreToldApart, IsBase, pairs_behind}
 use Rattle.nk_compile.proofs.aparts.apart_row.Given as goal
 
 -- the row so far is told
@@ -12,6 +12,6 @@ invariant-loop-j l = record {
   grows : Grows l.fn.st l.st;
   sets : SetsGrow l.fn.ss l.ss;
   twice : IsTwice l.st l.states l.twice;
-  told : (base : Held) (first : List (List ℕ)) (pairs : List (ℕ × ℕ)) → IsBase base first l.fn.st l.fn.ss l.states l.tags l.firsts → AreTold base l.states first l.tags l.firsts pairs l.fn.all
-      → AreTold base l.states first l.tags l.firsts (pairs ++ row l.i l.j) l.all;
+  told : (base : Held) (first : List (List ℕ)) (pairs : List (ℕ × ℕ)) → IsBase base first l.fn.st l.fn.ss l.states l.tags l.firsts → AreToldApart base l.states first l.tags l.firsts pairs l.fn.all
+      → AreToldApart base l.states first l.tags l.firsts (pairs ++ pairs_behind l.i l.j) l.all;
 }

@@ -1,7 +1,7 @@
 use Rattle.std.proofs.Common.{length}
 use Rattle.nk_store.proofs.Stores.{grows_on}
 use Rattle.nk_switches.proofs.Growing.{sets_grow_on}
-use Rattle.nk_compile.specs.Told.{rows}
+use Rattle.nk_compile.specs.Told.{first_pairs}
 use Rattle.nk_compile.proofs.TellingApart.{base_on, base_here, alike_then, rows_more}
 use Rattle.nk_compile.proofs.aparts.aparts.Goals as goal
 
@@ -24,7 +24,7 @@ loop-i-preserved c = record {
   twice = c.in_ok-apart_row.ensures.twice;
   told =
       rows_more c.args.st.now c.args.states.now c.args.ss.now c.args.tags.now c.args.firsts.now (length c.args.firsts.now) c.loop-i.i c.apart_row.new.all
-      (c.in_ok-apart_row.ensures.told c.args.st.now c.args.ss.now (rows (length c.args.firsts.now) c.loop-i.i)
+      (c.in_ok-apart_row.ensures.told c.args.st.now c.args.ss.now (first_pairs (length c.args.firsts.now) c.loop-i.i)
       (base_on c.args.st.now c.args.ss.now c.args.st.now c.args.ss.now c.args.states.now c.args.tags.now c.args.firsts.now c.requires.base c.loop-i.st c.loop-i.ss c.loop-i.invariant.grows c.loop-i.invariant.sets)
       c.loop-i.invariant.told);
 }

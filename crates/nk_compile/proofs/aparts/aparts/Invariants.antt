@@ -2,7 +2,7 @@ use Rattle.std.proofs.Common.{length}
 use Rattle.nk_store.specs.Held.{Grows}
 use Rattle.nk_determ.specs.Sets.{SetsGrow}
 use Rattle.nk_merge.specs.Twice.{IsTwice}
-use Rattle.nk_compile.specs.Told.{AreTold, rows}
+use Rattle.nk_compile.specs.Told.{AreToldApart, first_pairs}
 use Rattle.nk_compile.proofs.aparts.aparts.Given as goal
 
 -- the rows so far are told
@@ -11,5 +11,5 @@ invariant-loop-i l = record {
   grows : Grows l.fn.st l.st;
   sets : SetsGrow l.fn.ss l.ss;
   twice : IsTwice l.st l.states l.twice;
-  told : AreTold l.fn.st l.states l.fn.ss l.tags l.firsts (rows (length l.firsts) l.i) l.all;
+  told : AreToldApart l.fn.st l.states l.fn.ss l.tags l.firsts (first_pairs (length l.firsts) l.i) l.all;
 }

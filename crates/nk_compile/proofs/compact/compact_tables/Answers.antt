@@ -1,16 +1,16 @@
 use Rattle.std.proofs.Common.{◌≡◌, ◌<◌, ◌≤◌, ◌+◌, ◌∙◌, ℕ, suc, Some, List, length, sym, ap, subst, refl, arith}
 use Rattle.std.specs.Prelude.{All, slice_index}
 use Rattle.nk_policy.specs.Tree.{tree_of}
-use Rattle.nk_names.specs.Accepted.{IsStart, most_tags}
+use Rattle.nk_names.specs.Accepted.{IsStartPacket, most_tags}
 use Rattle.nk_store.proofs.Stores.{grows_on}
 use Rattle.nk_switches.proofs.Growing.{sets_grow_on}
-use Rattle.nk_switches.specs.Tagged.{set_of}
+use Rattle.nk_switches.specs.Tagged.{set_of_tag}
 use Rattle.nk_merge.specs.Classes.{AreFirsts}
 use Rattle.nk_compile.specs.MergedTable.{IsMergedTable}
 use Rattle.nk_compile.specs.Compacted.{AreAparts}
 use Rattle.nk_compile.specs.Mergeable.{IsMetPackets}
 use Rattle.nk_compile.specs.Ready.{sets_of}
-use Rattle.nk_compile.specs.Told.{AreTold, rows}
+use Rattle.nk_compile.specs.Told.{AreToldApart, first_pairs}
 use Rattle.nk_compile.proofs.AlikeTags.{told_all}
 use Rattle.nk_compile.proofs.Compacting.{distinct, known, tags_are, labels_small, level_ids, level_sets, states_there, over_there, auto_there, known_there, places_there, sets_there, dups_there, base_there, classes_there, met_there, mergeable_there, classes_few, firsts_in, classes_differ}
 use Rattle.nk_compile.proofs.Levelled.{prepared_unopposed, prepared_compilable}
@@ -122,7 +122,7 @@ merged_tables-requires c =
             c.in_ok-classes.classes.numbers c.laws.ensures.tidy c.in_ok-classes.ensures.classes)
             c.in_ok-classes.ensures.firsts
             (ap (λ (l : List ℕ). length l) c.as_slice-2.ensures ∙ c.in_ok-met.ensures.len)
-            (λ i lt. subst (λ l. IsMetPackets c.args.fields.now c.args.topo.now (tree_of c.args.p.now) (set_of c.aparts.new.ss c.args.tags.now i) c.aparts.new.st (slice_index l i)) (sym c.as_slice-2.ensures)
+            (λ i lt. subst (λ l. IsMetPackets c.args.fields.now c.args.topo.now (tree_of c.args.p.now) (set_of_tag c.aparts.new.ss c.args.tags.now i) c.aparts.new.st (slice_index l i)) (sym c.as_slice-2.ensures)
             (met_there c.args.fields.now c.args.topo.now r.0 (tree_of c.args.p.now) _ r.2 c.requires.few c.args.tags.now c.requires.numbers
             c.aparts.new.st c.aparts.new.ss grown sets c.met_packets.new.st (slice_index c.in_ok-met.met i) i c.met_packets.ensures.grows late lt (c.in_ok-met.ensures.met i lt))),
       );
@@ -147,7 +147,7 @@ returns-clause-made c =
       classes = c.in_ok-classes.classes.numbers;
       compilable = prepared_compilable c.args.fields.now c.args.topo.now r.0 p _ r.2;
       merged =
-          subst (λ l. IsMergedTable c.args.fields.now c.args.topo.now (IsStart c.args.fields.now c.args.topo.now) p l c.in_ok-classes.classes.numbers (record { fields = c.in_ok-fields.fields; topo = c.in_ok-topo.topo; tables = c.in_ok-tables.tables }))
+          subst (λ l. IsMergedTable c.args.fields.now c.args.topo.now (IsStartPacket c.args.fields.now c.args.topo.now) p l c.in_ok-classes.classes.numbers (record { fields = c.in_ok-fields.fields; topo = c.in_ok-topo.topo; tables = c.in_ok-tables.tables }))
           (sets_there c.args.fields.now c.args.topo.now r.0 (tree_of c.args.p.now) _ r.2 c.requires.few c.args.tags.now c.requires.numbers c.aparts.new.st c.aparts.new.ss grown sets)
           (c.in_ok-tables.ensures c.args.fields.now r.0
           (mergeable_there c.args.fields.now c.args.topo.now r.0 (tree_of c.args.p.now) _ r.2 c.requires.few c.args.tags.now c.requires.numbers
@@ -158,7 +158,7 @@ returns-clause-made c =
           c.in_ok-classes.classes.numbers c.laws.ensures.tidy k)
           fm
           (ap (λ (l : List ℕ). length l) c.as_slice-2.ensures ∙ c.in_ok-met.ensures.len)
-          (λ i lt. subst (λ l. IsMetPackets c.args.fields.now c.args.topo.now p (set_of c.aparts.new.ss c.args.tags.now i) c.aparts.new.st (slice_index l i)) (sym c.as_slice-2.ensures)
+          (λ i lt. subst (λ l. IsMetPackets c.args.fields.now c.args.topo.now p (set_of_tag c.aparts.new.ss c.args.tags.now i) c.aparts.new.st (slice_index l i)) (sym c.as_slice-2.ensures)
           (met_there c.args.fields.now c.args.topo.now r.0 (tree_of c.args.p.now) _ r.2 c.requires.few c.args.tags.now c.requires.numbers
           c.aparts.new.st c.aparts.new.ss grown sets c.met_packets.new.st (slice_index c.in_ok-met.met i) i c.met_packets.ensures.grows late lt (c.in_ok-met.ensures.met i lt))))
           (record { fields = c.in_ok-fields.fields; topo = c.in_ok-topo.topo; tables = c.in_ok-tables.tables }) c.in_ok-fields.ensures c.in_ok-topo.ensures refl);
@@ -174,5 +174,5 @@ returns-clause-made c =
           c.laws-2.ensures.tidy c.classes_of.new.ss c.args.tags.now c.in_ok-classes.classes.numbers c.in_ok-classes.classes.firsts
           (dups_there c.args.fields.now c.args.topo.now r.0 (tree_of c.args.p.now) _ r.2 c.requires.few c.args.tags.now c.requires.numbers c.classes_of.new.st c.classes_of.new.ss early early_sets)
           k.one_each k.from_one fm c.in_ok-aparts.aparts
-          (subst (λ (l : List ℕ). AreTold c.classes_of.new.st c.args.states.now c.classes_of.new.ss c.args.tags.now l (rows (length l) (length l)) c.in_ok-aparts.aparts) c.as_slice.ensures c.in_ok-aparts.ensures.told));
+          (subst (λ (l : List ℕ). AreToldApart c.classes_of.new.st c.args.states.now c.classes_of.new.ss c.args.tags.now l (first_pairs (length l) (length l)) c.in_ok-aparts.aparts) c.as_slice.ensures c.in_ok-aparts.ensures.told));
     }

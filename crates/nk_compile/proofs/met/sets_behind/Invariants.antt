@@ -1,8 +1,8 @@
 use Rattle.std.proofs.Common.{◌≡◌, ◌<◌, ℕ, length}
 use Rattle.std.specs.Prelude.{slice_index}
 use Rattle.nk_determ.specs.Sets.{IsSetOf, SetsGrow}
-use Rattle.nk_switches.specs.Tagged.{set_of}
-use Rattle.nk_merge.specs.Alike.{behind}
+use Rattle.nk_switches.specs.Tagged.{set_of_tag}
+use Rattle.nk_merge.specs.Alike.{labels_behind}
 use Rattle.nk_compile.proofs.met.sets_behind.Given as goal
 
 -- the sets behind the tags so far
@@ -10,5 +10,5 @@ abbrev pub invariant-loop-s : goal.invariant-loop-s
 invariant-loop-s l = record {
   sets : SetsGrow l.fn.ss l.ss;
   len : length l.all ≡ l.s-index;
-  behind : (i : ℕ) → i < l.s-index → IsSetOf l.ss (slice_index l.all i) (behind (set_of l.fn.ss l.tags i));
+  behind : (i : ℕ) → i < l.s-index → IsSetOf l.ss (slice_index l.all i) (labels_behind (set_of_tag l.fn.ss l.tags i));
 }

@@ -2,7 +2,7 @@ use Rattle.std.proofs.Common.{◌≡◌, ◌+◌, ◌∙◌, [], sym, subst, ap,
 use Rattle.std.specs.Prelude.{All, map}
 use Rattle.std.proofs.lemmas.List.{get_or_default}
 use Rattle.nk_switches.specs.declared.stop.Stop.{Stop}
-use Rattle.nk_switches.specs.Tagged.{set_of}
+use Rattle.nk_switches.specs.Tagged.{set_of_tag}
 use Rattle.nk_compile.specs.Comings.{first_end, HasComing, with_end}
 use Rattle.nk_compile.proofs.ComingEnds.{coming_on, switches_on, numbers_ascend}
 use Rattle.nk_compile.proofs.stops.stops.Goals as goal
@@ -14,7 +14,7 @@ pub loop-s-preserved : goal.loop-s-preserved
 loop-s-preserved c =
     let i = c.loop-s.s-index in
     let added = c.in_ok-add_tag.ensures ∙ ap (λ t. with_end c.end_of.result (t + 1) c.loop-s.all.items) c.loop-s.invariant.tag in
-    let end : first_end c.args.ends.now (set_of c.args.ss.now c.args.tags.now i) ≡ c.end_of.result =
+    let end : first_end c.args.ends.now (set_of_tag c.args.ss.now c.args.tags.now i) ≡ c.end_of.result =
     sym (c.end_of.ensures ∙ ap (first_end c.args.ends.now) (c.members.ensures.is ∙ ap (λ n. get_or c.args.ss.now n []) (c.s-item.is ∙ get_or_default c.args.tags.now i c.s-item.result 0 c.loop-s-test.true))) in
     record {
       tag = ap (λ t. t + 1) c.loop-s.invariant.tag;

@@ -1,6 +1,6 @@
 use Rattle.std.proofs.Common.{◌∙◌, sym, subst, arith}
 use Rattle.nk_policy.specs.Tree.{tree_of}
-use Rattle.nk_names.specs.Accepted.{IsStart}
+use Rattle.nk_names.specs.Accepted.{IsStartPacket}
 use Rattle.nk_compile.specs.Answers.{IsError}
 use Rattle.nk_compile.specs.Counted.{HasTagSets}
 use Rattle.nk_compile.proofs.Levelled.{prepared_unopposed, prepared_many, prepared_compilable, prepared_counted, prepared_few}
@@ -38,7 +38,7 @@ returns-clause-made c =
     record {
       compilable = prepared_compilable c.args.fields.now c.args.topo.now c.in-Some.tag (tree_of c.args.p.now) c.in_ok-prepared.prepared k;
       few = prepared_few c.args.fields.now c.args.topo.now c.in-Some.tag (tree_of c.args.p.now) c.in_ok-prepared.prepared k c.in_ok-tags.tags c.in_ok-tags.ensures.ok c.max.result c.max.ensures (omega (arith, few));
-      printed = table_alone c.args.fields.now c.args.topo.now (IsStart c.args.fields.now c.args.topo.now) (tree_of c.args.p.now) c.in_ok-tables.tables c.in_ok-tables.ensures;
+      printed = table_alone c.args.fields.now c.args.topo.now (IsStartPacket c.args.fields.now c.args.topo.now) (tree_of c.args.p.now) c.in_ok-tables.tables c.in_ok-tables.ensures;
     }
 
 pub returns-clause-counted : goal.returns-clause-counted

@@ -4,7 +4,7 @@ use Rattle.std.proofs.lemmas.List.{get_or_default}
 use Rattle.nk_store.specs.Held.{Grows}
 use Rattle.nk_store.proofs.Stores.{grows_on}
 use Rattle.nk_determ.proofs.Interned.{sets_on}
-use Rattle.nk_merge.specs.Alike.{behind, tag_set, AreAlike, AreTagsAlike}
+use Rattle.nk_merge.specs.Alike.{labels_behind, tag_set, AreAlike, AreTagsAlike}
 use Rattle.nk_merge.specs.Classes.{AreClasses}
 use Rattle.nk_merge.specs.Seen.{DoesTogether}
 use Rattle.nk_merge.proofs.Growing.{twice_on}
@@ -39,26 +39,26 @@ loop-i-preserved c =
     let yes : c.in_ok-c.c < length firsts → AreTagsAlike old states ss tags (slice_index firsts c.in_ok-c.c) i =
     λ less.
     let at = within c.in_ok-c.c less in
-    let found = subst (λ (f : List ℕ). AreAlike mid states (behind (tag_set c.loop-i.ss tags (slice_index f c.in_ok-c.c))) (behind (get_or c.loop-i.ss c.index-tags-i.result []))) same
+    let found = subst (λ (f : List ℕ). AreAlike mid states (labels_behind (tag_set c.loop-i.ss tags (slice_index f c.in_ok-c.c))) (labels_behind (get_or c.loop-i.ss c.index-tags-i.result []))) same
     (c.in_ok-c.ensures.yes (subst (λ (f : List ℕ). c.in_ok-c.c < length f) (sym same) less)) in
     sets_alike_back old mid ss c.loop-i.ss states (slice_index tags (slice_index firsts c.in_ok-c.c)) (slice_index tags i) grown c.loop-i.invariant.sets
     c.requires.twice.states_are (c.requires.known (slice_index firsts c.in_ok-c.c) 0 at) (c.requires.known i 0 lt) (c.requires.places (slice_index firsts c.in_ok-c.c) 0 at) (c.requires.places i 0 lt)
-    (subst (λ (z : ℕ). AreAlike mid states (behind (tag_set c.loop-i.ss tags (slice_index firsts c.in_ok-c.c))) (behind (get_or c.loop-i.ss z []))) is found) in
+    (subst (λ (z : ℕ). AreAlike mid states (labels_behind (tag_set c.loop-i.ss tags (slice_index firsts c.in_ok-c.c))) (labels_behind (get_or c.loop-i.ss z []))) is found) in
     let none : c.in_ok-c.c ≡ length firsts → (b : ℕ) → b < c.in_ok-c.c → AreTagsAlike old states ss tags (slice_index firsts b) i → ⊥ =
     λ all b less alike.
     let at = within b (omega (arith, less, le)) in
     let there = sets_alike_on old mid ss c.loop-i.ss states (slice_index tags (slice_index firsts b)) (slice_index tags i) grown c.loop-i.invariant.sets
     c.requires.twice.states_are (c.requires.known (slice_index firsts b) 0 at) (c.requires.known i 0 lt) (c.requires.places (slice_index firsts b) 0 at) (c.requires.places i 0 lt) alike in
     c.in_ok-c.ensures.none (all ∙ ap length (sym same)) b less
-    (subst (λ (f : List ℕ). AreAlike mid states (behind (tag_set c.loop-i.ss tags (slice_index f b))) (behind (get_or c.loop-i.ss c.index-tags-i.result []))) (sym same)
-    (subst (λ (z : ℕ). AreAlike mid states (behind (tag_set c.loop-i.ss tags (slice_index firsts b))) (behind (get_or c.loop-i.ss z []))) (sym is) there)) in
+    (subst (λ (f : List ℕ). AreAlike mid states (labels_behind (tag_set c.loop-i.ss tags (slice_index f b))) (labels_behind (get_or c.loop-i.ss c.index-tags-i.result []))) (sym same)
+    (subst (λ (z : ℕ). AreAlike mid states (labels_behind (tag_set c.loop-i.ss tags (slice_index firsts b))) (labels_behind (get_or c.loop-i.ss z []))) (sym is) there)) in
     let next : suc i ≡ i + 1 = omega arith in
     let more = classes_more old states ss tags i c.loop-i.all.numbers firsts c.add.new.all.numbers c.add.new.all.firsts c.in_ok-c.c c.loop-i.invariant.classes c.loop-i.invariant.firsts
     (omega (arith, le)) yes none c.in_ok-add.ensures.numbers c.in_ok-add.ensures.firsts in
     let more_firsts = firsts_more old states ss tags i c.loop-i.all.numbers firsts c.add.new.all.numbers c.add.new.all.firsts c.in_ok-c.c c.loop-i.invariant.classes c.loop-i.invariant.firsts
     (omega (arith, le)) yes none c.in_ok-add.ensures.numbers c.in_ok-add.ensures.firsts in
-    let does : DoesTogether mid states (behind (get_or c.loop-i.ss (slice_index tags i) [])) c.in_ok-d.d =
-    subst (λ (z : ℕ). DoesTogether mid states (behind (get_or c.loop-i.ss z [])) c.in_ok-d.d) is c.in_ok-d.ensures.does in
+    let does : DoesTogether mid states (labels_behind (get_or c.loop-i.ss (slice_index tags i) [])) c.in_ok-d.d =
+    subst (λ (z : ℕ). DoesTogether mid states (labels_behind (get_or c.loop-i.ss z [])) c.in_ok-d.d) is c.in_ok-d.ensures.does in
     record {
       grows = grows_on _ _ _ grown c.class_by.ensures.grows;
       sets = sets_on _ _ _ c.loop-i.invariant.sets c.class_by.ensures.sets;

@@ -3,7 +3,7 @@ use Rattle.nk_store.specs.Held.{Grows}
 use Rattle.nk_determ.specs.Sets.{SetsGrow}
 use Rattle.nk_merge.specs.Alike.{AreTagsAlike}
 use Rattle.nk_merge.specs.Classes.{AreClasses, AreFirsts}
-use Rattle.nk_merge.specs.Seen.{AreSeen}
+use Rattle.nk_merge.specs.Seen.{AreSeenDiagrams}
 use Rattle.nk_merge.specs.Twice.{IsTwice}
 use Rattle.nk_merge.proofs.classes.classes_of.Given as goal
 
@@ -16,5 +16,5 @@ invariant-loop-i l = record {
   classes : AreClasses (AreTagsAlike l.fn.st l.states l.fn.ss l.tags) l.i l.all.numbers;
   firsts : AreFirsts l.all.numbers l.all.firsts;
   few : length l.all.firsts ≤ l.i;
-  seen : AreSeen l.st l.states l.ss l.tags l.all.firsts l.seen.entries;
+  seen : AreSeenDiagrams l.st l.states l.ss l.tags l.all.firsts l.seen.entries;
 }

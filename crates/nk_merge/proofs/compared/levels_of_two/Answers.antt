@@ -1,7 +1,7 @@
 use Rattle.std.proofs.Common.{◌∙◌, [], get_or, refl}
 use Rattle.nk_store.proofs.Stores.{grows_on}
 use Rattle.nk_reach.proofs.Growing.{sets_same}
-use Rattle.nk_merge.specs.Alike.{behind}
+use Rattle.nk_merge.specs.Alike.{labels_behind}
 use Rattle.nk_merge.proofs.Growing.{twice_on, twice_with}
 use Rattle.nk_merge.proofs.Levelling.{rows_stand, both_have_places, two_levels}
 use Rattle.nk_merge.proofs.compared.levels_of_two.Goals as goal
@@ -29,7 +29,7 @@ returns-clause-twice c =
 
 pub returns-clause-ok : goal.returns-clause-ok
 returns-clause-ok c =
-    two_levels c.every_packet.new.st c.levels.new.st c.levels.new.ss c.args.states.now (behind (get_or c.args.ss.now c.args.s [])) (behind (get_or c.args.ss.now c.args.t []))
+    two_levels c.every_packet.new.st c.levels.new.st c.levels.new.ss c.args.states.now (labels_behind (get_or c.args.ss.now c.args.s [])) (labels_behind (get_or c.args.ss.now c.args.t []))
     c.args.twice.now (record { rows = c.args.twice.now.rows; goal = c.levels.new.g }) c.as_slice.result.now c.in_ok-set.set c.in_ok-from.from c.in_ok-lv.lv.levels c.in_ok-lv.lv.broken
     c.levels.ensures.grows c.laws.ensures.tidy c.laws-2.ensures.tidy
     (twice_on c.args.st.now c.every_packet.new.st c.args.states.now c.args.twice.now c.every_packet.ensures.grows c.requires.twice)

@@ -4,7 +4,7 @@ use Rattle.std.specs.List.{list_any}
 use Rattle.std.proofs.lemmas.Grind.{common_steps}
 use Rattle.nk_topo.specs.Topology.{has_double}
 use Rattle.nk_declare.specs.declared.fault.DeclareFault.TheVariants as fault
-use Rattle.nk_declare.specs.Declarations.{IsFirst, port_fault}
+use Rattle.nk_declare.specs.Declarations.{IsFirstFault, port_fault}
 use Rattle.nk_declare.proofs.Checks.{is_first, not_wrong, once_more, one_refused, refused_with, seen_more, stands_before}
 use Rattle.nk_declare.proofs.check.Ports.add.Goals as goal
 
@@ -16,7 +16,7 @@ returns-in_err-refuse_if-clause-fault c =
     ap (λ l. port_fault l p) (sym c.self.view_is)
     ∙ one_refused c.self.inside.numbers.items p (not c.in_ok-new.new) c.in_ok-number.ensures.fault before
     ∙ c.in_err-refuse_if.ensures in
-    refused_with c.from_residual-in_err-refuse_if.result c.in_err-refuse_if.field-0.0 _ (λ d. IsFirst d (port_fault c.args.self.now p)) c.from_residual-in_err-refuse_if.ensures.1 (is_first c.in_err-refuse_if.field-0.0 _ first)
+    refused_with c.from_residual-in_err-refuse_if.result c.in_err-refuse_if.field-0.0 _ (λ d. IsFirstFault d (port_fault c.args.self.now p)) c.from_residual-in_err-refuse_if.ensures.1 (is_first c.in_err-refuse_if.field-0.0 _ first)
 
 pub invariant_of-self-2 : goal.invariant_of-self-2
 invariant_of-self-2 c =
