@@ -6,13 +6,18 @@ use Rattle.nk_lex.specs.declared.word.Word.{Word}
 use Rattle.nk_lex.specs.declared.word.Number.{Number}
 use Rattle.nk_grammar.specs.declared.place.QuadNext.{QuadNext}
 use Rattle.nk_grammar.specs.declared.place.QuadNext.TheVariants as next
+use Rattle.nk_grammar.specs.declared.decl.PolicyWord.{PolicyWord}
+use Rattle.nk_grammar.specs.declared.decl.LinkWord.{LinkWord}
+use Rattle.nk_grammar.specs.declared.decl.LinkWord.TheVariants as links
+use Rattle.nk_grammar.specs.declared.decl.Naming.{Naming}
+use Rattle.nk_grammar.specs.declared.decl.Naming.TheVariants as naming
 use Rattle.nk_grammar.specs.declared.decl.GrammarError.{GrammarError}
 use Rattle.nk_grammar.specs.declared.decl.GrammarError.TheVariants as error
-use Rattle.nk_grammar.specs.Terminal.{Terminal, name, number, tilde, opening, closing, plus_sign, semicolon, star_sign, equal, becomes, colon, fat_arrow, id_word, drop_word, dup_word, in_word, dots, outside, field_word, tag_word, switch_word, ports_word, link_word, let_word, arrow, comma, certificate_word, row_word, start_word, no_terminal, is_equal, is_colon_terminal}
+use Rattle.nk_grammar.specs.Terminal.{Terminal, name, number, tilde, opening, closing, plus_sign, semicolon, star_sign, equal, becomes, colon, fat_arrow, id_word, drop_word, dup_word, in_word, dots, outside, field_word, tag_word, switch_word, ports_word, link_word, let_word, fabric_word, virtual_word, by_word, arrow, comma, certificate_word, row_word, start_word, no_terminal, is_equal, is_colon_terminal}
 use Rattle.nk_grammar.specs.Tree.{Tree}
 use Rattle.nk_grammar.specs.Machine.{State, first_state, step, policy_ended, in_option, number_in, quad_step}
-use Rattle.nk_grammar.specs.File.{Declaration, field, tag, switch, declared_link, definition}
-use Rattle.nk_grammar.specs.FileMachine.{Phase, between, field_read, field_named, tag_read, switch_read, switch_numbered, port_wanted, port_read, link_read, let_read, let_named, in_policy, Reading, reading, name_in, is_ports, is_comma, by_name, begin_declaration, one_more, link_on, policy_on, next_reading, read_one, text_ended, open_count, judged}
+use Rattle.nk_grammar.specs.File.{Declaration, field, tag, switch, declared_link, virtual_link}
+use Rattle.nk_grammar.specs.FileMachine.{Phase, between, name_wanted, field_named, switch_read, switch_numbered, port_wanted, port_read, link_read, by_wanted, policy_named, in_policy, Reading, reading, name_in, is_ports, is_by, is_comma, by_name, begin_declaration, one_more, defined, named, link_on, policy_on, next_reading, read_one, text_ended, open_count, judged}
 use Rattle.nk_grammar.specs.Certified.{Row, row}
 use Rattle.nk_grammar.specs.CertifiedMachine.{CertifiedPhase, declaring, row_wanted, start_wanted, start_read, number_wanted, numbers_read, in_row, Certifying, certifying, is_certificate, is_start_word, row_in, in_line, certificate_begins, still_declaring, row_on, certify_one}
 use Rattle.nk_grammar.specs.CertifiedProgress.{with_done, done_declarations}
@@ -31,10 +36,10 @@ by_number : (ds : List Declaration) (o : Option Number) (f g : Number → Readin
 by_number ds None f g h = refl
 by_number ds (Some n) f g h = ap (λ r. Some r) (h n)
 
-by_word : (ds : List Declaration) (o : Option Word) (f g : Word → Reading) → ((w : Word) → f w ≡ reading_behind ds (g w))
+by_its_name : (ds : List Declaration) (o : Option Word) (f g : Word → Reading) → ((w : Word) → f w ≡ reading_behind ds (g w))
     → DeclaresBehind ds (by_name o None (λ w. Some (f w))) (by_name o None (λ w. Some (g w)))
-by_word ds None f g h = refl
-by_word ds (Some w) f g h = ap (λ r. Some r) (h w)
+by_its_name ds None f g h = refl
+by_its_name ds (Some w) f g h = ap (λ r. Some r) (h w)
 
 by_test : (ds : List Declaration) (b : Bool) (a a' c c' : Option Reading) → DeclaresBehind ds a a' → DeclaresBehind ds c c'
     → DeclaresBehind ds (if b then a else c) (if b then a' else c')
@@ -52,6 +57,9 @@ begun ds es (outside switch_word) = refl
 begun ds es (outside ports_word) = refl
 begun ds es (outside link_word) = refl
 begun ds es (outside (let_word line)) = refl
+begun ds es (outside (fabric_word line)) = refl
+begun ds es (outside virtual_word) = refl
+begun ds es (outside by_word) = refl
 begun ds es (outside arrow) = refl
 begun ds es (outside comma) = refl
 begun ds es (outside certificate_word) = refl
@@ -81,27 +89,35 @@ begun_more : (ds es : List Declaration) (d : Declaration) (t : Terminal)
     → DeclaresBehind ds (begin_declaration (one_more (ds ++ es) d) t) (begin_declaration (one_more es d) t)
 begun_more ds es d t = ap (λ l. begin_declaration l t) (more ds es d) ∙ begun ds (one_more es d) t
 
-linked : (ds es : List Declaration) (q : QuadNext) → DeclaresBehind ds (link_on (ds ++ es) q) (link_on es q)
-linked ds es next.Refused = refl
-linked ds es (next.Going q) = refl
-linked ds es (next.Full a m b n) = ap (λ l. Some (reading between l)) (more ds es (declared_link a m b n))
+-- a declaration is done
+done_behind : (ds es : List Declaration) (d : Declaration) → reading between (one_more (ds ++ es) d) ≡ reading_behind ds (reading between (one_more es d))
+done_behind ds es d = ap (λ l. reading between l) (more ds es d)
 
-policy : (ds es : List Declaration) (w : Word) (line : ℕ) (o : Option State) (e : Option Tree) (t : Terminal)
-    → DeclaresBehind ds (policy_on w line (ds ++ es) o e t) (policy_on w line es o e t)
-policy ds es w line (Some s) e t = refl
-policy ds es w line None None t = refl
-policy ds es w line None (Some p) t = begun_more ds es (definition w p line) t
+named_behind : (ds es : List Declaration) (k : Naming) (w : Word) → named k w (ds ++ es) ≡ reading_behind ds (named k w es)
+named_behind ds es naming.Field w = refl
+named_behind ds es naming.Tag w = done_behind ds es (tag w)
+named_behind ds es (naming.Policy k line) w = refl
+named_behind ds es (naming.Virtual a m b n) w = done_behind ds es (virtual_link a m b n w)
+
+link_behind : (ds es : List Declaration) (k : LinkWord) (q : QuadNext) → DeclaresBehind ds (link_on k (ds ++ es) q) (link_on k es q)
+link_behind ds es k next.Refused = refl
+link_behind ds es k (next.Going q) = refl
+link_behind ds es links.Link (next.Full a m b n) = ap (λ r. Some r) (done_behind ds es (declared_link a m b n))
+link_behind ds es links.Virtual (next.Full a m b n) = refl
+
+policy : (ds es : List Declaration) (k : PolicyWord) (w : Word) (line : ℕ) (o : Option State) (e : Option Tree) (t : Terminal)
+    → DeclaresBehind ds (policy_on k w line (ds ++ es) o e t) (policy_on k w line es o e t)
+policy ds es k w line (Some s) e t = refl
+policy ds es k w line None None t = refl
+policy ds es k w line None (Some p) t = begun_more ds es (defined k w p line) t
 
 -- one more token
 pub read_behind : (ds es : List Declaration) (p : Phase) (t : Terminal) → DeclaresBehind ds (next_reading p (ds ++ es) t) (next_reading p es t)
 read_behind ds es between t = begun ds es t
-read_behind ds es field_read t = by_word ds (name_in t) (λ w. reading (field_named w) (ds ++ es)) (λ w. reading (field_named w) es) (λ w. refl)
+read_behind ds es (name_wanted k) t = by_its_name ds (name_in t) (λ w. named k w (ds ++ es)) (λ w. named k w es) (named_behind ds es k)
 read_behind ds es (field_named w) t =
     by_number ds (number_in t) (λ n. reading between (one_more (ds ++ es) (field w n))) (λ n. reading between (one_more es (field w n)))
-    (λ n. ap (λ l. reading between l) (more ds es (field w n)))
-read_behind ds es tag_read t =
-    by_word ds (name_in t) (λ w. reading between (one_more (ds ++ es) (tag w))) (λ w. reading between (one_more es (tag w)))
-    (λ w. ap (λ l. reading between l) (more ds es (tag w)))
+    (λ n. done_behind ds es (field w n))
 read_behind ds es switch_read t = by_number ds (number_in t) (λ n. reading (switch_numbered n) (ds ++ es)) (λ n. reading (switch_numbered n) es) (λ n. refl)
 read_behind ds es (switch_numbered n) t =
     by_test ds (is_ports t) (Some (reading (port_wanted n []) (ds ++ es))) (Some (reading (port_wanted n []) es)) None None refl refl
@@ -110,31 +126,31 @@ read_behind ds es (port_wanted n ps) t =
 read_behind ds es (port_read n ps) t =
     by_test ds (is_comma t) (Some (reading (port_wanted n ps) (ds ++ es))) (Some (reading (port_wanted n ps) es))
     (begin_declaration (one_more (ds ++ es) (switch n ps)) t) (begin_declaration (one_more es (switch n ps)) t) refl (begun_more ds es (switch n ps) t)
-read_behind ds es (link_read q) t = linked ds es (quad_step false q t)
-read_behind ds es (let_read line) t = by_word ds (name_in t) (λ w. reading (let_named w line) (ds ++ es)) (λ w. reading (let_named w line) es) (λ w. refl)
-read_behind ds es (let_named w line) t =
-    by_test ds (is_equal t) (Some (reading (in_policy w line first_state) (ds ++ es))) (Some (reading (in_policy w line first_state) es)) None None refl refl
-read_behind ds es (in_policy w line s) t = policy ds es w line (step s t) (policy_ended s) t
+read_behind ds es (link_read k q) t = link_behind ds es k (quad_step false q t)
+read_behind ds es (by_wanted a m b n) t =
+    by_test ds (is_by t) (Some (reading (name_wanted (naming.Virtual a m b n)) (ds ++ es))) (Some (reading (name_wanted (naming.Virtual a m b n)) es)) None None refl refl
+read_behind ds es (policy_named k w line) t =
+    by_test ds (is_equal t) (Some (reading (in_policy k w line first_state) (ds ++ es))) (Some (reading (in_policy k w line first_state) es)) None None refl refl
+read_behind ds es (in_policy k w line s) t = policy ds es k w line (step s t) (policy_ended s) t
 
 -- the end
 pub ended_behind : (ds es : List Declaration) (p : Phase) → text_ended p (ds ++ es) ≡ option_map (λ l. ds ++ l) (text_ended p es)
 ended_behind ds es between = refl
-ended_behind ds es field_read = refl
+ended_behind ds es (name_wanted k) = refl
 ended_behind ds es (field_named w) = refl
-ended_behind ds es tag_read = refl
 ended_behind ds es switch_read = refl
 ended_behind ds es (switch_numbered n) = refl
 ended_behind ds es (port_wanted n ps) = refl
 ended_behind ds es (port_read n ps) = ap (λ l. Some l) (more ds es (switch n ps))
-ended_behind ds es (link_read q) = refl
-ended_behind ds es (let_read line) = refl
-ended_behind ds es (let_named w line) = refl
-ended_behind ds es (in_policy w line s) = by_end (policy_ended s)
+ended_behind ds es (link_read k q) = refl
+ended_behind ds es (by_wanted a m b n) = refl
+ended_behind ds es (policy_named k w line) = refl
+ended_behind ds es (in_policy k w line s) = by_end (policy_ended s)
   where
-    by_end : (o : Option Tree) → option_map (λ p. one_more (ds ++ es) (definition w p line)) o
-        ≡ option_map (λ l. ds ++ l) (option_map (λ p. one_more es (definition w p line)) o)
+    by_end : (o : Option Tree) → option_map (λ p. one_more (ds ++ es) (defined k w p line)) o
+        ≡ option_map (λ l. ds ++ l) (option_map (λ p. one_more es (defined k w p line)) o)
     by_end None = refl
-    by_end (Some p) = ap (λ l. Some l) (more ds es (definition w p line))
+    by_end (Some p) = ap (λ l. Some l) (more ds es (defined k w p line))
 
 -- a token is judged alike
 pub judged_behind : (ds : List Declaration) (at : ℕ) (p p' : Phase) (es : List Declaration) (t : Terminal)

@@ -9,7 +9,7 @@ use Rattle.nk_lex.specs.declared.word.Number.{Number}
 use Rattle.nk_lex.specs.Faults.{and_then}
 use Rattle.nk_grammar.specs.declared.decl.GrammarError.{GrammarError}
 use Rattle.nk_grammar.specs.declared.decl.GrammarError.TheVariants as error
-use Rattle.nk_grammar.specs.Terminal.{Terminal, name, number, tilde, opening, closing, plus_sign, semicolon, star_sign, equal, becomes, colon, fat_arrow, id_word, drop_word, dup_word, in_word, dots, outside, field_word, tag_word, switch_word, ports_word, link_word, let_word, arrow, comma, certificate_word, row_word, start_word, no_terminal, is_colon_terminal, terminal_of}
+use Rattle.nk_grammar.specs.Terminal.{Terminal, name, number, tilde, opening, closing, plus_sign, semicolon, star_sign, equal, becomes, colon, fat_arrow, id_word, drop_word, dup_word, in_word, dots, outside, field_word, tag_word, switch_word, ports_word, link_word, let_word, fabric_word, virtual_word, by_word, arrow, comma, certificate_word, row_word, start_word, no_terminal, is_colon_terminal, terminal_of}
 use Rattle.nk_grammar.specs.Tree.{Tree}
 use Rattle.nk_grammar.specs.Machine.{State, first_state, in_option, number_in, with_number, step, policy_ended}
 use Rattle.nk_grammar.specs.File.{Declaration}
@@ -238,6 +238,9 @@ module _ (lines places : ℕ) where
   row_in_moves (outside ports_word) = refl
   row_in_moves (outside link_word) = refl
   row_in_moves (outside (let_word l)) = refl
+  row_in_moves (outside (fabric_word l)) = refl
+  row_in_moves (outside virtual_word) = refl
+  row_in_moves (outside by_word) = refl
   row_in_moves (outside arrow) = refl
   row_in_moves (outside comma) = refl
   row_in_moves (outside certificate_word) = refl
@@ -269,6 +272,9 @@ module _ (lines places : ℕ) where
   start_moves (outside ports_word) = refl
   start_moves (outside link_word) = refl
   start_moves (outside (let_word l)) = refl
+  start_moves (outside (fabric_word l)) = refl
+  start_moves (outside virtual_word) = refl
+  start_moves (outside by_word) = refl
   start_moves (outside arrow) = refl
   start_moves (outside comma) = refl
   start_moves (outside certificate_word) = refl

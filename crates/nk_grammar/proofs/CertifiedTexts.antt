@@ -4,47 +4,47 @@ use Rattle.std.specs.Prelude.{Some, None, option_and_then, if◌then◌else◌, 
 use Rattle.nk_lex.specs.declared.word.Word.{Word}
 use Rattle.nk_lex.specs.declared.word.Number.{Number}
 use Rattle.nk_grammar.specs.declared.place.Quad.TheVariants as quad
-use Rattle.nk_grammar.specs.Terminal.{Terminal, name, number, tilde, opening, closing, plus_sign, semicolon, star_sign, equal, becomes, colon, fat_arrow, id_word, drop_word, dup_word, in_word, dots, outside, is_colon_terminal, field_word, tag_word, switch_word, ports_word, link_word, let_word, arrow, comma, certificate_word, row_word, start_word, no_terminal}
+use Rattle.nk_grammar.specs.declared.decl.PolicyWord.{PolicyWord}
+use Rattle.nk_grammar.specs.Terminal.{Terminal, name, number, tilde, opening, closing, plus_sign, semicolon, star_sign, equal, becomes, colon, fat_arrow, id_word, drop_word, dup_word, in_word, dots, outside, is_colon_terminal, field_word, tag_word, switch_word, ports_word, link_word, let_word, fabric_word, virtual_word, by_word, arrow, comma, certificate_word, row_word, start_word, no_terminal}
 use Rattle.nk_grammar.specs.Tree.{Tree}
-use Rattle.nk_grammar.specs.Grammar.{Pol, spell_pol, pol_tree, HasTree, one_term, one_factor, plain, written_id}
+use Rattle.nk_grammar.specs.Grammar.{Pol, spell_pol, pol_tree, HasTree}
 use Rattle.nk_grammar.specs.Machine.{State, first_state, with_number, step, run, policy_ended}
 use Rattle.nk_grammar.specs.File.{Declaration, declared, spell_file, HasDeclarations}
-use Rattle.nk_grammar.specs.FileMachine.{Phase, between, field_read, field_named, tag_read, switch_read, switch_numbered, port_wanted, port_read, link_read, let_read, let_named, in_policy, Reading, policy_on, policy_done, next_reading, read_one, read_all, first_reading, declarations_at_end}
+use Rattle.nk_grammar.specs.FileMachine.{Phase, between, name_wanted, field_named, switch_read, switch_numbered, port_wanted, port_read, link_read, by_wanted, policy_named, in_policy, Reading, policy_on, policy_done, next_reading, read_one, read_all, first_reading, declarations_at_end}
 use Rattle.nk_grammar.specs.Certified.{Row, row, WrittenRow, written_row, spell_numbers, spell_row, spell_rows, number_value, row_of, spell_certificate, rows_said, Certified, certified, HasCertificate, CertifiedGoesOn}
 use Rattle.nk_grammar.specs.CertifiedMachine.{CertifiedPhase, declaring, row_wanted, start_wanted, start_read, number_wanted, numbers_read, in_row, Certifying, certifying, is_certificate, is_start_word, with_row, certificate_begins, still_declaring, row_done, row_on, next_certifying, certify_one, certify_all, first_certifying, certificate_ends, certified_ended, certified_at_end}
 use Rattle.nk_grammar.proofs.Fronts.{reads_only, goes_on, run_append, none_some}
-use Rattle.nk_grammar.proofs.Texts.{outside_refused, left_by, reads_file, ends_file, file_goes_on, read_append, a_number}
+use Rattle.nk_grammar.proofs.Texts.{outside_refused, left_by, reads_file, ends_file, file_goes_on, read_append, a_number, id_pol}
 
 -- what the tokens come to at their end
 abbrev finish : Option Certifying → Option Certified
 finish o = option_and_then certified_at_end o
 
 -- no declaration begins with the word `certificate`
-policy_certificate : (w : Word) (line : ℕ) (ds : List Declaration) (o : Option Tree) → policy_done w line ds o (outside certificate_word) ≡ None
-policy_certificate w line ds None = refl
-policy_certificate w line ds (Some p) = refl
+policy_certificate : (k : PolicyWord) (w : Word) (line : ℕ) (ds : List Declaration) (o : Option Tree) → policy_done k w line ds o (outside certificate_word) ≡ None
+policy_certificate k w line ds None = refl
+policy_certificate k w line ds (Some p) = refl
 
 -- no declaration takes the word `certificate`
 certificate_refused : (p : Phase) (ds : List Declaration) → next_reading p ds (outside certificate_word) ≡ None
 certificate_refused between ds = refl
-certificate_refused field_read ds = refl
+certificate_refused (name_wanted k) ds = refl
 certificate_refused (field_named w) ds = refl
-certificate_refused tag_read ds = refl
 certificate_refused switch_read ds = refl
 certificate_refused (switch_numbered n) ds = refl
 certificate_refused (port_wanted n ps) ds = refl
 certificate_refused (port_read n ps) ds = refl
-certificate_refused (link_read quad.Start) ds = refl
-certificate_refused (link_read (quad.Switch a)) ds = refl
-certificate_refused (link_read (quad.SwitchColon a)) ds = refl
-certificate_refused (link_read (quad.Port a m)) ds = refl
-certificate_refused (link_read (quad.Arrow a m)) ds = refl
-certificate_refused (link_read (quad.ToSwitch a m b)) ds = refl
-certificate_refused (link_read (quad.ToColon a m b)) ds = refl
-certificate_refused (let_read line) ds = refl
-certificate_refused (let_named w line) ds = refl
-certificate_refused (in_policy w line s) ds =
-    ap (λ o. policy_on w line ds o (policy_ended s) (outside certificate_word)) (outside_refused s.place s.frames s.terms s.factors certificate_word) ∙ policy_certificate w line ds (policy_ended s)
+certificate_refused (link_read k quad.Start) ds = refl
+certificate_refused (link_read k (quad.Switch a)) ds = refl
+certificate_refused (link_read k (quad.SwitchColon a)) ds = refl
+certificate_refused (link_read k (quad.Port a m)) ds = refl
+certificate_refused (link_read k (quad.Arrow a m)) ds = refl
+certificate_refused (link_read k (quad.ToSwitch a m b)) ds = refl
+certificate_refused (link_read k (quad.ToColon a m b)) ds = refl
+certificate_refused (by_wanted a m b n) ds = refl
+certificate_refused (policy_named k w line) ds = refl
+certificate_refused (in_policy k w line s) ds =
+    ap (λ o. policy_on k w line ds o (policy_ended s) (outside certificate_word)) (outside_refused s.place s.frames s.terms s.factors certificate_word) ∙ policy_certificate k w line ds (policy_ended s)
 
 -- a token that declarations take is not that word
 pub not_certificate : (r s : Reading) (t : Terminal) → read_one r t ≡ Some s → is_certificate t ≡ false
@@ -71,6 +71,9 @@ not_certificate r s (outside switch_word) e = refl
 not_certificate r s (outside ports_word) e = refl
 not_certificate r s (outside link_word) e = refl
 not_certificate r s (outside (let_word l)) e = refl
+not_certificate r s (outside (fabric_word l)) e = refl
+not_certificate r s (outside virtual_word) e = refl
+not_certificate r s (outside by_word) e = refl
 not_certificate r s (outside arrow) e = refl
 not_certificate r s (outside comma) e = refl
 not_certificate r s (outside certificate_word) e = absurd (none_some s (sym (certificate_refused r.phase r.declarations) ∙ e))
@@ -263,6 +266,9 @@ number_leads (outside switch_word) ts f e = tt
 number_leads (outside ports_word) ts f e = tt
 number_leads (outside link_word) ts f e = tt
 number_leads (outside (let_word l)) ts f e = tt
+number_leads (outside (fabric_word l)) ts f e = tt
+number_leads (outside virtual_word) ts f e = tt
+number_leads (outside by_word) ts f e = tt
 number_leads (outside arrow) ts f e = tt
 number_leads (outside comma) ts f e = tt
 number_leads (outside certificate_word) ts f e = tt
@@ -295,6 +301,9 @@ row_leads (outside switch_word) ts f e = tt
 row_leads (outside ports_word) ts f e = tt
 row_leads (outside link_word) ts f e = tt
 row_leads (outside (let_word l)) ts f e = tt
+row_leads (outside (fabric_word l)) ts f e = tt
+row_leads (outside virtual_word) ts f e = tt
+row_leads (outside by_word) ts f e = tt
 row_leads (outside arrow) ts f e = tt
 row_leads (outside comma) ts f e = tt
 row_leads (outside certificate_word) ts f e = tt
@@ -327,6 +336,9 @@ start_leads (outside switch_word) ts c e = tt
 start_leads (outside ports_word) ts c e = tt
 start_leads (outside link_word) ts c e = tt
 start_leads (outside (let_word l)) ts c e = tt
+start_leads (outside (fabric_word l)) ts c e = tt
+start_leads (outside virtual_word) ts c e = tt
+start_leads (outside by_word) ts c e = tt
 start_leads (outside arrow) ts c e = tt
 start_leads (outside comma) ts c e = tt
 start_leads (outside certificate_word) ts c e = tt
@@ -359,6 +371,9 @@ colon_leads (outside switch_word) ts c o e f = f
 colon_leads (outside ports_word) ts c o e f = f
 colon_leads (outside link_word) ts c o e f = f
 colon_leads (outside (let_word l)) ts c o e f = f
+colon_leads (outside (fabric_word l)) ts c o e f = f
+colon_leads (outside virtual_word) ts c o e f = f
+colon_leads (outside by_word) ts c o e f = f
 colon_leads (outside arrow) ts c o e f = f
 colon_leads (outside comma) ts c o e f = f
 colon_leads (outside certificate_word) ts c o e f = f
@@ -391,6 +406,9 @@ certificate_leads (outside switch_word) ts o o' e f = f
 certificate_leads (outside ports_word) ts o o' e f = f
 certificate_leads (outside link_word) ts o o' e f = f
 certificate_leads (outside (let_word l)) ts o o' e f = f
+certificate_leads (outside (fabric_word l)) ts o o' e f = f
+certificate_leads (outside virtual_word) ts o o' e f = f
+certificate_leads (outside by_word) ts o o' e f = f
 certificate_leads (outside arrow) ts o o' e f = f
 certificate_leads (outside comma) ts o o' e f = f
 certificate_leads (outside certificate_word) ts o o' e f = e refl
@@ -558,10 +576,6 @@ all_of xs ts us ds rows d e r = record {
 completed : (xs ts us more : List Terminal) (ds : List Declaration) (rows : List Row) → HasDeclarations xs ds → ts ≡ xs ++ outside certificate_word ∷ us → AreRows (us ++ more) rows → CertifiedGoesOn ts
 completed xs ts us more ds rows d e r =
     (more, certified ds rows, all_of xs (ts ++ more) (us ++ more) ds rows d (ap (λ x. x ++ more) e ∙ append_assoc xs (outside certificate_word ∷ us) more) r)
-
--- the shortest policy
-abbrev id_pol : Pol
-id_pol = one_term (one_factor (plain written_id))
 
 -- a start row of the shortest policy
 first_row : (line : ℕ) (us more : List Terminal) → us ++ more ≡ spell_certificate line id_pol [] → AreRows (us ++ more) (rows_said line id_pol [])

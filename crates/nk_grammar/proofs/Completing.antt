@@ -10,12 +10,18 @@ use Rattle.nk_grammar.specs.declared.place.QuadNext.{QuadNext}
 use Rattle.nk_grammar.specs.declared.place.QuadNext.TheVariants as next
 use Rattle.nk_grammar.specs.declared.decl.Completed.{Completed}
 use Rattle.nk_grammar.specs.declared.decl.Completed.TheVariants as completed
+use Rattle.nk_grammar.specs.declared.decl.PolicyWord.{PolicyWord}
+use Rattle.nk_grammar.specs.declared.decl.PolicyWord.TheVariants as policies
+use Rattle.nk_grammar.specs.declared.decl.LinkWord.{LinkWord}
+use Rattle.nk_grammar.specs.declared.decl.LinkWord.TheVariants as links
+use Rattle.nk_grammar.specs.declared.decl.Naming.{Naming}
+use Rattle.nk_grammar.specs.declared.decl.Naming.TheVariants as naming
 use Rattle.nk_grammar.specs.declared.decl.GrammarError.TheVariants as error
-use Rattle.nk_grammar.specs.Terminal.{Terminal, name, number, tilde, opening, closing, plus_sign, semicolon, star_sign, equal, becomes, colon, fat_arrow, id_word, drop_word, dup_word, in_word, dots, outside, field_word, tag_word, switch_word, ports_word, link_word, let_word, arrow, comma, certificate_word, row_word, start_word, no_terminal, is_equal, is_colon_terminal, terminal_of}
+use Rattle.nk_grammar.specs.Terminal.{Terminal, name, number, tilde, opening, closing, plus_sign, semicolon, star_sign, equal, becomes, colon, fat_arrow, id_word, drop_word, dup_word, in_word, dots, outside, field_word, tag_word, switch_word, ports_word, link_word, let_word, fabric_word, virtual_word, by_word, arrow, comma, certificate_word, row_word, start_word, no_terminal, is_equal, is_colon_terminal, terminal_of}
 use Rattle.nk_grammar.specs.Tree.{Tree, dup}
 use Rattle.nk_grammar.specs.Machine.{State, first_state, step, policy_ended, in_option, number_in, quad_step}
-use Rattle.nk_grammar.specs.File.{Declaration, IsWritten, declaration_of, field, tag, switch, declared_link, definition}
-use Rattle.nk_grammar.specs.FileMachine.{Phase, between, field_read, field_named, tag_read, switch_read, switch_numbered, port_wanted, port_read, link_read, let_read, let_named, in_policy, Reading, reading, name_in, is_ports, is_comma, by_name, begin_declaration, one_more, link_on, policy_on, next_reading, text_ended}
+use Rattle.nk_grammar.specs.File.{Declaration, IsWritten, declaration_of, field, tag, switch, declared_link, definition, fabric, virtual_link}
+use Rattle.nk_grammar.specs.FileMachine.{Phase, between, name_wanted, field_named, switch_read, switch_numbered, port_wanted, port_read, link_read, by_wanted, policy_named, in_policy, Reading, reading, name_in, is_ports, is_by, is_comma, by_name, begin_declaration, one_more, defined, named, link_on, policy_on, next_reading, text_ended}
 use Rattle.nk_grammar.specs.Answer.{terminals}
 use Rattle.nk_grammar.specs.Certified.{Row, row, row_value, IsWrittenRow}
 use Rattle.nk_grammar.specs.CertifiedMachine.{CertifiedPhase, declaring, row_wanted, start_wanted, start_read, number_wanted, numbers_read, in_row, Certifying, certifying, is_certificate, is_start_word, row_in, in_line, certificate_begins, still_declaring, row_on, certify_one, open_certified, judged_certified}
@@ -89,6 +95,9 @@ a_small_number (outside switch_word) m e h = absurd (none_some m e)
 a_small_number (outside ports_word) m e h = absurd (none_some m e)
 a_small_number (outside link_word) m e h = absurd (none_some m e)
 a_small_number (outside (let_word line)) m e h = absurd (none_some m e)
+a_small_number (outside (fabric_word line)) m e h = absurd (none_some m e)
+a_small_number (outside virtual_word) m e h = absurd (none_some m e)
+a_small_number (outside by_word) m e h = absurd (none_some m e)
 a_small_number (outside arrow) m e h = absurd (none_some m e)
 a_small_number (outside comma) m e h = absurd (none_some m e)
 a_small_number (outside certificate_word) m e h = absurd (none_some m e)
@@ -126,9 +135,9 @@ by_number : (o : Option Number) (f : Number → Reading) → ((n : Number) → o
 by_number None f h = tt
 by_number (Some n) f h = h n refl
 
-by_word : (o : Option Word) (f : Word → Reading) → ((w : Word) → All IsWritten (f w).declarations) → DeclaresWritten (by_name o None (λ w. Some (f w)))
-by_word None f h = tt
-by_word (Some w) f h = h w
+by_its_name : (o : Option Word) (f : Word → Reading) → ((w : Word) → All IsWritten (f w).declarations) → DeclaresWritten (by_name o None (λ w. Some (f w)))
+by_its_name None f h = tt
+by_its_name (Some w) f h = h w
 
 by_test : (b : Bool) (x y : Option Reading) → DeclaresWritten x → DeclaresWritten y → DeclaresWritten (if b then x else y)
 by_test true x y h i = h
@@ -144,6 +153,9 @@ begun ds (outside switch_word) h = h
 begun ds (outside ports_word) h = tt
 begun ds (outside link_word) h = h
 begun ds (outside (let_word line)) h = h
+begun ds (outside (fabric_word line)) h = h
+begun ds (outside virtual_word) h = h
+begun ds (outside by_word) h = tt
 begun ds (outside arrow) h = tt
 begun ds (outside comma) h = tt
 begun ds (outside certificate_word) h = tt
@@ -168,33 +180,44 @@ begun ds dup_word h = tt
 begun ds in_word h = tt
 begun ds dots h = tt
 
-linked : (ds : List Declaration) (q : QuadNext) → All IsWritten ds → DeclaresWritten (link_on ds q)
-linked ds next.Refused h = tt
-linked ds (next.Going q) h = h
-linked ds (next.Full a m b n) h = pushed ds (declared_link a m b n) h tt
+named_written : (ds : List Declaration) (k : Naming) (w : Word) → All IsWritten ds → All IsWritten (named k w ds).declarations
+named_written ds naming.Field w h = h
+named_written ds naming.Tag w h = pushed ds (tag w) h tt
+named_written ds (naming.Policy k line) w h = h
+named_written ds (naming.Virtual a m b n) w h = pushed ds (virtual_link a m b n w) h tt
 
-policy : (ds : List Declaration) (w : Word) (line : ℕ) (o : Option State) (e : Option Tree) (t : Terminal) → All IsWritten ds
-    → DeclaresWritten (policy_on w line ds o e t)
-policy ds w line (Some s) e t h = h
-policy ds w line None None t h = tt
-policy ds w line None (Some p) t h = begun (one_more ds (definition w p line)) t (pushed ds (definition w p line) h tt)
+link_written : (ds : List Declaration) (k : LinkWord) (q : QuadNext) → All IsWritten ds → DeclaresWritten (link_on k ds q)
+link_written ds k next.Refused h = tt
+link_written ds k (next.Going q) h = h
+link_written ds links.Link (next.Full a m b n) h = pushed ds (declared_link a m b n) h tt
+link_written ds links.Virtual (next.Full a m b n) h = h
+
+-- one more policy
+policy_pushed : (ds : List Declaration) (k : PolicyWord) (w : Word) (p : Tree) (line : ℕ) → All IsWritten ds → All IsWritten (one_more ds (defined k w p line))
+policy_pushed ds policies.Let w p line h = pushed ds (definition w p line) h tt
+policy_pushed ds policies.Fabric w p line h = pushed ds (fabric w p line) h tt
+
+policy : (ds : List Declaration) (k : PolicyWord) (w : Word) (line : ℕ) (o : Option State) (e : Option Tree) (t : Terminal) → All IsWritten ds
+    → DeclaresWritten (policy_on k w line ds o e t)
+policy ds k w line (Some s) e t h = h
+policy ds k w line None None t h = tt
+policy ds k w line None (Some p) t h = begun (one_more ds (defined k w p line)) t (policy_pushed ds k w p line h)
 
 declares : (p : Phase) (ds : List Declaration) (t : Terminal) → IsSmall t → All IsWritten ds → DeclaresWritten (next_reading p ds t)
 declares between ds t q h = begun ds t h
-declares field_read ds t q h = by_word (name_in t) (λ w. reading (field_named w) ds) (λ w. h)
+declares (name_wanted k) ds t q h = by_its_name (name_in t) (λ w. named k w ds) (λ w. named_written ds k w h)
 declares (field_named w) ds t q h =
     by_number (number_in t) (λ n. reading between (one_more ds (field w n))) (λ n e. pushed ds (field w n) h (a_small_number t n e q))
-declares tag_read ds t q h = by_word (name_in t) (λ w. reading between (one_more ds (tag w))) (λ w. pushed ds (tag w) h tt)
 declares switch_read ds t q h = by_number (number_in t) (λ n. reading (switch_numbered n) ds) (λ n e. h)
 declares (switch_numbered n) ds t q h = by_test (is_ports t) (Some (reading (port_wanted n []) ds)) None h tt
 declares (port_wanted n ps) ds t q h = by_number (number_in t) (λ p. reading (port_read n (ps ++ p ∷ [])) ds) (λ p e. h)
 declares (port_read n ps) ds t q h =
     by_test (is_comma t) (Some (reading (port_wanted n ps) ds)) (begin_declaration (one_more ds (switch n ps)) t) h
     (begun (one_more ds (switch n ps)) t (pushed ds (switch n ps) h tt))
-declares (link_read x) ds t q h = linked ds (quad_step false x t) h
-declares (let_read line) ds t q h = by_word (name_in t) (λ w. reading (let_named w line) ds) (λ w. h)
-declares (let_named w line) ds t q h = by_test (is_equal t) (Some (reading (in_policy w line first_state) ds)) None h tt
-declares (in_policy w line s) ds t q h = policy ds w line (step s t) (policy_ended s) t h
+declares (link_read k x) ds t q h = link_written ds k (quad_step false x t) h
+declares (by_wanted a m b n) ds t q h = by_test (is_by t) (Some (reading (name_wanted (naming.Virtual a m b n)) ds)) None h tt
+declares (policy_named k w line) ds t q h = by_test (is_equal t) (Some (reading (in_policy k w line first_state) ds)) None h tt
+declares (in_policy k w line s) ds t q h = policy ds k w line (step s t) (policy_ended s) t h
 
 -- the positions that are read are numbers of a text
 abbrev HasSmallPositions : CertifiedPhase → Type 0
@@ -208,21 +231,20 @@ IsWrittenSoFar p ds rs = All IsWritten ds × All IsWrittenRow rs × HasSmallPosi
 certificate_written : (rs : List Row) (ds : List Declaration) (p : Phase) → All IsWritten ds → All IsWrittenRow rs
     → OfState IsWrittenSoFar (certificate_begins rs (text_ended p ds))
 certificate_written rs ds between h i = (h, i, tt)
-certificate_written rs ds field_read h i = tt
+certificate_written rs ds (name_wanted k) h i = tt
 certificate_written rs ds (field_named w) h i = tt
-certificate_written rs ds tag_read h i = tt
 certificate_written rs ds switch_read h i = tt
 certificate_written rs ds (switch_numbered n) h i = tt
 certificate_written rs ds (port_wanted n ps) h i = tt
 certificate_written rs ds (port_read n ps) h i = (pushed ds (switch n ps) h tt, i, tt)
-certificate_written rs ds (link_read q) h i = tt
-certificate_written rs ds (let_read line) h i = tt
-certificate_written rs ds (let_named w line) h i = tt
-certificate_written rs ds (in_policy w line s) h i = by_end (policy_ended s)
+certificate_written rs ds (link_read k q) h i = tt
+certificate_written rs ds (by_wanted a m b n) h i = tt
+certificate_written rs ds (policy_named k w line) h i = tt
+certificate_written rs ds (in_policy k w line s) h i = by_end (policy_ended s)
   where
-    by_end : (o : Option Tree) → OfState IsWrittenSoFar (certificate_begins rs (option_map (λ p. one_more ds (definition w p line)) o))
+    by_end : (o : Option Tree) → OfState IsWrittenSoFar (certificate_begins rs (option_map (λ p. one_more ds (defined k w p line)) o))
     by_end None = tt
-    by_end (Some p) = (pushed ds (definition w p line) h tt, i, tt)
+    by_end (Some p) = (policy_pushed ds k w p line h, i, tt)
 
 still_written : (rs : List Row) (o : Option Reading) → DeclaresWritten o → All IsWrittenRow rs → OfState IsWrittenSoFar (still_declaring rs o)
 still_written rs None h i = tt

@@ -12,7 +12,7 @@ use Rattle.nk_lex.specs.Lex.{answer_with, largest, scan, tokens_of}
 use Rattle.nk_lex.specs.Spans.{ValuesAreSmall}
 use Rattle.nk_lex.specs.Spelling.{IsName, NamesAreNames}
 use Rattle.nk_grammar.specs.Terminal.{Terminal, name, number, terminal_from}
-use Rattle.nk_grammar.specs.File.{Declaration, Written, written_field, written_tag, written_switch, written_declared_link, written_let, spell_declaration, spell_file, declared}
+use Rattle.nk_grammar.specs.File.{Declaration, Written, written_field, written_tag, written_switch, written_declared_link, written_let, written_fabric, written_virtual, spell_declaration, spell_file, declared}
 use Rattle.nk_grammar.specs.FileMachine.{file_of}
 use Rattle.nk_grammar.specs.Answer.{terminals, IsAnswer}
 use Rattle.nk_grammar.specs.Fields.{IsFieldOfText}
@@ -50,6 +50,8 @@ fields_fit (written_tag w ∷ ws) h = (tt, fields_fit ws (behind IsTerminalOfTex
 fields_fit (written_switch n p ps ∷ ws) h = (tt, fields_fit ws (behind IsTerminalOfText (spell_declaration (written_switch n p ps)) (spell_file ws) h))
 fields_fit (written_declared_link a m b n ∷ ws) h = (tt, fields_fit ws (behind IsTerminalOfText (spell_declaration (written_declared_link a m b n)) (spell_file ws) h))
 fields_fit (written_let line w p ∷ ws) h = (tt, fields_fit ws (behind IsTerminalOfText (spell_declaration (written_let line w p)) (spell_file ws) h))
+fields_fit (written_fabric line w p ∷ ws) h = (tt, fields_fit ws (behind IsTerminalOfText (spell_declaration (written_fabric line w p)) (spell_file ws) h))
+fields_fit (written_virtual a m b n w ∷ ws) h = (tt, fields_fit ws (behind IsTerminalOfText (spell_declaration (written_virtual a m b n w)) (spell_file ws) h))
 
 -- the tokens of a text without fault are those before its fault
 all_tokens : (ts us : List Token) (o : Option LexError) → answer_with us o ≡ Ok ts → us ≡ ts

@@ -6,7 +6,7 @@ use Rattle.nk_grammar.specs.declared.place.Quad.{Quad}
 use Rattle.nk_grammar.specs.declared.place.Quad.TheVariants as quad
 use Rattle.nk_grammar.specs.declared.place.QuadNext.{QuadNext}
 use Rattle.nk_grammar.specs.declared.place.QuadNext.TheVariants as next
-use Rattle.nk_grammar.specs.Terminal.{Terminal, name, number, tilde, opening, closing, plus_sign, semicolon, star_sign, equal, becomes, colon, fat_arrow, id_word, drop_word, dup_word, in_word, dots, outside, is_colon_terminal, is_link_sign, field_word, tag_word, switch_word, ports_word, link_word, let_word, arrow, comma, certificate_word, row_word, start_word, no_terminal}
+use Rattle.nk_grammar.specs.Terminal.{Terminal, name, number, tilde, opening, closing, plus_sign, semicolon, star_sign, equal, becomes, colon, fat_arrow, id_word, drop_word, dup_word, in_word, dots, outside, is_colon_terminal, is_link_sign, field_word, tag_word, switch_word, ports_word, link_word, let_word, fabric_word, virtual_word, by_word, arrow, comma, certificate_word, row_word, start_word, no_terminal}
 use Rattle.nk_grammar.specs.Machine.{with_number, quad_step}
 
 -- the sign between the two ends of a link
@@ -125,6 +125,9 @@ between_quad false (outside switch_word) ts q e = tt
 between_quad false (outside ports_word) ts q e = tt
 between_quad false (outside link_word) ts q e = tt
 between_quad false (outside (let_word l)) ts q e = tt
+between_quad false (outside (fabric_word l)) ts q e = tt
+between_quad false (outside virtual_word) ts q e = tt
+between_quad false (outside by_word) ts q e = tt
 between_quad false (outside arrow) ts q e = e
 between_quad false (outside comma) ts q e = tt
 between_quad false (outside certificate_word) ts q e = tt

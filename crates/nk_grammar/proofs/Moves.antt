@@ -13,7 +13,7 @@ use Rattle.nk_grammar.specs.declared.place.Quad.{Quad}
 use Rattle.nk_grammar.specs.declared.place.Quad.TheVariants as quad
 use Rattle.nk_grammar.specs.declared.place.QuadNext.{QuadNext}
 use Rattle.nk_grammar.specs.declared.place.QuadNext.TheVariants as next
-use Rattle.nk_grammar.specs.Terminal.{Terminal, Outside, name, number, tilde, opening, closing, plus_sign, semicolon, star_sign, equal, becomes, colon, fat_arrow, id_word, drop_word, dup_word, in_word, dots, outside, let_word, row_word, terminal_from, terminal_of, is_equal, is_in_word, is_dots, is_becomes, is_colon_terminal, is_link_sign}
+use Rattle.nk_grammar.specs.Terminal.{Terminal, Outside, name, number, tilde, opening, closing, plus_sign, semicolon, star_sign, equal, becomes, colon, fat_arrow, id_word, drop_word, dup_word, in_word, dots, outside, let_word, fabric_word, row_word, terminal_from, terminal_of, is_equal, is_in_word, is_dots, is_becomes, is_colon_terminal, is_link_sign}
 use Rattle.nk_grammar.specs.Tree.{Tree, Trees, name_of, test, range, assign, sum_of, seq_of, not_of, dup, link, no_part, part, with_part, with_star, sum_from, seq_from}
 use Rattle.nk_grammar.specs.Machine.{Open, group, negation, State, state, atom_ended, terms_joined, close, number_in, in_option, with_number, quad_step, begin, after_factor, linked, step_done, go_on_from, step_at, step, settled_at, settled, done_at, done, policy_ended}
 use Rattle.nk_grammar.specs.Moved.{word_moved, number_moved, tree_moved, trees_moved}
@@ -23,6 +23,7 @@ module _ (lines : ℕ) where
 
   abbrev outside_moved : Outside → Outside
   outside_moved (let_word l) = let_word (l + lines)
+  outside_moved (fabric_word l) = fabric_word (l + lines)
   outside_moved (row_word l) = row_word (l + lines)
   outside_moved z = z
 

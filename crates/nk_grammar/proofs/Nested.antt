@@ -5,6 +5,8 @@ use Rattle.std.specs.Prelude.{Some, None, Ok, Err, IfSome, option_and_then, opti
 use Rattle.nk_lex.specs.declared.token.Token.{Token}
 use Rattle.nk_lex.specs.declared.word.Word.{Word}
 use Rattle.nk_lex.specs.Faults.{and_then}
+use Rattle.nk_grammar.specs.declared.decl.PolicyWord.TheVariants as policies
+use Rattle.nk_grammar.specs.declared.decl.Naming.TheVariants as naming
 use Rattle.nk_grammar.specs.declared.decl.GrammarError.TheVariants as error
 use Rattle.nk_grammar.specs.declared.place.Place.TheVariants as place
 use Rattle.nk_grammar.specs.Terminal.{Terminal, name, equal, outside, let_word, plus_sign, semicolon, star_sign, closing, terminal_of}
@@ -12,7 +14,7 @@ use Rattle.nk_grammar.specs.Tree.{Tree, Trees, name_of, no_part, with_part, sum_
 use Rattle.nk_grammar.specs.Grammar.{Pol, Term, Factor, Atom, one_term, plus, one_factor, semi, plain, starred, written_not, written_id, written_drop, written_dup, written_name, written_test, written_range, written_set, written_link, paren, spell_pol, spell_term, spell_factor, spell_atom, terms_of, factors_of, factor_tree, atom_tree, pol_tree}
 use Rattle.nk_grammar.specs.Machine.{Open, group, negation, State, state, first_state, atom_ended, run, step, policy_ended, HasNoNegation}
 use Rattle.nk_grammar.specs.File.{definition}
-use Rattle.nk_grammar.specs.FileMachine.{Reading, reading, let_read, let_named, in_policy, judged, policy_on, open_count, read_one, first_reading, one_more, ended_at, rest_of_file, file_of}
+use Rattle.nk_grammar.specs.FileMachine.{Reading, reading, name_wanted, policy_named, in_policy, judged, policy_on, open_count, read_one, first_reading, one_more, ended_at, rest_of_file, file_of}
 use Rattle.nk_grammar.specs.Answer.{terminals}
 use Rattle.nk_grammar.specs.Nesting.{nesting_of_pol, nesting_of_term, nesting_of_factor, nesting_of_atom}
 use Rattle.nk_grammar.proofs.Spelled.{IsFree, has_star, term_has_star, pol_has_star, early, late, early_late, one_star, step_atom, reads_tree}
@@ -106,7 +108,7 @@ no_tree t e = absurd cc
 -- the tokens of a policy that isn't nested too deep
 policy_read : (ts : List Token) (s : State) (w : Word) (line at : ℕ) (t : Tree) → Low 256 (terminals ts) s
     → option_and_then policy_ended (run (terminals ts) s) ≡ Some t
-    → rest_of_file ts (reading (in_policy w line s) []) at ≡ Ok (definition w t line ∷ [])
+    → rest_of_file ts (reading (in_policy policies.Let w line s) []) at ≡ Ok (definition w t line ∷ [])
 policy_read [] s w line at t low e =
     ap (λ o. ended_at at (option_map (λ p. one_more [] (definition w p line)) o)) e
 policy_read (x ∷ xs) s w line at t low e =
@@ -118,12 +120,12 @@ policy_read (x ∷ xs) s w line at t low e =
 
     by_step : (o : Option State) → step s (terminal_of x) ≡ o → IfSome o (λ s'. Low 256 (terminals xs) s')
         → option_and_then policy_ended (option_and_then (run (terminals xs)) o) ≡ Some t
-        → ((s' : State) → Low 256 (terminals xs) s' → option_and_then policy_ended (run (terminals xs) s') ≡ Some t → rest_of_file xs (reading (in_policy w line s') []) x.line ≡ Ok (definition w t line ∷ []))
-        → rest_of_file (x ∷ xs) (reading (in_policy w line s) []) at ≡ Ok (definition w t line ∷ [])
+        → ((s' : State) → Low 256 (terminals xs) s' → option_and_then policy_ended (run (terminals xs) s') ≡ Some t → rest_of_file xs (reading (in_policy policies.Let w line s') []) x.line ≡ Ok (definition w t line ∷ []))
+        → rest_of_file (x ∷ xs) (reading (in_policy policies.Let w line s) []) at ≡ Ok (definition w t line ∷ [])
     by_step None f l e' more = no_tree t e'
     by_step (Some s') f l e' more =
-        one_step x (terminal_of x) (reading (in_policy w line s) []) (reading (in_policy w line s') []) xs at refl
-        (ap (λ o. policy_on w line [] o (policy_ended s) (terminal_of x)) f) (low_now xs s' l)
+        one_step x (terminal_of x) (reading (in_policy policies.Let w line s) []) (reading (in_policy policies.Let w line s') []) xs at refl
+        (ap (λ o. policy_on policies.Let w line [] o (policy_ended s) (terminal_of x)) f) (low_now xs s' l)
         ∙ more s' l e'
 
 -- the tokens of a `let` that isn't nested too deep
@@ -134,9 +136,9 @@ lets_read [] line w p e le = absurd cc
 lets_read (a ∷ []) line w p e le = absurd cc
 lets_read (a ∷ (b ∷ [])) line w p e le = absurd cc
 lets_read (a ∷ (b ∷ (c ∷ ts))) line w p e le =
-    one_step a (outside (let_word line)) first_reading (reading (let_read line) []) (b ∷ (c ∷ ts)) 1 (first _ _ _ _ e) refl (omega arith)
-    ∙ one_step b (name w) (reading (let_read line) []) (reading (let_named w line) []) (c ∷ ts) a.line (first _ _ _ _ (rest _ _ _ _ e)) refl (omega arith)
-    ∙ one_step c equal (reading (let_named w line) []) (reading (in_policy w line first_state) []) ts b.line (first _ _ _ _ (rest _ _ _ _ (rest _ _ _ _ e))) refl (omega arith)
+    one_step a (outside (let_word line)) first_reading (reading (name_wanted (naming.Policy policies.Let line)) []) (b ∷ (c ∷ ts)) 1 (first _ _ _ _ e) refl (omega arith)
+    ∙ one_step b (name w) (reading (name_wanted (naming.Policy policies.Let line)) []) (reading (policy_named policies.Let w line) []) (c ∷ ts) a.line (first _ _ _ _ (rest _ _ _ _ e)) refl (omega arith)
+    ∙ one_step c equal (reading (policy_named policies.Let w line) []) (reading (in_policy policies.Let w line first_state) []) ts b.line (first _ _ _ _ (rest _ _ _ _ (rest _ _ _ _ e))) refl (omega arith)
     ∙ policy_read ts first_state w line c.line (pol_tree p)
     (subst (λ l. Low 256 l first_state) (append-nil (spell_pol p) ∙ sym same) (pol_low 256 p [] [] (λ t ts us. refl) tt (omega arith) (omega arith)))
     (reads_tree (terminals ts) (pol_tree p) (p, same, refl))

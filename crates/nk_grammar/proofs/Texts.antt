@@ -9,14 +9,20 @@ use Rattle.nk_grammar.specs.declared.place.QuadNext.{QuadNext}
 use Rattle.nk_grammar.specs.declared.place.QuadNext.TheVariants as next
 use Rattle.nk_grammar.specs.declared.place.Place.{Place}
 use Rattle.nk_grammar.specs.declared.place.Place.TheVariants as place
-use Rattle.nk_grammar.specs.Terminal.{Terminal, Outside, name, number, tilde, opening, closing, plus_sign, semicolon, star_sign, equal, becomes, colon, fat_arrow, id_word, drop_word, dup_word, in_word, dots, outside, is_equal, field_word, tag_word, switch_word, ports_word, link_word, let_word, arrow, comma, certificate_word, row_word, start_word, no_terminal}
+use Rattle.nk_grammar.specs.declared.decl.PolicyWord.{PolicyWord}
+use Rattle.nk_grammar.specs.declared.decl.PolicyWord.TheVariants as policies
+use Rattle.nk_grammar.specs.declared.decl.LinkWord.{LinkWord}
+use Rattle.nk_grammar.specs.declared.decl.LinkWord.TheVariants as links
+use Rattle.nk_grammar.specs.declared.decl.Naming.{Naming}
+use Rattle.nk_grammar.specs.declared.decl.Naming.TheVariants as naming
+use Rattle.nk_grammar.specs.Terminal.{Terminal, Outside, name, number, tilde, opening, closing, plus_sign, semicolon, star_sign, equal, becomes, colon, fat_arrow, id_word, drop_word, dup_word, in_word, dots, outside, is_equal, field_word, tag_word, switch_word, ports_word, link_word, let_word, fabric_word, virtual_word, by_word, arrow, comma, certificate_word, row_word, start_word, no_terminal}
 use Rattle.nk_grammar.specs.Tree.{Tree, Trees, name_of, not_of, sum_from}
 use Rattle.nk_grammar.specs.Grammar.{Pol, spell_pol, pol_tree, one_term, one_factor, plain, written_id}
 use Rattle.nk_grammar.specs.Machine.{Open, group, negation, State, state, first_state, atom_ended, with_number, quad_step, step, step_at, step_done, run, settled, policy_ended, done}
-use Rattle.nk_grammar.specs.File.{Declaration, field, tag, switch, definition, Written, written_field, written_tag, written_switch, written_declared_link, written_let, spell_ports, spell_declaration, declared, spell_file, HasDeclarations, FileGoesOn}
-use Rattle.nk_grammar.specs.FileMachine.{Phase, between, field_read, field_named, tag_read, switch_read, switch_numbered, port_wanted, port_read, link_read, let_read, let_named, in_policy, Reading, reading, is_ports, is_comma, with_name, begin_declaration, one_more, link_on, policy_done, policy_on, next_reading, read_one, read_all, first_reading, text_ended, declarations_at_end}
+use Rattle.nk_grammar.specs.File.{Declaration, field, tag, switch, virtual_link, Written, written_field, written_tag, written_switch, written_declared_link, written_let, written_fabric, written_virtual, spell_ports, spell_declaration, declared, spell_file, HasDeclarations, FileGoesOn}
+use Rattle.nk_grammar.specs.FileMachine.{Phase, between, name_wanted, field_named, switch_read, switch_numbered, port_wanted, port_read, link_read, by_wanted, policy_named, in_policy, Reading, reading, is_ports, is_by, is_comma, with_name, begin_declaration, one_more, defined, link_on, policy_done, policy_on, next_reading, read_one, read_all, first_reading, text_ended, declarations_at_end}
 use Rattle.nk_grammar.proofs.Spelled.{reads, early_late, pol_has_star, early, late}
-use Rattle.nk_grammar.proofs.Links.{spell_quad, quad_spell, IsQuadSpelledWith}
+use Rattle.nk_grammar.proofs.Links.{spell_link, spell_quad, quad_spell, IsQuadSpelledWith}
 use Rattle.nk_grammar.proofs.Fronts.{reads_only, goes_on, run_append, none_some}
 
 -- the declarations that the tokens come to
@@ -37,6 +43,8 @@ file_behind (written_tag w ∷ ws) = refl
 file_behind (written_switch n p ps ∷ ws) = refl
 file_behind (written_declared_link a m b n ∷ ws) = refl
 file_behind (written_let line w p ∷ ws) = refl
+file_behind (written_fabric line w p ∷ ws) = refl
+file_behind (written_virtual a m b n w ∷ ws) = refl
 
 -- no policy goes on with such a word behind an atom
 refused_behind_atom : (t : Tree) (fs : List Open) (ts us : Trees) (z : Outside)
@@ -65,43 +73,43 @@ outside_refused (place.Linked (quad.ToColon a m b)) fs ts us z = refl
 outside_refused (place.After b) fs ts us z = refl
 
 -- a policy's tokens are read inside a declaration as they are alone
-inside : (w : Word) (line : ℕ) (ds : List Declaration) (xs r : List Terminal) (s s' : State)
+inside : (k : PolicyWord) (w : Word) (line : ℕ) (ds : List Declaration) (xs r : List Terminal) (s s' : State)
     → run xs s ≡ Some s'
-    → read_all (xs ++ r) (reading (in_policy w line s) ds) ≡ read_all r (reading (in_policy w line s') ds)
-inside w line ds [] r s s' e = ap (λ x. read_all r (reading (in_policy w line x) ds)) cc
-inside w line ds (x ∷ xs) r s s' e = by_step (step s x) (policy_ended s) e (inside w line ds xs r)
+    → read_all (xs ++ r) (reading (in_policy k w line s) ds) ≡ read_all r (reading (in_policy k w line s') ds)
+inside k w line ds [] r s s' e = ap (λ x. read_all r (reading (in_policy k w line x) ds)) cc
+inside k w line ds (x ∷ xs) r s s' e = by_step (step s x) (policy_ended s) e (inside k w line ds xs r)
   where
     by_step : (o : Option State) (t : Option Tree) → option_and_then (run xs) o ≡ Some s'
-        → ((s s' : State) → run xs s ≡ Some s' → read_all (xs ++ r) (reading (in_policy w line s) ds) ≡ read_all r (reading (in_policy w line s') ds))
-        → option_and_then (read_all (xs ++ r)) (policy_on w line ds o t x) ≡ read_all r (reading (in_policy w line s') ds)
+        → ((s s' : State) → run xs s ≡ Some s' → read_all (xs ++ r) (reading (in_policy k w line s) ds) ≡ read_all r (reading (in_policy k w line s') ds))
+        → option_and_then (read_all (xs ++ r)) (policy_on k w line ds o t x) ≡ read_all r (reading (in_policy k w line s') ds)
     by_step None t e go = absurd (none_some s' e)
     by_step (Some s) t e go = go s s' e
 
 -- behind a policy that may end, a declaration begins, or the end comes
-policy_ends : (w : Word) (line : ℕ) (ds : List Declaration) (p : Tree) (s : State) (r : List Terminal)
+policy_ends : (k : PolicyWord) (w : Word) (line : ℕ) (ds : List Declaration) (p : Tree) (s : State) (r : List Terminal)
     → policy_ended s ≡ Some p → IsBehind r
-    → finish (read_all r (reading (in_policy w line s) ds)) ≡ finish (read_all r (reading between (one_more ds (definition w p line))))
-policy_ends w line ds p s [] e b = ap (λ o. option_map (λ p. one_more ds (definition w p line)) o) e
-policy_ends w line ds p s (outside z ∷ r) e b =
-    ap (λ o. finish (option_and_then (read_all r) (policy_on w line ds o (policy_ended s) (outside z)))) (outside_refused s.place s.frames s.terms s.factors z)
-    ∙ ap (λ o. finish (option_and_then (read_all r) (policy_done w line ds o (outside z)))) e
-policy_ends w line ds p s ((name x) ∷ r) e b = absurd b
-policy_ends w line ds p s ((number x) ∷ r) e b = absurd b
-policy_ends w line ds p s ((tilde l) ∷ r) e b = absurd b
-policy_ends w line ds p s (opening ∷ r) e b = absurd b
-policy_ends w line ds p s (closing ∷ r) e b = absurd b
-policy_ends w line ds p s (plus_sign ∷ r) e b = absurd b
-policy_ends w line ds p s (semicolon ∷ r) e b = absurd b
-policy_ends w line ds p s (star_sign ∷ r) e b = absurd b
-policy_ends w line ds p s (equal ∷ r) e b = absurd b
-policy_ends w line ds p s (becomes ∷ r) e b = absurd b
-policy_ends w line ds p s (colon ∷ r) e b = absurd b
-policy_ends w line ds p s (fat_arrow ∷ r) e b = absurd b
-policy_ends w line ds p s (id_word ∷ r) e b = absurd b
-policy_ends w line ds p s (drop_word ∷ r) e b = absurd b
-policy_ends w line ds p s (dup_word ∷ r) e b = absurd b
-policy_ends w line ds p s (in_word ∷ r) e b = absurd b
-policy_ends w line ds p s (dots ∷ r) e b = absurd b
+    → finish (read_all r (reading (in_policy k w line s) ds)) ≡ finish (read_all r (reading between (one_more ds (defined k w p line))))
+policy_ends k w line ds p s [] e b = ap (λ o. option_map (λ p. one_more ds (defined k w p line)) o) e
+policy_ends k w line ds p s (outside z ∷ r) e b =
+    ap (λ o. finish (option_and_then (read_all r) (policy_on k w line ds o (policy_ended s) (outside z)))) (outside_refused s.place s.frames s.terms s.factors z)
+    ∙ ap (λ o. finish (option_and_then (read_all r) (policy_done k w line ds o (outside z)))) e
+policy_ends k w line ds p s ((name x) ∷ r) e b = absurd b
+policy_ends k w line ds p s ((number x) ∷ r) e b = absurd b
+policy_ends k w line ds p s ((tilde l) ∷ r) e b = absurd b
+policy_ends k w line ds p s (opening ∷ r) e b = absurd b
+policy_ends k w line ds p s (closing ∷ r) e b = absurd b
+policy_ends k w line ds p s (plus_sign ∷ r) e b = absurd b
+policy_ends k w line ds p s (semicolon ∷ r) e b = absurd b
+policy_ends k w line ds p s (star_sign ∷ r) e b = absurd b
+policy_ends k w line ds p s (equal ∷ r) e b = absurd b
+policy_ends k w line ds p s (becomes ∷ r) e b = absurd b
+policy_ends k w line ds p s (colon ∷ r) e b = absurd b
+policy_ends k w line ds p s (fat_arrow ∷ r) e b = absurd b
+policy_ends k w line ds p s (id_word ∷ r) e b = absurd b
+policy_ends k w line ds p s (drop_word ∷ r) e b = absurd b
+policy_ends k w line ds p s (dup_word ∷ r) e b = absurd b
+policy_ends k w line ds p s (in_word ∷ r) e b = absurd b
+policy_ends k w line ds p s (dots ∷ r) e b = absurd b
 
 -- further ports
 ports_pass : (n : Number) (qs ps : List Number) (ds : List Declaration) (r : List Terminal) → IsBehind r
@@ -148,6 +156,13 @@ left_by p = by_state (run (spell_pol p) first_state) refl (reads p)
         joined_of : Trees → Tree
         joined_of ts = sum_from ts
 
+-- the tokens of a policy leave its declaration
+policy_passes : (k : PolicyWord) (line : ℕ) (w : Word) (p : Pol) (ds : List Declaration) (r : List Terminal) → IsBehind r
+    → finish (read_all (spell_pol p ++ r) (reading (in_policy k w line first_state) ds)) ≡ finish (read_all r (reading between (one_more ds (defined k w (pol_tree p) line))))
+policy_passes k line w p ds r b =
+    let l = left_by p in
+    ap finish (inside k w line ds (spell_pol p) r first_state l.0 l.1) ∙ policy_ends k w line ds (pol_tree p) l.0 r l.2 b
+
 -- a declaration's tokens leave the declaration
 declaration_passes : (w : Written) (ds : List Declaration) (r : List Terminal) → IsBehind r
     → finish (read_all (spell_declaration w ++ r) (reading between ds)) ≡ finish (read_all r (reading between (one_more ds (declared w))))
@@ -155,9 +170,9 @@ declaration_passes (written_field w n) ds r b = refl
 declaration_passes (written_tag w) ds r b = refl
 declaration_passes (written_switch n p ps) ds r b = ports_pass n (p ∷ []) ps ds r b
 declaration_passes (written_declared_link a m b n) ds r c = refl
-declaration_passes (written_let line w p) ds r b =
-    let l = left_by p in
-    ap finish (inside w line ds (spell_pol p) r first_state l.0 l.1) ∙ policy_ends w line ds (pol_tree p) l.0 r l.2 b
+declaration_passes (written_let line w p) ds r b = policy_passes policies.Let line w p ds r b
+declaration_passes (written_fabric line w p) ds r b = policy_passes policies.Fabric line w p ds r b
+declaration_passes (written_virtual a m b n w) ds r c = refl
 
 -- the tokens of declarations give them
 file_passes : (ws : List Written) (ds : List Declaration)
@@ -178,20 +193,52 @@ abbrev wanted_ports : List Number → List Terminal
 wanted_ports [] = []
 wanted_ports (p ∷ ps) = number p ∷ (spell_ports ps ++ outside comma ∷ [])
 
+-- the word that a policy's declaration begins with
+abbrev policy_word : PolicyWord → ℕ → Outside
+policy_word policies.Let line = let_word line
+policy_word policies.Fabric line = fabric_word line
+
+-- the declaration of a policy, as it is written
+abbrev written_policy : PolicyWord → ℕ → Word → Pol → Written
+written_policy policies.Let line w p = written_let line w p
+written_policy policies.Fabric line w p = written_fabric line w p
+
+-- its tokens
+policy_spelled : (k : PolicyWord) (line : ℕ) (w : Word) (p : Pol)
+    → outside (policy_word k line) ∷ name w ∷ equal ∷ spell_pol p ≡ spell_declaration (written_policy k line w p)
+policy_spelled policies.Let line w p = refl
+policy_spelled policies.Fabric line w p = refl
+
+-- and its value
+policy_declared : (k : PolicyWord) (line : ℕ) (w : Word) (p : Pol) → declared (written_policy k line w p) ≡ defined k w (pol_tree p) line
+policy_declared policies.Let line w p = refl
+policy_declared policies.Fabric line w p = refl
+
+-- the word that a link's declaration begins with
+abbrev wire_word : LinkWord → Outside
+wire_word links.Link = link_word
+wire_word links.Virtual = virtual_word
+
+-- the tokens up to a name that is wanted
+abbrev spell_naming : Naming → List Terminal
+spell_naming naming.Field = outside field_word ∷ []
+spell_naming naming.Tag = outside tag_word ∷ []
+spell_naming (naming.Policy k line) = outside (policy_word k line) ∷ []
+spell_naming (naming.Virtual a m b n) = outside virtual_word ∷ (spell_link false a m b n ++ outside by_word ∷ [])
+
 -- the tokens of the declaration that is open
 abbrev IsPhaseSpelled : Phase → List Terminal → Type 0
 IsPhaseSpelled between us = us ≡ []
-IsPhaseSpelled field_read us = us ≡ outside field_word ∷ []
+IsPhaseSpelled (name_wanted k) us = us ≡ spell_naming k
 IsPhaseSpelled (field_named w) us = us ≡ outside field_word ∷ name w ∷ []
-IsPhaseSpelled tag_read us = us ≡ outside tag_word ∷ []
 IsPhaseSpelled switch_read us = us ≡ outside switch_word ∷ []
 IsPhaseSpelled (switch_numbered n) us = us ≡ outside switch_word ∷ number n ∷ []
 IsPhaseSpelled (port_wanted n ps) us = us ≡ outside switch_word ∷ number n ∷ outside ports_word ∷ wanted_ports ps
 IsPhaseSpelled (port_read n ps) us = (p : Number) × (qs : List Number) × (ps ≡ p ∷ qs) × (us ≡ spell_declaration (written_switch n p qs))
-IsPhaseSpelled (link_read q) us = us ≡ outside link_word ∷ spell_quad false q
-IsPhaseSpelled (let_read line) us = us ≡ outside (let_word line) ∷ []
-IsPhaseSpelled (let_named w line) us = us ≡ outside (let_word line) ∷ name w ∷ []
-IsPhaseSpelled (in_policy w line s) us = (vs : List Terminal) × (us ≡ outside (let_word line) ∷ name w ∷ equal ∷ vs) × (run vs first_state ≡ Some s)
+IsPhaseSpelled (link_read k q) us = us ≡ outside (wire_word k) ∷ spell_quad false q
+IsPhaseSpelled (by_wanted a m b n) us = us ≡ outside virtual_word ∷ spell_link false a m b n
+IsPhaseSpelled (policy_named k w line) us = us ≡ outside (policy_word k line) ∷ name w ∷ []
+IsPhaseSpelled (in_policy k w line s) us = (vs : List Terminal) × (us ≡ outside (policy_word k line) ∷ name w ∷ equal ∷ vs) × (run vs first_state ≡ Some s)
 
 -- the tokens so far are those of the declarations that are done and of the one that is open
 abbrev IsFront : List Terminal → Phase → List Declaration → Type 0
@@ -256,6 +303,9 @@ begins ts ds (outside switch_word) h = (h.0, outside switch_word ∷ [], h.2, ap
 begins ts ds (outside ports_word) h = tt
 begins ts ds (outside link_word) h = (h.0, outside link_word ∷ [], h.2, ap (λ x. x ++ outside link_word ∷ []) h.1, refl)
 begins ts ds (outside (let_word l)) h = (h.0, outside (let_word l) ∷ [], h.2, ap (λ x. x ++ outside (let_word l) ∷ []) h.1, refl)
+begins ts ds (outside (fabric_word l)) h = (h.0, outside (fabric_word l) ∷ [], h.2, ap (λ x. x ++ outside (fabric_word l) ∷ []) h.1, refl)
+begins ts ds (outside virtual_word) h = (h.0, outside virtual_word ∷ [], h.2, ap (λ x. x ++ outside virtual_word ∷ []) h.1, refl)
+begins ts ds (outside by_word) h = tt
 begins ts ds (outside arrow) h = tt
 begins ts ds (outside comma) h = tt
 begins ts ds (outside certificate_word) h = tt
@@ -290,6 +340,9 @@ name_leads (outside switch_word) ts f e = tt
 name_leads (outside ports_word) ts f e = tt
 name_leads (outside link_word) ts f e = tt
 name_leads (outside (let_word l)) ts f e = tt
+name_leads (outside (fabric_word l)) ts f e = tt
+name_leads (outside virtual_word) ts f e = tt
+name_leads (outside by_word) ts f e = tt
 name_leads (outside arrow) ts f e = tt
 name_leads (outside comma) ts f e = tt
 name_leads (outside certificate_word) ts f e = tt
@@ -324,6 +377,9 @@ number_leads (outside switch_word) ts f e = tt
 number_leads (outside ports_word) ts f e = tt
 number_leads (outside link_word) ts f e = tt
 number_leads (outside (let_word l)) ts f e = tt
+number_leads (outside (fabric_word l)) ts f e = tt
+number_leads (outside virtual_word) ts f e = tt
+number_leads (outside by_word) ts f e = tt
 number_leads (outside arrow) ts f e = tt
 number_leads (outside comma) ts f e = tt
 number_leads (outside certificate_word) ts f e = tt
@@ -357,6 +413,9 @@ ports_leads (outside switch_word) ts r e = tt
 ports_leads (outside ports_word) ts r e = e refl
 ports_leads (outside link_word) ts r e = tt
 ports_leads (outside (let_word l)) ts r e = tt
+ports_leads (outside (fabric_word l)) ts r e = tt
+ports_leads (outside virtual_word) ts r e = tt
+ports_leads (outside by_word) ts r e = tt
 ports_leads (outside arrow) ts r e = tt
 ports_leads (outside comma) ts r e = tt
 ports_leads (outside certificate_word) ts r e = tt
@@ -390,12 +449,21 @@ equal_leads (outside switch_word) ts r e = tt
 equal_leads (outside ports_word) ts r e = tt
 equal_leads (outside link_word) ts r e = tt
 equal_leads (outside (let_word l)) ts r e = tt
+equal_leads (outside (fabric_word l)) ts r e = tt
+equal_leads (outside virtual_word) ts r e = tt
+equal_leads (outside by_word) ts r e = tt
 equal_leads (outside arrow) ts r e = tt
 equal_leads (outside comma) ts r e = tt
 equal_leads (outside certificate_word) ts r e = tt
 equal_leads (outside (row_word l)) ts r e = tt
 equal_leads (outside start_word) ts r e = tt
 equal_leads (outside no_terminal) ts r e = tt
+
+-- where the word `by` is wanted
+by_leads : (t : Terminal) (ts : List Terminal) (r : Reading) → (t ≡ outside by_word → Leads (Some r) ts)
+    → Leads (if is_by t then Some r else None) ts
+by_leads (outside by_word) ts r e = e refl
+by_leads t ts r e = tt
 
 -- where a comma may come
 comma_leads : (t : Terminal) (ts : List Terminal) (r : Reading) (o : Option Reading)
@@ -424,6 +492,9 @@ comma_leads (outside switch_word) ts r o e f = f
 comma_leads (outside ports_word) ts r o e f = f
 comma_leads (outside link_word) ts r o e f = f
 comma_leads (outside (let_word l)) ts r o e f = f
+comma_leads (outside (fabric_word l)) ts r o e f = f
+comma_leads (outside virtual_word) ts r o e f = f
+comma_leads (outside by_word) ts r o e f = f
 comma_leads (outside arrow) ts r o e f = f
 comma_leads (outside comma) ts r o e f = e refl
 comma_leads (outside certificate_word) ts r o e f = f
@@ -445,17 +516,6 @@ port_leads n [] us p e = (p, [], refl, ap (λ x. x ++ number p ∷ []) e)
 port_leads n (q ∷ qs) us p e =
     (q, qs ++ p ∷ [], refl, ap (λ x. x ++ number p ∷ []) e ∙ ap (λ x. outside switch_word ∷ number n ∷ outside ports_word ∷ number q ∷ x) (append_assoc (spell_ports qs) (outside comma ∷ []) (number p ∷ []) ∙ sym (ports_more qs p)))
 
--- one more token of a declared link
-wire_leads : (ws : List Written) (ds : List Declaration) (ts us xs : List Terminal) (t : Terminal) (q : QuadNext)
-    → ds ≡ map declared ws → ts ≡ spell_file ws ++ us → us ≡ outside link_word ∷ xs
-    → IsQuadSpelledWith false xs t q → Leads (link_on ds q) (ts ++ t ∷ [])
-wire_leads ws ds ts us xs t next.Refused d e f g = tt
-wire_leads ws ds ts us xs t (next.Going q) d e f g =
-    (ws, us ++ t ∷ [], d, same_file ws ts us (us ++ t ∷ []) t e refl, ap (λ x. x ++ t ∷ []) f ∙ ap (λ x. outside link_word ∷ x) (sym g))
-wire_leads ws ds ts us xs t (next.Full a m b n) d e f g =
-    let h = done_more ws (written_declared_link a m b n) (ts ++ t ∷ []) (us ++ t ∷ []) ds d (same_file ws ts us (us ++ t ∷ []) t e refl) (ap (λ x. x ++ t ∷ []) f ∙ ap (λ x. outside link_word ∷ x) (sym g)) in
-    (h.0, [], h.2, h.1 ∙ sym (append-nil (spell_file h.0)), refl)
-
 -- a declaration that is done at this token
 done_here : (ws : List Written) (w : Written) (ds : List Declaration) (ts us : List Terminal) (t : Terminal)
     → ds ≡ map declared ws → ts ≡ spell_file ws ++ us → us ++ t ∷ [] ≡ spell_declaration w
@@ -464,20 +524,38 @@ done_here ws w ds ts us t d e f =
     let h = done_more ws w (ts ++ t ∷ []) (us ++ t ∷ []) ds d (same_file ws ts us (us ++ t ∷ []) t e refl) f in
     (h.0, [], h.2, h.1 ∙ sym (append-nil (spell_file h.0)), refl)
 
--- a policy that goes on, or ends before the token
-policy_leads : (ws : List Written) (ds : List Declaration) (ts us vs : List Terminal) (w : Word) (line : ℕ) (s : State) (t : Terminal)
-    → ds ≡ map declared ws → ts ≡ spell_file ws ++ us
-    → us ≡ outside (let_word line) ∷ name w ∷ equal ∷ vs → run vs first_state ≡ Some s → Leads (policy_on w line ds (step s t) (policy_ended s) t) (ts ++ t ∷ [])
-policy_leads ws ds ts us vs w line s t d e f g = by_step (step s t) refl
-  where
-    by_end : (o : Option Tree) → policy_ended s ≡ o → Leads (policy_done w line ds o t) (ts ++ t ∷ [])
-    by_end None h = tt
-    by_end (Some p) h =
-        let tree = reads_only vs p (ap (option_and_then policy_ended) g ∙ h) in
-        begins ts (one_more ds (definition w p line)) t
-        (subst (λ q. HasDeclarations ts (one_more ds (definition w q line))) (sym tree.2) (done_more ws (written_let line w tree.0) ts us ds d e (f ∙ ap (λ x. outside (let_word line) ∷ name w ∷ equal ∷ x) tree.1)))
+-- one more token of a link
+wire_leads : (k : LinkWord) (ws : List Written) (ds : List Declaration) (ts us xs : List Terminal) (t : Terminal) (q : QuadNext)
+    → ds ≡ map declared ws → ts ≡ spell_file ws ++ us → us ≡ outside (wire_word k) ∷ xs
+    → IsQuadSpelledWith false xs t q → Leads (link_on k ds q) (ts ++ t ∷ [])
+wire_leads k ws ds ts us xs t next.Refused d e f g = tt
+wire_leads k ws ds ts us xs t (next.Going q) d e f g =
+    (ws, us ++ t ∷ [], d, same_file ws ts us (us ++ t ∷ []) t e refl, ap (λ x. x ++ t ∷ []) f ∙ ap (λ x. outside (wire_word k) ∷ x) (sym g))
+wire_leads links.Link ws ds ts us xs t (next.Full a m b n) d e f g =
+    done_here ws (written_declared_link a m b n) ds ts us t d e (ap (λ x. x ++ t ∷ []) f ∙ ap (λ x. outside link_word ∷ x) (sym g))
+wire_leads links.Virtual ws ds ts us xs t (next.Full a m b n) d e f g =
+    (ws, us ++ t ∷ [], d, same_file ws ts us (us ++ t ∷ []) t e refl, ap (λ x. x ++ t ∷ []) f ∙ ap (λ x. outside virtual_word ∷ x) (sym g))
 
-    by_step : (o : Option State) → step s t ≡ o → Leads (policy_on w line ds o (policy_ended s) t) (ts ++ t ∷ [])
+-- a policy that is done
+policy_here : (k : PolicyWord) (ws : List Written) (ds : List Declaration) (ts us vs : List Terminal) (w : Word) (line : ℕ) (s : State) (p : Tree)
+    → ds ≡ map declared ws → ts ≡ spell_file ws ++ us → us ≡ outside (policy_word k line) ∷ name w ∷ equal ∷ vs → run vs first_state ≡ Some s
+    → policy_ended s ≡ Some p → HasDeclarations ts (one_more ds (defined k w p line))
+policy_here k ws ds ts us vs w line s p d e f g h =
+    let tree = reads_only vs p (ap (option_and_then policy_ended) g ∙ h) in
+    subst (λ x. HasDeclarations ts (one_more ds x)) (policy_declared k line w tree.0 ∙ ap (λ x. defined k w x line) (sym tree.2))
+    (done_more ws (written_policy k line w tree.0) ts us ds d e (f ∙ ap (λ x. outside (policy_word k line) ∷ name w ∷ equal ∷ x) tree.1 ∙ policy_spelled k line w tree.0))
+
+-- a policy that goes on, or ends before the token
+policy_leads : (k : PolicyWord) (ws : List Written) (ds : List Declaration) (ts us vs : List Terminal) (w : Word) (line : ℕ) (s : State) (t : Terminal)
+    → ds ≡ map declared ws → ts ≡ spell_file ws ++ us
+    → us ≡ outside (policy_word k line) ∷ name w ∷ equal ∷ vs → run vs first_state ≡ Some s → Leads (policy_on k w line ds (step s t) (policy_ended s) t) (ts ++ t ∷ [])
+policy_leads k ws ds ts us vs w line s t d e f g = by_step (step s t) refl
+  where
+    by_end : (o : Option Tree) → policy_ended s ≡ o → Leads (policy_done k w line ds o t) (ts ++ t ∷ [])
+    by_end None h = tt
+    by_end (Some p) h = begins ts (one_more ds (defined k w p line)) t (policy_here k ws ds ts us vs w line s p d e f g h)
+
+    by_step : (o : Option State) → step s t ≡ o → Leads (policy_on k w line ds o (policy_ended s) t) (ts ++ t ∷ [])
     by_step (Some s') h = (
       ws,
       us ++ t ∷ [],
@@ -495,9 +573,12 @@ policy_leads ws ds ts us vs w line s t d e f g = by_step (step s t) refl
 front_leads : (p : Phase) (ds : List Declaration) (ts : List Terminal) (t : Terminal)
     → IsFront ts p ds → Leads (next_reading p ds t) (ts ++ t ∷ [])
 front_leads between ds ts t h = begins ts ds t (h.0, h.3 ∙ ap (λ x. spell_file h.0 ++ x) h.4 ∙ append-nil (spell_file h.0), h.2)
-front_leads field_read ds ts t h = name_leads t _ (λ w. reading (field_named w) ds) (λ w e. (h.0, h.1 ++ t ∷ [], h.2, same_file h.0 ts h.1 (h.1 ++ t ∷ []) t h.3 refl, behind h.4 e))
+front_leads (name_wanted naming.Field) ds ts t h = name_leads t _ (λ w. reading (field_named w) ds) (λ w e. (h.0, h.1 ++ t ∷ [], h.2, same_file h.0 ts h.1 (h.1 ++ t ∷ []) t h.3 refl, behind h.4 e))
+front_leads (name_wanted naming.Tag) ds ts t h = name_leads t _ (λ w. reading between (one_more ds (tag w))) (λ w e. done_here h.0 (written_tag w) ds ts h.1 t h.2 h.3 (behind h.4 e))
+front_leads (name_wanted (naming.Policy k line)) ds ts t h = name_leads t _ (λ w. reading (policy_named k w line) ds) (λ w e. (h.0, h.1 ++ t ∷ [], h.2, same_file h.0 ts h.1 (h.1 ++ t ∷ []) t h.3 refl, behind h.4 e))
+front_leads (name_wanted (naming.Virtual a m b n)) ds ts t h =
+    name_leads t _ (λ w. reading between (one_more ds (virtual_link a m b n w))) (λ w e. done_here h.0 (written_virtual a m b n w) ds ts h.1 t h.2 h.3 (behind h.4 e))
 front_leads (field_named w) ds ts t h = number_leads t _ (λ n. reading between (one_more ds (field w n))) (λ n e. done_here h.0 (written_field w n) ds ts h.1 t h.2 h.3 (behind h.4 e))
-front_leads tag_read ds ts t h = name_leads t _ (λ w. reading between (one_more ds (tag w))) (λ w e. done_here h.0 (written_tag w) ds ts h.1 t h.2 h.3 (behind h.4 e))
 front_leads switch_read ds ts t h = number_leads t _ (λ n. reading (switch_numbered n) ds) (λ w e. (h.0, h.1 ++ t ∷ [], h.2, same_file h.0 ts h.1 (h.1 ++ t ∷ []) t h.3 refl, behind h.4 e))
 front_leads (switch_numbered n) ds ts t h = ports_leads t _ (reading (port_wanted n []) ds) (λ e. (h.0, h.1 ++ t ∷ [], h.2, same_file h.0 ts h.1 (h.1 ++ t ∷ []) t h.3 refl, behind h.4 e))
 front_leads (port_wanted n ps) ds ts t h =
@@ -514,13 +595,13 @@ front_leads (port_read n ps) ds ts t h =
     (λ e. (h.0, h.1 ++ t ∷ [], h.2, same_file h.0 ts h.1 (h.1 ++ t ∷ []) t h.3 refl, behind s.3 e ∙ ap (λ x. outside switch_word ∷ number n ∷ outside ports_word ∷ wanted_ports x) (sym s.2)))
     (begins ts (one_more ds (switch n ps)) t
     (subst (λ x. HasDeclarations ts (one_more ds (switch n x))) (sym s.2) (done_more h.0 (written_switch n s.0 s.1) ts h.1 ds h.2 h.3 s.3)))
-front_leads (link_read q) ds ts t h = wire_leads h.0 ds ts h.1 (spell_quad false q) t (quad_step false q t) h.2 h.3 h.4 (quad_spell false q t)
-front_leads (let_read line) ds ts t h = name_leads t _ (λ w. reading (let_named w line) ds) (λ w e. (h.0, h.1 ++ t ∷ [], h.2, same_file h.0 ts h.1 (h.1 ++ t ∷ []) t h.3 refl, behind h.4 e))
-front_leads (let_named w line) ds ts t h =
-    equal_leads t _ (reading (in_policy w line first_state) ds) (λ e. (h.0, h.1 ++ t ∷ [], h.2, same_file h.0 ts h.1 (h.1 ++ t ∷ []) t h.3 refl, ([], behind h.4 e, refl)))
-front_leads (in_policy w line s) ds ts t h =
-    let p : IsPhaseSpelled (in_policy w line s) h.1 = h.4 in
-    policy_leads h.0 ds ts h.1 p.0 w line s t h.2 h.3 p.1 p.2
+front_leads (link_read k q) ds ts t h = wire_leads k h.0 ds ts h.1 (spell_quad false q) t (quad_step false q t) h.2 h.3 h.4 (quad_spell false q t)
+front_leads (by_wanted a m b n) ds ts t h = by_leads t _ (reading (name_wanted (naming.Virtual a m b n)) ds) (λ e. (h.0, h.1 ++ t ∷ [], h.2, same_file h.0 ts h.1 (h.1 ++ t ∷ []) t h.3 refl, behind h.4 e))
+front_leads (policy_named k w line) ds ts t h =
+    equal_leads t _ (reading (in_policy k w line first_state) ds) (λ e. (h.0, h.1 ++ t ∷ [], h.2, same_file h.0 ts h.1 (h.1 ++ t ∷ []) t h.3 refl, ([], behind h.4 e, refl)))
+front_leads (in_policy k w line s) ds ts t h =
+    let p : IsPhaseSpelled (in_policy k w line s) h.1 = h.4 in
+    policy_leads k h.0 ds ts h.1 p.0 w line s t h.2 h.3 p.1 p.2
 
 -- all tokens
 fronts : (us ts : List Terminal) (r r' : Reading) → IsFront ts r.phase r.declarations
@@ -557,20 +638,40 @@ a_number = record { value = 0; line = 0 }
 a_word : Word
 a_word = record { text = []; line = 0 }
 
+-- the shortest policy
+abbrev pub id_pol : Pol
+id_pol = one_term (one_factor (plain written_id))
+
 -- equal tokens, and the same behind them
 goes_on_with : (us xs more : List Terminal) → us ≡ xs → us ++ more ≡ xs ++ more
 goes_on_with us xs more e = ap (λ x. x ++ more) e
 
--- a part of a declared link can be completed
-quad_completes : (ws : List Written) (ts us : List Terminal) (q : Quad) → ts ≡ spell_file ws ++ us
-    → us ≡ outside link_word ∷ spell_quad false q → FileGoesOn ts
-quad_completes ws ts us quad.Start e f = completed ws ts us (number a_number ∷ colon ∷ number a_number ∷ outside arrow ∷ number a_number ∷ colon ∷ number a_number ∷ []) (written_declared_link a_number a_number a_number a_number) e (goes_on_with us _ _ f)
-quad_completes ws ts us (quad.Switch a) e f = completed ws ts us (colon ∷ number a ∷ outside arrow ∷ number a ∷ colon ∷ number a ∷ []) (written_declared_link a a a a) e (goes_on_with us _ _ f)
-quad_completes ws ts us (quad.SwitchColon a) e f = completed ws ts us (number a ∷ outside arrow ∷ number a ∷ colon ∷ number a ∷ []) (written_declared_link a a a a) e (goes_on_with us _ _ f)
-quad_completes ws ts us (quad.Port a m) e f = completed ws ts us (outside arrow ∷ number a ∷ colon ∷ number a ∷ []) (written_declared_link a m a a) e (goes_on_with us _ _ f)
-quad_completes ws ts us (quad.Arrow a m) e f = completed ws ts us (number a ∷ colon ∷ number a ∷ []) (written_declared_link a m a a) e (goes_on_with us _ _ f)
-quad_completes ws ts us (quad.ToSwitch a m b) e f = completed ws ts us (colon ∷ number a ∷ []) (written_declared_link a m b a) e (goes_on_with us _ _ f)
-quad_completes ws ts us (quad.ToColon a m b) e f = completed ws ts us (number a ∷ []) (written_declared_link a m b a) e (goes_on_with us _ _ f)
+-- what stands behind the two ends of a link
+abbrev link_tail : LinkWord → List Terminal
+link_tail links.Link = []
+link_tail links.Virtual = outside by_word ∷ name a_word ∷ []
+
+-- a link, as it is written
+abbrev written_link_of : LinkWord → Number → Number → Number → Number → Written
+written_link_of links.Link a m b n = written_declared_link a m b n
+written_link_of links.Virtual a m b n = written_virtual a m b n a_word
+
+-- and its tokens
+link_spelled : (k : LinkWord) (a m b n : Number)
+    → outside (wire_word k) ∷ (spell_link false a m b n ++ link_tail k) ≡ spell_declaration (written_link_of k a m b n)
+link_spelled links.Link a m b n = refl
+link_spelled links.Virtual a m b n = refl
+
+-- a part of a link can be completed
+quad_completes : (k : LinkWord) (ws : List Written) (ts us : List Terminal) (q : Quad) → ts ≡ spell_file ws ++ us
+    → us ≡ outside (wire_word k) ∷ spell_quad false q → FileGoesOn ts
+quad_completes k ws ts us quad.Start e f = completed ws ts us (number a_number ∷ colon ∷ number a_number ∷ outside arrow ∷ number a_number ∷ colon ∷ number a_number ∷ link_tail k) (written_link_of k a_number a_number a_number a_number) e (goes_on_with us _ _ f ∙ link_spelled k a_number a_number a_number a_number)
+quad_completes k ws ts us (quad.Switch a) e f = completed ws ts us (colon ∷ number a ∷ outside arrow ∷ number a ∷ colon ∷ number a ∷ link_tail k) (written_link_of k a a a a) e (goes_on_with us _ _ f ∙ link_spelled k a a a a)
+quad_completes k ws ts us (quad.SwitchColon a) e f = completed ws ts us (number a ∷ outside arrow ∷ number a ∷ colon ∷ number a ∷ link_tail k) (written_link_of k a a a a) e (goes_on_with us _ _ f ∙ link_spelled k a a a a)
+quad_completes k ws ts us (quad.Port a m) e f = completed ws ts us (outside arrow ∷ number a ∷ colon ∷ number a ∷ link_tail k) (written_link_of k a m a a) e (goes_on_with us _ _ f ∙ link_spelled k a m a a)
+quad_completes k ws ts us (quad.Arrow a m) e f = completed ws ts us (number a ∷ colon ∷ number a ∷ link_tail k) (written_link_of k a m a a) e (goes_on_with us _ _ f ∙ link_spelled k a m a a)
+quad_completes k ws ts us (quad.ToSwitch a m b) e f = completed ws ts us (colon ∷ number a ∷ link_tail k) (written_link_of k a m b a) e (goes_on_with us _ _ f ∙ link_spelled k a m b a)
+quad_completes k ws ts us (quad.ToColon a m b) e f = completed ws ts us (number a ∷ link_tail k) (written_link_of k a m b a) e (goes_on_with us _ _ f ∙ link_spelled k a m b a)
 
 -- a declared switch can be completed
 ports_complete : (ws : List Written) (ts us : List Terminal) (n : Number) (ps : List Number)
@@ -584,22 +685,26 @@ ports_complete ws ts us n (p ∷ ps) e f =
 -- each front can be completed
 phase_completes : (p : Phase) (ds : List Declaration) (ts : List Terminal) → IsFront ts p ds → FileGoesOn ts
 phase_completes between ds ts h = ([], h.0, append-nil ts ∙ h.3 ∙ ap (λ x. spell_file h.0 ++ x) h.4 ∙ append-nil (spell_file h.0))
-phase_completes field_read ds ts h = completed h.0 ts h.1 (name a_word ∷ number a_number ∷ []) (written_field a_word a_number) h.3 (goes_on_with h.1 _ _ h.4)
+phase_completes (name_wanted naming.Field) ds ts h = completed h.0 ts h.1 (name a_word ∷ number a_number ∷ []) (written_field a_word a_number) h.3 (goes_on_with h.1 _ _ h.4)
+phase_completes (name_wanted naming.Tag) ds ts h = completed h.0 ts h.1 (name a_word ∷ []) (written_tag a_word) h.3 (goes_on_with h.1 _ _ h.4)
+phase_completes (name_wanted (naming.Policy k line)) ds ts h =
+    completed h.0 ts h.1 (name a_word ∷ equal ∷ id_word ∷ []) (written_policy k line a_word id_pol) h.3 (goes_on_with h.1 _ _ h.4 ∙ policy_spelled k line a_word id_pol)
+phase_completes (name_wanted (naming.Virtual a m b n)) ds ts h = completed h.0 ts h.1 (name a_word ∷ []) (written_virtual a m b n a_word) h.3 (goes_on_with h.1 _ _ h.4)
 phase_completes (field_named w) ds ts h = completed h.0 ts h.1 (number a_number ∷ []) (written_field w a_number) h.3 (goes_on_with h.1 _ _ h.4)
-phase_completes tag_read ds ts h = completed h.0 ts h.1 (name a_word ∷ []) (written_tag a_word) h.3 (goes_on_with h.1 _ _ h.4)
 phase_completes switch_read ds ts h = completed h.0 ts h.1 (number a_number ∷ outside ports_word ∷ number a_number ∷ []) (written_switch a_number a_number []) h.3 (goes_on_with h.1 _ _ h.4)
 phase_completes (switch_numbered n) ds ts h = completed h.0 ts h.1 (outside ports_word ∷ number n ∷ []) (written_switch n n []) h.3 (goes_on_with h.1 _ _ h.4)
 phase_completes (port_wanted n ps) ds ts h = ports_complete h.0 ts h.1 n ps h.3 h.4
 phase_completes (port_read n ps) ds ts h =
     let s : IsPhaseSpelled (port_read n ps) h.1 = h.4 in
     completed h.0 ts h.1 [] (written_switch n s.0 s.1) h.3 (append-nil h.1 ∙ s.3)
-phase_completes (link_read q) ds ts h = quad_completes h.0 ts h.1 q h.3 h.4
-phase_completes (let_read line) ds ts h = completed h.0 ts h.1 (name a_word ∷ equal ∷ id_word ∷ []) (written_let line a_word (one_term (one_factor (plain written_id)))) h.3 (goes_on_with h.1 _ _ h.4)
-phase_completes (let_named w line) ds ts h = completed h.0 ts h.1 (equal ∷ id_word ∷ []) (written_let line w (one_term (one_factor (plain written_id)))) h.3 (goes_on_with h.1 _ _ h.4)
-phase_completes (in_policy w line s) ds ts h =
-    let p : IsPhaseSpelled (in_policy w line s) h.1 = h.4 in
+phase_completes (link_read k q) ds ts h = quad_completes k h.0 ts h.1 q h.3 h.4
+phase_completes (by_wanted a m b n) ds ts h = completed h.0 ts h.1 (outside by_word ∷ name a_word ∷ []) (written_virtual a m b n a_word) h.3 (goes_on_with h.1 _ _ h.4)
+phase_completes (policy_named k w line) ds ts h = completed h.0 ts h.1 (equal ∷ id_word ∷ []) (written_policy k line w id_pol) h.3 (goes_on_with h.1 _ _ h.4 ∙ policy_spelled k line w id_pol)
+phase_completes (in_policy k w line s) ds ts h =
+    let p : IsPhaseSpelled (in_policy k w line s) h.1 = h.4 in
     let g = goes_on p.0 s p.2 in
-    completed h.0 ts h.1 g.0 (written_let line w g.1) h.3 (goes_on_with h.1 _ g.0 p.1 ∙ ap (λ x. outside (let_word line) ∷ name w ∷ equal ∷ x) g.2)
+    completed h.0 ts h.1 g.0 (written_policy k line w g.1) h.3
+    (goes_on_with h.1 _ g.0 p.1 ∙ ap (λ x. outside (policy_word k line) ∷ name w ∷ equal ∷ x) g.2 ∙ policy_spelled k line w g.1)
 
 -- tokens that are taken are the front of a text
 pub file_goes_on : (ts : List Terminal) (r : Reading) → read_all ts first_reading ≡ Some r → FileGoesOn ts
@@ -612,9 +717,8 @@ phase_ends between ds es ts h e = (h.0, h.3 ∙ ap (λ x. spell_file h.0 ++ x) h
   where
     same : {xs ys : List Declaration} → ◌≡◌ {A = Option (List Declaration)} (Some xs) (Some ys) → xs ≡ ys
     same e = cc
-phase_ends field_read ds es ts h e = absurd (none_some es e)
+phase_ends (name_wanted k) ds es ts h e = absurd (none_some es e)
 phase_ends (field_named w) ds es ts h e = absurd (none_some es e)
-phase_ends tag_read ds es ts h e = absurd (none_some es e)
 phase_ends switch_read ds es ts h e = absurd (none_some es e)
 phase_ends (switch_numbered n) ds es ts h e = absurd (none_some es e)
 phase_ends (port_wanted n ps) ds es ts h e = absurd (none_some es e)
@@ -625,23 +729,20 @@ phase_ends (port_read n ps) ds es ts h e =
   where
     same : {xs ys : List Declaration} → ◌≡◌ {A = Option (List Declaration)} (Some xs) (Some ys) → xs ≡ ys
     same e = cc
-phase_ends (link_read q) ds es ts h e = absurd (none_some es e)
-phase_ends (let_read line) ds es ts h e = absurd (none_some es e)
-phase_ends (let_named w line) ds es ts h e = absurd (none_some es e)
-phase_ends (in_policy w line s) ds es ts h e = by_end (policy_ended s) refl e
+phase_ends (link_read k q) ds es ts h e = absurd (none_some es e)
+phase_ends (by_wanted a m b n) ds es ts h e = absurd (none_some es e)
+phase_ends (policy_named k w line) ds es ts h e = absurd (none_some es e)
+phase_ends (in_policy k w line s) ds es ts h e = by_end (policy_ended s) refl e
   where
     same : {xs ys : List Declaration} → ◌≡◌ {A = Option (List Declaration)} (Some xs) (Some ys) → xs ≡ ys
     same e = cc
 
     by_end : (o : Option Tree) → policy_ended s ≡ o
-        → option_map (λ p. one_more ds (definition w p line)) o ≡ Some es → HasDeclarations ts es
+        → option_map (λ p. one_more ds (defined k w p line)) o ≡ Some es → HasDeclarations ts es
     by_end None f e = absurd (none_some es e)
     by_end (Some q) f e =
-        let p : IsPhaseSpelled (in_policy w line s) h.1 = h.4 in
-        let tree = reads_only p.0 q (ap (option_and_then policy_ended) p.2 ∙ f) in
-        subst (HasDeclarations ts) (same e)
-        (subst (λ x. HasDeclarations ts (one_more ds (definition w x line))) (sym tree.2)
-        (done_more h.0 (written_let line w tree.0) ts h.1 ds h.2 h.3 (p.1 ∙ ap (λ x. outside (let_word line) ∷ name w ∷ equal ∷ x) tree.1)))
+        let p : IsPhaseSpelled (in_policy k w line s) h.1 = h.4 in
+        subst (HasDeclarations ts) (same e) (policy_here k h.0 ds ts h.1 p.0 w line s q h.2 h.3 p.1 p.2 f)
 
 -- what may end is a text
 pub ends_file : (ts : List Terminal) (r : Reading) (ds : List Declaration)

@@ -7,7 +7,7 @@ use Rattle.nk_lex.specs.declared.kind.Kind.TheVariants as kind
 use Rattle.nk_lex.specs.declared.token.Token.{Token}
 use Rattle.nk_lex.specs.Lex.{largest}
 use Rattle.nk_grammar.specs.Terminal.{Terminal, number, opening, terminal_from, terminal_of}
-use Rattle.nk_grammar.specs.File.{Declaration, IsWritten, Written, written_field, written_tag, written_switch, written_declared_link, written_let, spell_declaration, spell_file, declared}
+use Rattle.nk_grammar.specs.File.{Declaration, IsWritten, Written, written_field, written_tag, written_switch, written_declared_link, written_let, written_fabric, written_virtual, spell_declaration, spell_file, declared}
 use Rattle.nk_grammar.specs.FileMachine.{file_of}
 use Rattle.nk_grammar.specs.Answer.{terminals, IsAnswer}
 use Rattle.nk_grammar.proofs.Answering.{answers}
@@ -40,6 +40,8 @@ written_one (written_tag w) rest h = tt
 written_one (written_switch n p ps) rest h = tt
 written_one (written_declared_link a m b n) rest h = tt
 written_one (written_let line w p) rest h = tt
+written_one (written_fabric line w p) rest h = tt
+written_one (written_virtual a m b n w) rest h = tt
 
 pub written_all : (ws : List Written) → All IsSmall (spell_file ws) → All IsWritten (map declared ws)
 written_all [] h = All-nil IsWritten

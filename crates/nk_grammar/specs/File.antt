@@ -5,7 +5,7 @@ use Rattle.nk_lex.specs.declared.word.Word.{Word}
 use Rattle.nk_lex.specs.declared.word.Number.{Number}
 use Rattle.nk_grammar.specs.declared.decl.Decl.{Decl}
 use Rattle.nk_grammar.specs.declared.decl.Decl.TheVariants as decl
-use Rattle.nk_grammar.specs.Terminal.{Terminal, name, number, equal, colon, outside, field_word, tag_word, switch_word, ports_word, link_word, let_word, arrow, comma}
+use Rattle.nk_grammar.specs.Terminal.{Terminal, name, number, equal, colon, outside, field_word, tag_word, switch_word, ports_word, link_word, let_word, fabric_word, virtual_word, by_word, arrow, comma}
 use Rattle.nk_grammar.specs.Tree.{Tree, tree_of}
 use Rattle.nk_grammar.specs.Grammar.{Pol, spell_pol, pol_tree}
 
@@ -16,6 +16,9 @@ pub data Declaration : Type 0 where
   switch : Number → (ports : List Number) → Declaration
   declared_link : Number → Number → Number → Number → Declaration
   definition : Word → Tree → (line : ℕ) → Declaration
+  fabric : Word → Tree → (line : ℕ) → Declaration
+  -- the ends, and the name of the fabric
+  virtual_link : Number → Number → Number → Number → Word → Declaration
 
 -- the plain value of a declaration that the program holds
 abbrev pub declaration_of : Decl → Declaration
@@ -24,15 +27,20 @@ declaration_of (decl.Tag w) = tag w
 declaration_of (decl.Switch n ps) = switch n ps
 declaration_of (decl.Link a m b n) = declared_link a m b n
 declaration_of (decl.Let w p line) = definition w (tree_of p) line
+declaration_of (decl.Fabric w p line) = fabric w (tree_of p) line
+declaration_of (decl.Virtual a m b n w) = virtual_link a m b n w
 
 -- decl : field NAME NUMBER | tag NAME | switch NUMBER ports NUMBER { , NUMBER }
 --      | link NUMBER : NUMBER -> NUMBER : NUMBER | let NAME = pol
+--      | fabric NAME = pol | virtual NUMBER : NUMBER -> NUMBER : NUMBER by NAME
 pub data Written : Type 0 where
   written_field : Word → Number → Written
   written_tag : Word → Written
   written_switch : Number → (first : Number) → (more : List Number) → Written
   written_declared_link : Number → Number → Number → Number → Written
   written_let : (line : ℕ) → Word → Pol → Written
+  written_fabric : (line : ℕ) → Word → Pol → Written
+  written_virtual : Number → Number → Number → Number → Word → Written
 
 -- further ports
 abbrev pub spell_ports : List Number → List Terminal
@@ -46,6 +54,9 @@ spell_declaration (written_tag w) = outside tag_word ∷ name w ∷ []
 spell_declaration (written_switch n p ps) = outside switch_word ∷ number n ∷ outside ports_word ∷ number p ∷ spell_ports ps
 spell_declaration (written_declared_link a m b n) = outside link_word ∷ number a ∷ colon ∷ number m ∷ outside arrow ∷ number b ∷ colon ∷ number n ∷ []
 spell_declaration (written_let line w p) = outside (let_word line) ∷ name w ∷ equal ∷ spell_pol p
+spell_declaration (written_fabric line w p) = outside (fabric_word line) ∷ name w ∷ equal ∷ spell_pol p
+spell_declaration (written_virtual a m b n w) =
+    outside virtual_word ∷ number a ∷ colon ∷ number m ∷ outside arrow ∷ number b ∷ colon ∷ number n ∷ outside by_word ∷ name w ∷ []
 
 -- what a declaration says
 abbrev pub declared : Written → Declaration
@@ -54,6 +65,8 @@ declared (written_tag w) = tag w
 declared (written_switch n p ps) = switch n (p ∷ ps)
 declared (written_declared_link a m b n) = declared_link a m b n
 declared (written_let line w p) = definition w (pol_tree p) line
+declared (written_fabric line w p) = fabric w (pol_tree p) line
+declared (written_virtual a m b n w) = virtual_link a m b n w
 
 -- file : decl*
 abbrev pub spell_file : List Written → List Terminal

@@ -9,27 +9,32 @@ use Rattle.nk_grammar.specs.declared.place.Quad.{Quad}
 use Rattle.nk_grammar.specs.declared.place.Quad.TheVariants as quad
 use Rattle.nk_grammar.specs.declared.place.QuadNext.{QuadNext}
 use Rattle.nk_grammar.specs.declared.place.QuadNext.TheVariants as next
+use Rattle.nk_grammar.specs.declared.decl.PolicyWord.{PolicyWord}
+use Rattle.nk_grammar.specs.declared.decl.PolicyWord.TheVariants as policies
+use Rattle.nk_grammar.specs.declared.decl.LinkWord.{LinkWord}
+use Rattle.nk_grammar.specs.declared.decl.LinkWord.TheVariants as links
+use Rattle.nk_grammar.specs.declared.decl.Naming.{Naming}
+use Rattle.nk_grammar.specs.declared.decl.Naming.TheVariants as naming
 use Rattle.nk_grammar.specs.declared.decl.GrammarError.{GrammarError}
 use Rattle.nk_grammar.specs.declared.decl.GrammarError.TheVariants as error
-use Rattle.nk_grammar.specs.Terminal.{Terminal, name, outside, field_word, tag_word, switch_word, ports_word, link_word, let_word, comma, is_equal, terminal_of}
+use Rattle.nk_grammar.specs.Terminal.{Terminal, name, outside, field_word, tag_word, switch_word, ports_word, link_word, let_word, fabric_word, virtual_word, by_word, comma, is_equal, terminal_of}
 use Rattle.nk_grammar.specs.Tree.{Tree}
 use Rattle.nk_grammar.specs.Machine.{State, first_state, step, policy_ended, with_number, quad_step}
-use Rattle.nk_grammar.specs.File.{Declaration, field, tag, switch, declared_link, definition, HasDeclarations}
+use Rattle.nk_grammar.specs.File.{Declaration, field, tag, switch, declared_link, definition, fabric, virtual_link, HasDeclarations}
 
 -- what stands before the next token
 pub data Phase : Type 0 where
   between : Phase
-  field_read : Phase
+  name_wanted : Naming → Phase
   field_named : Word → Phase
-  tag_read : Phase
   switch_read : Phase
   switch_numbered : Number → Phase
   port_wanted : Number → List Number → Phase
   port_read : Number → List Number → Phase
-  link_read : Quad → Phase
-  let_read : (line : ℕ) → Phase
-  let_named : Word → (line : ℕ) → Phase
-  in_policy : Word → (line : ℕ) → State → Phase
+  link_read : LinkWord → Quad → Phase
+  by_wanted : Number → Number → Number → Number → Phase
+  policy_named : PolicyWord → Word → (line : ℕ) → Phase
+  in_policy : PolicyWord → Word → (line : ℕ) → State → Phase
 
 -- a text that is read: what may come next, and the declarations that are done
 pub record Reading : Type 0 where
@@ -50,6 +55,11 @@ abbrev pub is_ports : Terminal → Bool
 is_ports (outside ports_word) = true
 is_ports t = false
 
+-- the word `by`
+abbrev pub is_by : Terminal → Bool
+is_by (outside by_word) = true
+is_by t = false
+
 -- a comma
 abbrev pub is_comma : Terminal → Bool
 is_comma (outside comma) = true
@@ -66,48 +76,66 @@ with_name t other f = by_name (name_in t) other f
 
 -- a declaration begins
 abbrev pub begin_declaration : List Declaration → Terminal → Option Reading
-begin_declaration ds (outside field_word) = Some (reading field_read ds)
-begin_declaration ds (outside tag_word) = Some (reading tag_read ds)
+begin_declaration ds (outside field_word) = Some (reading (name_wanted naming.Field) ds)
+begin_declaration ds (outside tag_word) = Some (reading (name_wanted naming.Tag) ds)
 begin_declaration ds (outside switch_word) = Some (reading switch_read ds)
-begin_declaration ds (outside link_word) = Some (reading (link_read quad.Start) ds)
-begin_declaration ds (outside (let_word line)) = Some (reading (let_read line) ds)
+begin_declaration ds (outside link_word) = Some (reading (link_read links.Link quad.Start) ds)
+begin_declaration ds (outside (let_word line)) = Some (reading (name_wanted (naming.Policy policies.Let line)) ds)
+begin_declaration ds (outside (fabric_word line)) = Some (reading (name_wanted (naming.Policy policies.Fabric line)) ds)
+begin_declaration ds (outside virtual_word) = Some (reading (link_read links.Virtual quad.Start) ds)
 begin_declaration ds t = None
 
 -- the declarations and one more
 abbrev pub one_more : List Declaration → Declaration → List Declaration
 one_more ds d = ds ++ d ∷ []
 
--- one more token of a declared link
-abbrev pub link_on : List Declaration → QuadNext → Option Reading
-link_on ds next.Refused = None
-link_on ds (next.Going q) = Some (reading (link_read q) ds)
-link_on ds (next.Full a m b n) = Some (reading between (one_more ds (declared_link a m b n)))
+-- the declaration that a policy is, by the word that it began with
+abbrev pub defined : PolicyWord → Word → Tree → ℕ → Declaration
+defined policies.Let w p line = definition w p line
+defined policies.Fabric w p line = fabric w p line
+
+-- the name of something
+abbrev pub named : Naming → Word → List Declaration → Reading
+named naming.Field w ds = reading (field_named w) ds
+named naming.Tag w ds = reading between (one_more ds (tag w))
+named (naming.Policy k line) w ds = reading (policy_named k w line) ds
+named (naming.Virtual a m b n) w ds = reading between (one_more ds (virtual_link a m b n w))
+
+-- a link is read, and a virtual one goes on
+abbrev pub linked : LinkWord → Number → Number → Number → Number → List Declaration → Reading
+linked links.Link a m b n ds = reading between (one_more ds (declared_link a m b n))
+linked links.Virtual a m b n ds = reading (by_wanted a m b n) ds
+
+-- one more token of a link
+abbrev pub link_on : LinkWord → List Declaration → QuadNext → Option Reading
+link_on k ds next.Refused = None
+link_on k ds (next.Going q) = Some (reading (link_read k q) ds)
+link_on k ds (next.Full a m b n) = Some (linked k a m b n ds)
 
 -- a declaration begins behind a policy that may end there
-abbrev pub policy_done : Word → ℕ → List Declaration → Option Tree → Terminal → Option Reading
-policy_done w line ds None t = None
-policy_done w line ds (Some p) t = begin_declaration (one_more ds (definition w p line)) t
+abbrev pub policy_done : PolicyWord → Word → ℕ → List Declaration → Option Tree → Terminal → Option Reading
+policy_done k w line ds None t = None
+policy_done k w line ds (Some p) t = begin_declaration (one_more ds (defined k w p line)) t
 
 -- a policy goes on, or ends before the token
-abbrev pub policy_on : Word → ℕ → List Declaration → Option State → Option Tree → Terminal → Option Reading
-policy_on w line ds (Some s) e t = Some (reading (in_policy w line s) ds)
-policy_on w line ds None e t = policy_done w line ds e t
+abbrev pub policy_on : PolicyWord → Word → ℕ → List Declaration → Option State → Option Tree → Terminal → Option Reading
+policy_on k w line ds (Some s) e t = Some (reading (in_policy k w line s) ds)
+policy_on k w line ds None e t = policy_done k w line ds e t
 
 -- one more token, by what may come next
 abbrev pub next_reading : Phase → List Declaration → Terminal → Option Reading
 next_reading between ds t = begin_declaration ds t
-next_reading field_read ds t = with_name t None (λ w. Some (reading (field_named w) ds))
+next_reading (name_wanted k) ds t = with_name t None (λ w. Some (named k w ds))
 next_reading (field_named w) ds t = with_number t None (λ n. Some (reading between (one_more ds (field w n))))
-next_reading tag_read ds t = with_name t None (λ w. Some (reading between (one_more ds (tag w))))
 next_reading switch_read ds t = with_number t None (λ n. Some (reading (switch_numbered n) ds))
 next_reading (switch_numbered n) ds t = if is_ports t then Some (reading (port_wanted n []) ds) else None
 next_reading (port_wanted n ps) ds t = with_number t None (λ p. Some (reading (port_read n (ps ++ p ∷ [])) ds))
 next_reading (port_read n ps) ds t =
     if is_comma t then Some (reading (port_wanted n ps) ds) else begin_declaration (one_more ds (switch n ps)) t
-next_reading (link_read q) ds t = link_on ds (quad_step false q t)
-next_reading (let_read line) ds t = with_name t None (λ w. Some (reading (let_named w line) ds))
-next_reading (let_named w line) ds t = if is_equal t then Some (reading (in_policy w line first_state) ds) else None
-next_reading (in_policy w line s) ds t = policy_on w line ds (step s t) (policy_ended s) t
+next_reading (link_read k q) ds t = link_on k ds (quad_step false q t)
+next_reading (by_wanted a m b n) ds t = if is_by t then Some (reading (name_wanted (naming.Virtual a m b n)) ds) else None
+next_reading (policy_named k w line) ds t = if is_equal t then Some (reading (in_policy k w line first_state) ds) else None
+next_reading (in_policy k w line s) ds t = policy_on k w line ds (step s t) (policy_ended s) t
 
 -- one more token
 abbrev pub read_one : Reading → Terminal → Option Reading
@@ -126,7 +154,7 @@ first_reading = reading between []
 abbrev pub text_ended : Phase → List Declaration → Option (List Declaration)
 text_ended between ds = Some ds
 text_ended (port_read n ps) ds = Some (one_more ds (switch n ps))
-text_ended (in_policy w line s) ds = option_map (λ p. one_more ds (definition w p line)) (policy_ended s)
+text_ended (in_policy k w line s) ds = option_map (λ p. one_more ds (defined k w p line)) (policy_ended s)
 text_ended p ds = None
 
 -- the same of a state
@@ -135,7 +163,7 @@ declarations_at_end r = text_ended r.phase r.declarations
 
 -- how many parentheses and `~` are open
 abbrev pub open_in_phase : Phase → ℕ
-open_in_phase (in_policy w line s) = length s.frames
+open_in_phase (in_policy k w line s) = length s.frames
 open_in_phase p = 0
 
 -- the same of a state

@@ -10,22 +10,21 @@ use Rattle.nk_grammar.specs.declared.text.Reader.{Reader}
 use Rattle.nk_grammar.specs.Machine.{State}
 use Rattle.nk_grammar.specs.Reader.{reader_state}
 use Rattle.nk_grammar.specs.File.{Declaration, declaration_of}
-use Rattle.nk_grammar.specs.FileMachine.{Phase, between, field_read, field_named, tag_read, switch_read, switch_numbered, port_wanted, port_read, link_read, let_read, let_named, in_policy}
+use Rattle.nk_grammar.specs.FileMachine.{Phase, between, name_wanted, field_named, switch_read, switch_numbered, port_wanted, port_read, link_read, by_wanted, policy_named, in_policy}
 
 -- what stands before the next token
 abbrev pub phase_of : Stage → State → Phase
 phase_of stage.Between s = between
-phase_of stage.Field s = field_read
+phase_of (stage.Name k) s = name_wanted k
 phase_of (stage.FieldNamed w) s = field_named w
-phase_of stage.Tag s = tag_read
 phase_of stage.Switch s = switch_read
 phase_of (stage.SwitchNumbered n) s = switch_numbered n
 phase_of (stage.Ports n ps) s = port_wanted n ps.items
 phase_of (stage.PortRead n ps) s = port_read n ps.items
-phase_of (stage.Link q) s = link_read q
-phase_of (stage.Let line) s = let_read line
-phase_of (stage.LetNamed w line) s = let_named w line
-phase_of (stage.Policy w line) s = in_policy w line s
+phase_of (stage.Link k q) s = link_read k q
+phase_of (stage.By a m b n) s = by_wanted a m b n
+phase_of (stage.PolicyNamed k w line) s = policy_named k w line
+phase_of (stage.Policy k w line) s = in_policy k w line s
 
 -- what a reader is to the machine, which keeps the declarations too
 abbrev pub phase_in : Reader → Phase

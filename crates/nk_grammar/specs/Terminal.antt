@@ -14,6 +14,9 @@ pub data Outside : Type 0 where
   ports_word : Outside
   link_word : Outside
   let_word : (line : ℕ) → Outside
+  fabric_word : (line : ℕ) → Outside
+  virtual_word : Outside
+  by_word : Outside
   arrow : Outside
   comma : Outside
   certificate_word : Outside
@@ -67,6 +70,9 @@ terminal_from kind.Switch line value text = outside switch_word
 terminal_from kind.Ports line value text = outside ports_word
 terminal_from kind.Link line value text = outside link_word
 terminal_from kind.Let line value text = outside (let_word line)
+terminal_from kind.Fabric line value text = outside (fabric_word line)
+terminal_from kind.Virtual line value text = outside virtual_word
+terminal_from kind.By line value text = outside by_word
 terminal_from kind.Arrow line value text = outside arrow
 terminal_from kind.Comma line value text = outside comma
 terminal_from kind.Certificate line value text = outside certificate_word

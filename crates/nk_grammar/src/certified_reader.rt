@@ -127,9 +127,10 @@ impl CertifiedReader {
     /// Reads one more token, and hands out the declaration or row that it completes. A fault of the grammar is no error here: it is
     /// kept, and `end` answers it.
     ///
-    /// A field, a tag or a link is completed by its last token, a switch or a `let` by the token behind it, and a row by the word `row`
-    /// behind it; the last row is what `end` answers. `AllocError` says that memory ran out, and then nothing changed, so the token can
-    /// be taken again. Once the tokens have a fault, nothing is completed, nothing changes any more and no memory is taken.
+    /// A field, a tag, a link or a virtual link is completed by its last token, a switch, a `let` or a fabric by the token behind it, and
+    /// a row by the word `row` behind it; the last row is what `end` answers. `AllocError` says that memory ran out, and then nothing
+    /// changed, so the token can be taken again. Once the tokens have a fault, nothing is completed, nothing changes any more and no
+    /// memory is taken.
     pub fn take(&mut self, alloc: Global, token: &Token) -> Result<Option<Completed>, AllocError>
         ensures tokens { (ts : List Token) (ds : List Declaration) (rs : List Row) → IsRead ts ds rs self.old
             → IfOk result (λ o. IsRead (ts ++ token.now ∷ []) (ds ++ declarations_by o) (rs ++ rows_by o) self.new) }

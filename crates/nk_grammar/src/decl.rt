@@ -22,6 +22,10 @@ pub enum Decl {
     Link(Number, Number, Number, Number),
     /// `let NAME = pol`, with the line of the word `let`.
     Let(Word, Ast, u64),
+    /// `fabric NAME = pol`, with the line of the word `fabric`.
+    Fabric(Word, Ast, u64),
+    /// `virtual NUMBER:NUMBER -> NUMBER:NUMBER by NAME`: switch and port of the source, then of the target, and the name of the fabric.
+    Virtual(Number, Number, Number, Number, Word),
 }
 
 /// A row of a certificate, with the line of the word `row`.
@@ -53,25 +57,51 @@ pub enum Completed {
     Row(CertRow),
 }
 
+/// The word that the declaration of a policy begins with.
+#[derive(Clone, Copy)]
+pub enum PolicyWord {
+    Let,
+    Fabric,
+}
+
+/// The word that the declaration of a link begins with.
+#[derive(Clone, Copy)]
+pub enum LinkWord {
+    Link,
+    Virtual,
+}
+
+/// Of what a name is wanted.
+#[derive(Clone, Copy)]
+pub enum Naming {
+    Field,
+    Tag,
+    /// Of a policy, with the line of the word that its declaration begins with.
+    Policy(PolicyWord, u64),
+    /// Of the fabric of a virtual link with these ends.
+    Virtual(Number, Number, Number, Number),
+}
+
 /// What has been read before the next token of a text.
 #[derive(Drop)]
 pub enum Stage {
     /// A declaration is wanted, or the end.
     Between,
-    Field,
+    /// The name is wanted.
+    Name(Naming),
     FieldNamed(Word),
-    Tag,
     Switch,
     SwitchNumbered(Number),
     /// The number of a port is wanted.
     Ports(Number, Vec<Number>),
     /// The number of a port was read.
     PortRead(Number, Vec<Number>),
-    Link(Quad),
-    Let(u64),
-    LetNamed(Word, u64),
-    /// The policy of a `let`.
-    Policy(Word, u64),
+    Link(LinkWord, Quad),
+    /// The word `by` is wanted.
+    By(Number, Number, Number, Number),
+    PolicyNamed(PolicyWord, Word, u64),
+    /// The policy itself.
+    Policy(PolicyWord, Word, u64),
 }
 
 /// Why tokens are no text: their first fault, or want of memory.

@@ -8,6 +8,8 @@
 //!         | switch NUMBER ports NUMBER { , NUMBER }
 //!         | link NUMBER : NUMBER -> NUMBER : NUMBER
 //!         | let NAME = pol
+//!         | fabric NAME = pol
+//!         | virtual NUMBER : NUMBER -> NUMBER : NUMBER by NAME
 //! start   : row start : pol
 //! more    : row NUMBER { NUMBER } : pol
 //! pol     : term { + term }

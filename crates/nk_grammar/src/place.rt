@@ -2,7 +2,7 @@
 use nk_lex::{Number, Word};
 
 /// How much of `NUMBER : NUMBER => NUMBER : NUMBER` has been read.
-#[derive(Clone, Copy, Debug, PartialEq, Eq)]
+#[derive(Clone, Copy)]
 pub enum Quad {
     /// Nothing yet.
     Start,
@@ -21,7 +21,7 @@ pub enum Quad {
 }
 
 /// What one more token makes of a part of a link.
-#[derive(Clone, Copy, Debug, PartialEq, Eq)]
+#[derive(Clone, Copy)]
 pub enum QuadNext {
     /// No link can continue with it.
     Refused,

@@ -6,29 +6,30 @@ ghost use Rattle.nk_grammar.specs.FileMachine.{
   Returns,
   begin_declaration,
   declarations_at_end,
+  defined,
   ended_at,
-  field_read,
   file_of,
   first_reading,
   in_policy,
   judged,
-  let_named,
-  let_read,
   link_read,
+  name_wanted,
   next_reading,
+  policy_named,
   policy_on,
   port_read,
   port_wanted,
   read_one,
   reading,
-  tag_read,
 };
 ghost use Rattle.nk_grammar.specs.FileReader.{StaysWithoutMemory, declaration_done, phase_in};
 ghost use Rattle.nk_grammar.specs.Machine.{policy_ended, step};
 ghost use Rattle.nk_grammar.specs.Reader.{reader_state};
 ghost use Rattle.nk_grammar.specs.Terminal.{terminal_of};
+ghost use Rattle.nk_grammar.specs.Tree.{tree_of};
 
-use crate::decl::{Decl, File, GrammarError, Stage};
+use crate::ast::Ast;
+use crate::decl::{Decl, File, GrammarError, LinkWord, Naming, PolicyWord, Stage};
 use crate::frame::Took;
 use crate::parts::{name_of, number_of, quad_after};
 use crate::place::{Quad, QuadNext};
@@ -37,6 +38,16 @@ use nk_field::List;
 use nk_lex::{Kind, Number, Token, Word};
 use std::alloc::{AllocError, AllocFailed, Global};
 use std::mem::replace;
+
+/// The declaration of a policy.
+fn policy_of(word: PolicyWord, name: Word, policy: Ast, line: u64) -> Decl
+    ensures { declaration_of result ≡ defined word name (tree_of policy) line }
+{
+    match word {
+        PolicyWord::Let => Decl::Let(name, policy, line),
+        PolicyWord::Fabric => Decl::Fabric(name, policy, line),
+    }
+}
 
 /// Reads a text token by token. It keeps what may come next, and the policy that is being read. A declaration is handed out by the token
 /// that completes it. A token for which memory runs out changes nothing; after a fault nothing is said of the state.
@@ -74,11 +85,23 @@ impl Reader {
         ensures err { IfErr result (λ e. e ≡ GrammarError.Unexpected token.now.line) }
     {
         match token.kind {
-            Kind::Field => self.go(Stage::Field, done),
-            Kind::Tag => self.go(Stage::Tag, done),
+            Kind::Field => self.go(Stage::Name(Naming::Field), done),
+            Kind::Tag => self.go(Stage::Name(Naming::Tag), done),
             Kind::Switch => self.go(Stage::Switch, done),
-            Kind::Link => self.go(Stage::Link(Quad::Start), done),
-            Kind::Let => self.go(Stage::Let(token.line), done),
+            Kind::Link => self.go(Stage::Link(LinkWord::Link, Quad::Start), done),
+            Kind::Virtual => self.go(Stage::Link(LinkWord::Virtual, Quad::Start), done),
+            Kind::Let => {
+                self.go(
+                    Stage::Name(Naming::Policy(PolicyWord::Let, token.line)),
+                    done,
+                )
+            }
+            Kind::Fabric => {
+                self.go(
+                    Stage::Name(Naming::Policy(PolicyWord::Fabric, token.line)),
+                    done,
+                )
+            }
             _ => Err(GrammarError::Unexpected { line: token.line }),
         }
     }
@@ -86,16 +109,17 @@ impl Reader {
     /// A policy took a token.
     fn go_in_policy(
         &mut self,
+        word: PolicyWord,
         name: Word,
         line: u64,
         token: &Token,
     ) -> Result<Option<Decl>, GrammarError>
         ensures read { Returns (λ d. reading (phase_in self.new) (declaration_done d)) result
-            (judged token.now.line (Some (reading (in_policy name line (reader_state self.old.policy)) []))) }
+            (judged token.now.line (Some (reading (in_policy word name line (reader_state self.old.policy)) []))) }
         ensures err { IfErr result (λ e. e ≡ GrammarError.TooDeep token.now.line) }
     {
         if self.policy.is_shallow() {
-            self.go(Stage::Policy(name, line), None)
+            self.go(Stage::Policy(word, name, line), None)
         } else {
             Err(GrammarError::TooDeep { line: token.line })
         }
@@ -105,22 +129,25 @@ impl Reader {
     fn take_in_policy(
         &mut self,
         alloc: Global,
+        word: PolicyWord,
         name: Word,
         line: u64,
         token: &Token,
     ) -> Result<Option<Decl>, GrammarError>
         ensures read { Returns (λ d. reading (phase_in self.new) (declaration_done d)) result
-            (judged token.now.line (policy_on name line []
+            (judged token.now.line (policy_on word name line []
             (step (reader_state self.old.policy) (terminal_of token.now))
             (policy_ended (reader_state self.old.policy)) (terminal_of token.now))) }
-        ensures kept { StaysWithoutMemory result (in_policy name line (reader_state self.old.policy)) (phase_in self.new) }
+        ensures kept { StaysWithoutMemory result (in_policy word name line (reader_state self.old.policy)) (phase_in self.new) }
     {
         match self.policy.take(alloc, token) {
-            Ok(Took::Taken) => self.go_in_policy(name, line, token),
-            Ok(Took::Ended(policy)) => self.begin(Some(Decl::Let(name, policy, line)), token),
+            Ok(Took::Taken) => self.go_in_policy(word, name, line, token),
+            Ok(Took::Ended(policy)) => {
+                self.begin(Some(policy_of(word, name, policy, line)), token)
+            }
             Ok(Took::Refused) => Err(GrammarError::Unexpected { line: token.line }),
             Err(AllocError) => {
-                self.stage = Stage::Policy(name, line);
+                self.stage = Stage::Policy(word, name, line);
                 Err(GrammarError::NoMemory)
             }
         }
@@ -167,92 +194,72 @@ impl Reader {
         }
     }
 
-    /// One more token of a declared link.
-    fn take_link(&mut self, quad: Quad, token: &Token) -> Result<Option<Decl>, GrammarError>
+    /// One more token of a link.
+    fn take_link(
+        &mut self,
+        word: LinkWord,
+        quad: Quad,
+        token: &Token,
+    ) -> Result<Option<Decl>, GrammarError>
         ensures read { Returns (λ d. reading (phase_in self.new) (declaration_done d)) result
-            (judged token.now.line (next_reading (link_read quad) [] (terminal_of token.now))) }
+            (judged token.now.line (next_reading (link_read word quad) [] (terminal_of token.now))) }
         ensures err { IfErr result (λ e. e ≡ GrammarError.Unexpected token.now.line) }
     {
         match quad_after(false, quad, token) {
             QuadNext::Refused => Err(GrammarError::Unexpected { line: token.line }),
-            QuadNext::Going(quad) => self.go(Stage::Link(quad), None),
-            QuadNext::Full(a, m, b, n) => self.go(Stage::Between, Some(Decl::Link(a, m, b, n))),
+            QuadNext::Going(quad) => self.go(Stage::Link(word, quad), None),
+            QuadNext::Full(a, m, b, n) => match word {
+                LinkWord::Link => self.go(Stage::Between, Some(Decl::Link(a, m, b, n))),
+                LinkWord::Virtual => self.go(Stage::By(a, m, b, n), None),
+            },
         }
     }
 
-    /// The name of a field is wanted.
-    fn take_field_name(
+    /// A name is wanted.
+    fn take_name(
         &mut self,
         alloc: Global,
+        naming: Naming,
         token: &Token,
     ) -> Result<Option<Decl>, GrammarError>
         ensures read { Returns (λ d. reading (phase_in self.new) (declaration_done d)) result
-            (judged token.now.line (next_reading field_read [] (terminal_of token.now))) }
-        ensures kept { StaysWithoutMemory result field_read (phase_in self.new) }
+            (judged token.now.line (next_reading (name_wanted naming) [] (terminal_of token.now))) }
+        ensures kept { StaysWithoutMemory result (name_wanted naming) (phase_in self.new) }
     {
         match name_of(alloc, token) {
-            Ok(Some(name)) => self.go(Stage::FieldNamed(name), None),
+            Ok(Some(name)) => match naming {
+                Naming::Field => self.go(Stage::FieldNamed(name), None),
+                Naming::Tag => self.go(Stage::Between, Some(Decl::Tag(name))),
+                Naming::Policy(word, line) => self.go(Stage::PolicyNamed(word, name, line), None),
+                Naming::Virtual(a, m, b, n) => {
+                    self.go(Stage::Between, Some(Decl::Virtual(a, m, b, n, name)))
+                }
+            },
             Ok(None) => Err(GrammarError::Unexpected { line: token.line }),
             Err(AllocError) => {
-                self.stage = Stage::Field;
+                self.stage = Stage::Name(naming);
                 Err(GrammarError::NoMemory)
             }
         }
     }
 
-    /// The name of a tag is wanted.
-    fn take_tag_name(&mut self, alloc: Global, token: &Token) -> Result<Option<Decl>, GrammarError>
-        ensures read { Returns (λ d. reading (phase_in self.new) (declaration_done d)) result
-            (judged token.now.line (next_reading tag_read [] (terminal_of token.now))) }
-        ensures kept { StaysWithoutMemory result tag_read (phase_in self.new) }
-    {
-        match name_of(alloc, token) {
-            Ok(Some(name)) => self.go(Stage::Between, Some(Decl::Tag(name))),
-            Ok(None) => Err(GrammarError::Unexpected { line: token.line }),
-            Err(AllocError) => {
-                self.stage = Stage::Tag;
-                Err(GrammarError::NoMemory)
-            }
-        }
-    }
-
-    /// The name of a `let` is wanted.
-    fn take_let_name(
+    /// The `=` before a policy is wanted.
+    fn take_sign(
         &mut self,
         alloc: Global,
-        line: u64,
-        token: &Token,
-    ) -> Result<Option<Decl>, GrammarError>
-        ensures read { Returns (λ d. reading (phase_in self.new) (declaration_done d)) result
-            (judged token.now.line (next_reading (let_read line) [] (terminal_of token.now))) }
-        ensures kept { StaysWithoutMemory result (let_read line) (phase_in self.new) }
-    {
-        match name_of(alloc, token) {
-            Ok(Some(name)) => self.go(Stage::LetNamed(name, line), None),
-            Ok(None) => Err(GrammarError::Unexpected { line: token.line }),
-            Err(AllocError) => {
-                self.stage = Stage::Let(line);
-                Err(GrammarError::NoMemory)
-            }
-        }
-    }
-
-    /// The `=` of a `let` is wanted.
-    fn take_let_sign(
-        &mut self,
-        alloc: Global,
+        word: PolicyWord,
         name: Word,
         line: u64,
         token: &Token,
     ) -> Result<Option<Decl>, GrammarError>
         ensures read { Returns (λ d. reading (phase_in self.new) (declaration_done d)) result
-            (judged token.now.line (next_reading (let_named name line) [] (terminal_of token.now))) }
+            (judged token.now.line (next_reading (policy_named word name line) [] (terminal_of token.now))) }
         ensures err { IfErr result (λ e. e ≡ GrammarError.Unexpected token.now.line) }
     {
         match token.kind {
             Kind::Equal => {
                 self.policy = PolicyReader::new(alloc);
-                self.go(Stage::Policy(name, line), None)
+                self.go(Stage::Policy(word, name, line), None)
             }
             _ => Err(GrammarError::Unexpected { line: token.line }),
         }
@@ -267,12 +274,11 @@ impl Reader {
     {
         match replace(&mut self.stage, Stage::Between) {
             Stage::Between => self.begin(None, token),
-            Stage::Field => self.take_field_name(alloc, token),
+            Stage::Name(naming) => self.take_name(alloc, naming, token),
             Stage::FieldNamed(name) => match number_of(token) {
                 Some(number) => self.go(Stage::Between, Some(Decl::Field(name, number))),
                 None => Err(GrammarError::Unexpected { line: token.line }),
             },
-            Stage::Tag => self.take_tag_name(alloc, token),
             Stage::Switch => match number_of(token) {
                 Some(number) => self.go(Stage::SwitchNumbered(number), None),
                 None => Err(GrammarError::Unexpected { line: token.line }),
@@ -283,10 +289,13 @@ impl Reader {
             },
             Stage::Ports(number, ports) => self.take_port(number, ports, token),
             Stage::PortRead(number, ports) => self.take_after_port(number, ports, token),
-            Stage::Link(quad) => self.take_link(quad, token),
-            Stage::Let(line) => self.take_let_name(alloc, line, token),
-            Stage::LetNamed(name, line) => self.take_let_sign(alloc, name, line, token),
-            Stage::Policy(name, line) => self.take_in_policy(alloc, name, line, token),
+            Stage::Link(word, quad) => self.take_link(word, quad, token),
+            Stage::By(a, m, b, n) => match token.kind {
+                Kind::By => self.go(Stage::Name(Naming::Virtual(a, m, b, n)), None),
+                _ => Err(GrammarError::Unexpected { line: token.line }),
+            },
+            Stage::PolicyNamed(word, name, line) => self.take_sign(alloc, word, name, line, token),
+            Stage::Policy(word, name, line) => self.take_in_policy(alloc, word, name, line, token),
         }
     }
 
@@ -302,11 +311,11 @@ impl Reader {
             Stage::PortRead(number, ports) => {
                 Ok(Some(Decl::Switch(number, List::from_vec(ports))))
             }
-            Stage::Policy(name, of_let) => match self.policy.end(alloc) {
-                Ok(Some(policy)) => Ok(Some(Decl::Let(name, policy, of_let))),
+            Stage::Policy(word, name, of_word) => match self.policy.end(alloc) {
+                Ok(Some(policy)) => Ok(Some(policy_of(word, name, policy, of_word))),
                 Ok(None) => Err(GrammarError::Unexpected { line }),
                 Err(AllocError) => {
-                    self.stage = Stage::Policy(name, of_let);
+                    self.stage = Stage::Policy(word, name, of_word);
                     Err(GrammarError::NoMemory)
                 }
             },

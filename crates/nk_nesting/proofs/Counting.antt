@@ -3,7 +3,7 @@ use Rattle.std.proofs.Common.{◌≤◌, ℕ, suc, subst, List, [], ◌∷◌, �
 use Rattle.nk_lex.specs.declared.word.Number.{Number}
 use Rattle.nk_grammar.specs.Terminal.{Terminal, plus_sign, semicolon, star_sign, closing}
 use Rattle.nk_grammar.specs.Grammar.{Pol, Term, Factor, Atom, one_term, plus, one_factor, semi, plain, starred, written_not, written_id, written_drop, written_dup, written_name, written_test, written_range, written_set, written_link, paren, spell_pol, spell_term, spell_factor, spell_atom}
-use Rattle.nk_grammar.specs.File.{Written, written_field, written_tag, written_switch, written_declared_link, written_let, spell_ports, spell_declaration, spell_file}
+use Rattle.nk_grammar.specs.File.{Written, written_field, written_tag, written_switch, written_declared_link, written_let, written_fabric, written_virtual, spell_ports, spell_declaration, spell_file}
 use Rattle.nk_nesting.specs.Counts.{open_in_pol, open_in_term, open_in_factor, open_in_atom, open_in_ports, open_in_declaration, open_in_file, GoWith}
 
 -- counts and tokens, each in three parts
@@ -72,6 +72,10 @@ declaration_goes (written_declared_link a m b n) js r go =
     (omega arith, (omega arith, (omega arith, (omega arith, (omega arith, (omega arith, (omega arith, (omega arith, go))))))))
 declaration_goes (written_let line w p) js r go =
     (omega arith, (omega arith, (omega arith, pol_goes p 0 js r go)))
+declaration_goes (written_fabric line w p) js r go =
+    (omega arith, (omega arith, (omega arith, pol_goes p 0 js r go)))
+declaration_goes (written_virtual a m b n w) js r go =
+    (omega arith, (omega arith, (omega arith, (omega arith, (omega arith, (omega arith, (omega arith, (omega arith, (omega arith, (omega arith, go))))))))))
 
 -- a text, and what stands behind it
 pub file_goes : (ws : List Written) (js : List ℕ) (r : List Terminal) → GoWith 0 js r

@@ -5,12 +5,14 @@ use Rattle.std.specs.Prelude.{Some, None, IsSomeAnd, option_and_then}
 use Rattle.nk_lex.specs.declared.word.Word.{Word}
 use Rattle.nk_lex.specs.declared.word.Number.{Number}
 use Rattle.nk_grammar.specs.declared.place.Place.TheVariants as place
-use Rattle.nk_grammar.specs.Terminal.{Terminal, Outside, name, number, equal, colon, outside, ports_word, arrow, plus_sign, semicolon, star_sign, closing, field_word, tag_word, switch_word, link_word, let_word}
+use Rattle.nk_grammar.specs.declared.decl.PolicyWord.{PolicyWord}
+use Rattle.nk_grammar.specs.declared.decl.PolicyWord.TheVariants as policies
+use Rattle.nk_grammar.specs.Terminal.{Terminal, Outside, name, number, equal, colon, outside, ports_word, arrow, plus_sign, semicolon, star_sign, closing, field_word, tag_word, switch_word, link_word, let_word, fabric_word, virtual_word, by_word}
 use Rattle.nk_grammar.specs.Tree.{Tree, Trees, name_of, not_of, no_part, with_part, sum_from}
 use Rattle.nk_grammar.specs.Grammar.{Pol, Term, Factor, Atom, one_term, plus, one_factor, semi, plain, starred, written_not, written_id, written_drop, written_dup, written_name, written_test, written_range, written_set, written_link, paren, spell_pol, spell_term, spell_factor, spell_atom, terms_of, factors_of, factor_tree, atom_tree, pol_tree}
 use Rattle.nk_grammar.specs.Machine.{Open, group, negation, State, state, first_state, atom_ended, run, step, policy_ended, HasNoNegation}
-use Rattle.nk_grammar.specs.File.{Declaration, Written, written_field, written_tag, written_switch, written_declared_link, written_let, spell_ports, spell_declaration, spell_file, declared, definition, switch}
-use Rattle.nk_grammar.specs.FileMachine.{Reading, reading, between, in_policy, port_read, policy_on, policy_done, one_more, open_count, read_one}
+use Rattle.nk_grammar.specs.File.{Declaration, Written, written_field, written_tag, written_switch, written_declared_link, written_let, written_fabric, written_virtual, spell_ports, spell_declaration, spell_file, declared, switch}
+use Rattle.nk_grammar.specs.FileMachine.{Reading, reading, between, in_policy, port_read, policy_on, policy_done, one_more, defined, open_count, read_one}
 use Rattle.nk_grammar.proofs.Spelled.{IsFree, has_star, term_has_star, pol_has_star, early, late, early_late, one_star, step_atom}
 use Rattle.nk_grammar.proofs.Texts.{outside_refused, left_by}
 use Rattle.nk_nesting.specs.Counts.{open_in_pol, open_in_term, open_in_factor, open_in_atom, open_in_ports, open_in_declaration, open_in_file}
@@ -136,22 +138,22 @@ ReadsAlong (k ∷ ks) (t ∷ ts) r =
     IsSomeAnd (read_one r t) (λ s. (k ≤ open_count s) × (k ≤ 256 → (open_count s ≤ 256) × ReadsAlong ks ts s))
 
 -- a policy inside a declaration
-policy_along : (w : Word) (line : ℕ) (ds : List Declaration) (ks js : List ℕ) (xs r : List Terminal) (s s' : State)
-    → Follows ks xs s → run xs s ≡ Some s' → ReadsAlong js r (reading (in_policy w line s') ds)
-    → ReadsAlong (ks ++ js) (xs ++ r) (reading (in_policy w line s) ds)
-policy_along w line ds [] js [] r s s' f e h = subst (λ x. ReadsAlong js r (reading (in_policy w line x) ds)) (sym (same s s' e)) h
+policy_along : (k : PolicyWord) (w : Word) (line : ℕ) (ds : List Declaration) (ks js : List ℕ) (xs r : List Terminal) (s s' : State)
+    → Follows ks xs s → run xs s ≡ Some s' → ReadsAlong js r (reading (in_policy k w line s') ds)
+    → ReadsAlong (ks ++ js) (xs ++ r) (reading (in_policy k w line s) ds)
+policy_along k w line ds [] js [] r s s' f e h = subst (λ x. ReadsAlong js r (reading (in_policy k w line x) ds)) (sym (same s s' e)) h
   where
     same : (x y : State) → ◌≡◌ {A = Option State} (Some x) (Some y) → x ≡ y
     same x y e = cc
-policy_along w line ds [] js (x ∷ xs) r s s' f e h = absurd f
-policy_along w line ds (k ∷ ks) js [] r s s' f e h = absurd f
-policy_along w line ds (k ∷ ks) js (x ∷ xs) r s s' f e h = by_step (step s x) (policy_ended s) f e (λ s g e. policy_along w line ds ks js xs r s s' g e h)
+policy_along k w line ds [] js (x ∷ xs) r s s' f e h = absurd f
+policy_along k w line ds (i ∷ ks) js [] r s s' f e h = absurd f
+policy_along k w line ds (i ∷ ks) js (x ∷ xs) r s s' f e h = by_step (step s x) (policy_ended s) f e (λ s g e. policy_along k w line ds ks js xs r s s' g e h)
   where
     by_step : (o : Option State) (t : Option Tree)
-        → IsSomeAnd o (λ s'. (k ≤ length s'.frames) × (k ≤ 256 → (length s'.frames ≤ 256) × Follows ks xs s'))
+        → IsSomeAnd o (λ s'. (i ≤ length s'.frames) × (i ≤ 256 → (length s'.frames ≤ 256) × Follows ks xs s'))
         → option_and_then (run xs) o ≡ Some s'
-        → ((s : State) → Follows ks xs s → run xs s ≡ Some s' → ReadsAlong (ks ++ js) (xs ++ r) (reading (in_policy w line s) ds))
-        → IsSomeAnd (policy_on w line ds o t x) (λ s. (k ≤ open_count s) × (k ≤ 256 → (open_count s ≤ 256) × ReadsAlong (ks ++ js) (xs ++ r) s))
+        → ((s : State) → Follows ks xs s → run xs s ≡ Some s' → ReadsAlong (ks ++ js) (xs ++ r) (reading (in_policy k w line s) ds))
+        → IsSomeAnd (policy_on k w line ds o t x) (λ s. (i ≤ open_count s) × (i ≤ 256 → (open_count s ≤ 256) × ReadsAlong (ks ++ js) (xs ++ r) s))
     by_step None t g e go = absurd g
     by_step (Some s) t g e go = (g.0, λ few. ((g.1 few).0, go s (g.1 few).1 e))
 
@@ -166,22 +168,24 @@ abbrev Goes : List Written → Reading → Type 0
 Goes ws r = ReadsAlong (open_in_file ws) (spell_file ws) r
 
 -- behind a policy that may end
-behind_policy : (w : Word) (line : ℕ) (ds : List Declaration) (s : State) (p : Tree) (ws : List Written) → policy_ended s ≡ Some p
-    → Goes ws (reading between (one_more ds (definition w p line))) → Goes ws (reading (in_policy w line s) ds)
-behind_policy w line ds s p ws e h = by_first ws h
+behind_policy : (k : PolicyWord) (w : Word) (line : ℕ) (ds : List Declaration) (s : State) (p : Tree) (ws : List Written) → policy_ended s ≡ Some p
+    → Goes ws (reading between (one_more ds (defined k w p line))) → Goes ws (reading (in_policy k w line s) ds)
+behind_policy k w line ds s p ws e h = by_first ws h
   where
-    begins : (z : Outside) → read_one (reading (in_policy w line s) ds) (outside z) ≡ read_one (reading between (one_more ds (definition w p line))) (outside z)
+    begins : (z : Outside) → read_one (reading (in_policy k w line s) ds) (outside z) ≡ read_one (reading between (one_more ds (defined k w p line))) (outside z)
     begins z =
-        ap (λ o. policy_on w line ds o (policy_ended s) (outside z)) (outside_refused s.place s.frames s.terms s.factors z)
-        ∙ ap (λ o. policy_done w line ds o (outside z)) e
+        ap (λ o. policy_on k w line ds o (policy_ended s) (outside z)) (outside_refused s.place s.frames s.terms s.factors z)
+        ∙ ap (λ o. policy_done k w line ds o (outside z)) e
 
-    by_first : (ws : List Written) → Goes ws (reading between (one_more ds (definition w p line))) → Goes ws (reading (in_policy w line s) ds)
+    by_first : (ws : List Written) → Goes ws (reading between (one_more ds (defined k w p line))) → Goes ws (reading (in_policy k w line s) ds)
     by_first [] h = tt
-    by_first (written_field v n ∷ ws) h = same_step (reading (in_policy w line s) ds) (reading between (one_more ds (definition w p line))) 0 (0 ∷ 0 ∷ open_in_file ws) (outside field_word) (name v ∷ number n ∷ spell_file ws) (begins field_word) h
-    by_first (written_tag v ∷ ws) h = same_step (reading (in_policy w line s) ds) (reading between (one_more ds (definition w p line))) 0 (0 ∷ open_in_file ws) (outside tag_word) (name v ∷ spell_file ws) (begins tag_word) h
-    by_first (written_switch n q qs ∷ ws) h = same_step (reading (in_policy w line s) ds) (reading between (one_more ds (definition w p line))) 0 (0 ∷ 0 ∷ 0 ∷ (open_in_ports qs ++ open_in_file ws)) (outside switch_word) (number n ∷ outside ports_word ∷ number q ∷ (spell_ports qs ++ spell_file ws)) (begins switch_word) h
-    by_first (written_declared_link a m b n ∷ ws) h = same_step (reading (in_policy w line s) ds) (reading between (one_more ds (definition w p line))) 0 (0 ∷ 0 ∷ 0 ∷ 0 ∷ 0 ∷ 0 ∷ 0 ∷ open_in_file ws) (outside link_word) (number a ∷ colon ∷ number m ∷ outside arrow ∷ number b ∷ colon ∷ number n ∷ spell_file ws) (begins link_word) h
-    by_first (written_let l v q ∷ ws) h = same_step (reading (in_policy w line s) ds) (reading between (one_more ds (definition w p line))) 0 (0 ∷ 0 ∷ (open_in_pol 0 q ++ open_in_file ws)) (outside (let_word l)) (name v ∷ equal ∷ (spell_pol q ++ spell_file ws)) (begins (let_word l)) h
+    by_first (written_field v n ∷ ws) h = same_step (reading (in_policy k w line s) ds) (reading between (one_more ds (defined k w p line))) 0 (0 ∷ 0 ∷ open_in_file ws) (outside field_word) (name v ∷ number n ∷ spell_file ws) (begins field_word) h
+    by_first (written_tag v ∷ ws) h = same_step (reading (in_policy k w line s) ds) (reading between (one_more ds (defined k w p line))) 0 (0 ∷ open_in_file ws) (outside tag_word) (name v ∷ spell_file ws) (begins tag_word) h
+    by_first (written_switch n q qs ∷ ws) h = same_step (reading (in_policy k w line s) ds) (reading between (one_more ds (defined k w p line))) 0 (0 ∷ 0 ∷ 0 ∷ (open_in_ports qs ++ open_in_file ws)) (outside switch_word) (number n ∷ outside ports_word ∷ number q ∷ (spell_ports qs ++ spell_file ws)) (begins switch_word) h
+    by_first (written_declared_link a m b n ∷ ws) h = same_step (reading (in_policy k w line s) ds) (reading between (one_more ds (defined k w p line))) 0 (0 ∷ 0 ∷ 0 ∷ 0 ∷ 0 ∷ 0 ∷ 0 ∷ open_in_file ws) (outside link_word) (number a ∷ colon ∷ number m ∷ outside arrow ∷ number b ∷ colon ∷ number n ∷ spell_file ws) (begins link_word) h
+    by_first (written_let l v q ∷ ws) h = same_step (reading (in_policy k w line s) ds) (reading between (one_more ds (defined k w p line))) 0 (0 ∷ 0 ∷ (open_in_pol 0 q ++ open_in_file ws)) (outside (let_word l)) (name v ∷ equal ∷ (spell_pol q ++ spell_file ws)) (begins (let_word l)) h
+    by_first (written_fabric l v q ∷ ws) h = same_step (reading (in_policy k w line s) ds) (reading between (one_more ds (defined k w p line))) 0 (0 ∷ 0 ∷ (open_in_pol 0 q ++ open_in_file ws)) (outside (fabric_word l)) (name v ∷ equal ∷ (spell_pol q ++ spell_file ws)) (begins (fabric_word l)) h
+    by_first (written_virtual a m b n v ∷ ws) h = same_step (reading (in_policy k w line s) ds) (reading between (one_more ds (defined k w p line))) 0 (0 ∷ 0 ∷ 0 ∷ 0 ∷ 0 ∷ 0 ∷ 0 ∷ 0 ∷ 0 ∷ open_in_file ws) (outside virtual_word) (number a ∷ colon ∷ number m ∷ outside arrow ∷ number b ∷ colon ∷ number n ∷ outside by_word ∷ name v ∷ spell_file ws) (begins virtual_word) h
 
 -- behind ports
 behind_ports : (n : Number) (qs : List Number) (ds : List Declaration) (ws : List Written)
@@ -192,6 +196,8 @@ behind_ports n qs ds (written_tag v ∷ ws) h = h
 behind_ports n qs ds (written_switch m p ps ∷ ws) h = h
 behind_ports n qs ds (written_declared_link a m b k ∷ ws) h = h
 behind_ports n qs ds (written_let l v p ∷ ws) h = h
+behind_ports n qs ds (written_fabric l v p ∷ ws) h = h
+behind_ports n qs ds (written_virtual a m b k v ∷ ws) h = h
 
 -- a token at which nothing is open
 pub nothing_open : {A : Type 0} → A → (0 ≤ 0) × (0 ≤ 256 → (0 ≤ 256) × A)
@@ -206,6 +212,14 @@ ports_along n qs [] ds ws h =
 ports_along n qs (p ∷ ps) ds ws h =
     nothing_open (nothing_open (ports_along n (qs ++ p ∷ []) ps ds ws (subst (λ x. Goes ws (reading between (one_more ds (switch n x)))) (sym (append_assoc qs (p ∷ []) ps)) h)))
 
+-- a policy, and the declarations behind it
+defined_along : (k : PolicyWord) (line : ℕ) (w : Word) (p : Pol) (ds : List Declaration) (ws : List Written)
+    → Goes ws (reading between (one_more ds (defined k w (pol_tree p) line)))
+    → ReadsAlong (open_in_pol 0 p ++ open_in_file ws) (spell_pol p ++ spell_file ws) (reading (in_policy k w line first_state) ds)
+defined_along k line w p ds ws h =
+    let l = left_by p in
+    policy_along k w line ds (open_in_pol 0 p) (open_in_file ws) (spell_pol p) (spell_file ws) first_state l.0 (policy_follows p) l.1 (behind_policy k w line ds l.0 (pol_tree p) ws l.2 h)
+
 -- a declaration
 declaration_along : (w : Written) (ds : List Declaration) (ws : List Written)
     → Goes ws (reading between (one_more ds (declared w)))
@@ -216,10 +230,10 @@ declaration_along (written_switch n p ps) ds ws h =
     nothing_open (nothing_open (nothing_open (nothing_open (ports_along n (p ∷ []) ps ds ws h))))
 declaration_along (written_declared_link a m b n) ds ws h =
     nothing_open (nothing_open (nothing_open (nothing_open (nothing_open (nothing_open (nothing_open (nothing_open h)))))))
-declaration_along (written_let line w p) ds ws h =
-    let l = left_by p in
-    nothing_open (nothing_open (nothing_open
-    (policy_along w line ds (open_in_pol 0 p) (open_in_file ws) (spell_pol p) (spell_file ws) first_state l.0 (policy_follows p) l.1 (behind_policy w line ds l.0 (pol_tree p) ws l.2 h))))
+declaration_along (written_let line w p) ds ws h = nothing_open (nothing_open (nothing_open (defined_along policies.Let line w p ds ws h)))
+declaration_along (written_fabric line w p) ds ws h = nothing_open (nothing_open (nothing_open (defined_along policies.Fabric line w p ds ws h)))
+declaration_along (written_virtual a m b n w) ds ws h =
+    nothing_open (nothing_open (nothing_open (nothing_open (nothing_open (nothing_open (nothing_open (nothing_open (nothing_open (nothing_open (h))))))))))
 
 -- a text
 pub file_along : (ws : List Written) (ds : List Declaration)

@@ -6,7 +6,7 @@ use Rattle.std.specs.Prelude.{◌≡◌, ◌≤◌, ◌<◌, ℕ, suc, List, [],
 use Rattle.nk_lex.specs.declared.word.Number.{Number}
 use Rattle.nk_grammar.specs.Terminal.{Terminal, tilde, opening, closing, plus_sign, semicolon, star_sign}
 use Rattle.nk_grammar.specs.Grammar.{Pol, Term, Factor, Atom, one_term, plus, one_factor, semi, plain, starred, written_not, written_id, written_drop, written_dup, written_name, written_test, written_range, written_set, written_link, paren}
-use Rattle.nk_grammar.specs.File.{Written, written_field, written_tag, written_switch, written_declared_link, written_let, spell_file}
+use Rattle.nk_grammar.specs.File.{Written, written_field, written_tag, written_switch, written_declared_link, written_let, written_fabric, written_virtual, spell_file}
 
 abbrev mutual
   -- behind each token of a policy around which n are open
@@ -41,13 +41,15 @@ abbrev pub open_in_ports : List Number → List ℕ
 open_in_ports [] = []
 open_in_ports (p ∷ ps) = 0 ∷ 0 ∷ open_in_ports ps
 
--- behind each token of a declaration: nothing is open but in the policy of a `let`
+-- behind each token of a declaration: nothing is open but in the policy of a `let` or a fabric
 abbrev pub open_in_declaration : Written → List ℕ
 open_in_declaration (written_field w n) = 0 ∷ 0 ∷ 0 ∷ []
 open_in_declaration (written_tag w) = 0 ∷ 0 ∷ []
 open_in_declaration (written_switch n p ps) = 0 ∷ 0 ∷ 0 ∷ 0 ∷ open_in_ports ps
 open_in_declaration (written_declared_link a m b n) = 0 ∷ 0 ∷ 0 ∷ 0 ∷ 0 ∷ 0 ∷ 0 ∷ 0 ∷ []
 open_in_declaration (written_let line w p) = 0 ∷ 0 ∷ 0 ∷ open_in_pol 0 p
+open_in_declaration (written_fabric line w p) = 0 ∷ 0 ∷ 0 ∷ open_in_pol 0 p
+open_in_declaration (written_virtual a m b n w) = 0 ∷ 0 ∷ 0 ∷ 0 ∷ 0 ∷ 0 ∷ 0 ∷ 0 ∷ 0 ∷ 0 ∷ []
 
 -- behind each token of a text
 abbrev pub open_in_file : List Written → List ℕ
