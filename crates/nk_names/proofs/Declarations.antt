@@ -10,7 +10,7 @@ use Rattle.nk_grammar.specs.Tree.{Tree}
 use Rattle.nk_names.specs.declared.fault.FaultKind.{FaultKind}
 use Rattle.nk_names.specs.declared.fault.FaultKind.TheVariants as kind
 use Rattle.nk_names.specs.Meant.{Lets, text_fault_if, value_above, policy_for, unknown_in, misplaced_in}
-use Rattle.nk_names.specs.ProgramOf.{let_fault}
+use Rattle.nk_names.specs.ProgramOf.{named_fault}
 
 -- a fault that isn't there is no fault
 pub not_wrong : (b : Bool) (k : FaultKind) (line : ℕ) → text_fault_if b k line ≡ None → b ≡ false
@@ -32,9 +32,9 @@ pub record IsFaultless (fields : FieldTable) (lets : Lets) (w : Word) (t : Tree)
   pub shallow : depth_of (policy_for fields lets t) ≤ 256
   pub small : size_of (policy_for fields lets t) ≤ 1048576
 
-pub faultless : (fields : FieldTable) (lets : Lets) (w : Word) (t : Tree) (line : ℕ)
-    → let_fault fields lets w t line ≡ None → IsFaultless fields lets w t
-faultless fields lets w t line h =
+pub faultless : (fields : FieldTable) (lets taken : Lets) (w : Word) (t : Tree) (line : ℕ)
+    → named_fault fields lets taken w t line ≡ None → IsFaultless fields lets w t
+faultless fields lets taken w t line h =
     let r1 = none_both _ _ h in
     let r2 = none_both _ _ r1.1 in
     let r3 = none_both _ _ r2.1 in

@@ -13,6 +13,8 @@ pub mod Places
 pub mod Printed
 pub mod ReadingBack
 pub mod Topologies
+pub mod WellFormed
+pub mod Fabrics
 pub mod Writable
 pub mod Predicates
 pub mod PredicatesBack

@@ -27,7 +27,7 @@ pub all_tail : {X : Type 0} (P : X → Type 0) (x : X) (xs : List X) → All P (
 all_tail P x xs h = λ k d lt. h (suc k) d (omega (arith, lt))
 
 -- what holds of all policies and of none that has no name holds of a name's
-named : (Q : Policy → Type 0) (lets : Lets) (name : List ℕ) → All (λ l. Q l.1) lets → Q (policy.sum_of policy.no_part)
+pub named : (Q : Policy → Type 0) (lets : Lets) (name : List ℕ) → All (λ l. Q l.1) lets → Q (policy.sum_of policy.no_part)
     → Q (unwrap_or (policy_among lets name) (policy.sum_of policy.no_part))
 named Q [] name h d = d
 named Q (l ∷ ls) name h d = by_test (bytes_eq l.0 name) (named Q ls name (all_tail (λ m. Q m.1) l ls h) d)

@@ -5,7 +5,7 @@ use Rattle.std.specs.List.{AllByRecursion}
 use Rattle.nk_declare.specs.Declarations.{declared_with}
 use Rattle.nk_declare.specs.Declarations as declare
 use Rattle.nk_declare.proofs.Kept.{unless_ok, AreFit, fit_declarable, numbers_kept}
-use Rattle.nk_grammar.specs.File.{Declaration, field, tag, switch, declared_link, definition, Written, written_field, written_tag, written_switch, written_declared_link, written_let, declared}
+use Rattle.nk_grammar.specs.File.{Declaration, field, tag, switch, declared_link, definition, fabric, virtual_link, Written, written_field, written_tag, written_switch, written_declared_link, written_let, written_fabric, written_virtual, declared}
 use Rattle.nk_grammar.specs.Answer.{IsAnswer}
 use Rattle.nk_grammar.proofs.Answering.{answers}
 use Rattle.nk_names.specs.ProgramOf.{Said, nothing_said, declared_part, said_with}
@@ -25,22 +25,26 @@ ports_written (written_tag w ∷ ws) = (tt, ports_written ws)
 ports_written (written_switch n p ps ∷ ws) = (omega arith, ports_written ws)
 ports_written (written_declared_link a m b n ∷ ws) = (tt, ports_written ws)
 ports_written (written_let line w p ∷ ws) = (tt, ports_written ws)
+ports_written (written_fabric line w p ∷ ws) = (tt, ports_written ws)
+ports_written (written_virtual a m b n w ∷ ws) = (tt, ports_written ws)
 
 -- one more declaration
 one_said : (s t : Said) (d : Declaration) → AreFit s.topo → HasPort d → said_with s d ≡ Ok t → AreFit t.topo
 one_said s t (field w n) h has e =
-    let r = beside_is s.lets (declared_with (declared_part s) (declare.field w n)) t e in
+    let r = beside_is s (declared_with (declared_part s) (declare.field w n)) t e in
     subst (λ x. AreFit x.topo) r.2 (numbers_kept (declared_part s) r.0 (declare.field w n) h tt r.1)
 one_said s t (tag w) h has e =
-    let r = beside_is s.lets (declared_with (declared_part s) (declare.tag w)) t e in
+    let r = beside_is s (declared_with (declared_part s) (declare.tag w)) t e in
     subst (λ x. AreFit x.topo) r.2 (numbers_kept (declared_part s) r.0 (declare.tag w) h tt r.1)
 one_said s t (switch n ps) h has e =
-    let r = beside_is s.lets (declared_with (declared_part s) (declare.switch n ps)) t e in
+    let r = beside_is s (declared_with (declared_part s) (declare.switch n ps)) t e in
     subst (λ x. AreFit x.topo) r.2 (numbers_kept (declared_part s) r.0 (declare.switch n ps) h has r.1)
 one_said s t (declared_link a m b n) h has e =
-    let r = beside_is s.lets (declared_with (declared_part s) (declare.link a m b n)) t e in
+    let r = beside_is s (declared_with (declared_part s) (declare.link a m b n)) t e in
     subst (λ x. AreFit x.topo) r.2 (numbers_kept (declared_part s) r.0 (declare.link a m b n) h tt r.1)
 one_said s t (definition w p line) h has e = let r = unless_ok _ _ t e in subst (λ x. AreFit x.topo) r.1 h
+one_said s t (fabric w p line) h has e = let r = unless_ok _ _ t e in subst (λ x. AreFit x.topo) r.1 h
+one_said s t (virtual_link a m b n w) h has e = let r = unless_ok _ _ t e in subst (λ x. AreFit x.topo) r.1 h
 
 pub declares_declarable : DeclaresDeclarable
 declares_declarable ts ds s read said =

@@ -9,7 +9,7 @@ use Rattle.nk_names.specs.declared.fault.FaultKind.{FaultKind}
 use Rattle.nk_names.specs.declared.fault.NamesError.{NamesError}
 use Rattle.nk_names.specs.declared.fault.NamesError.TheVariants.{Fault, NoMemory}
 use Rattle.nk_names.specs.ProgramOf.{Said, program_of, said_with}
-use Rattle.nk_names.specs.ProgramValue.{IsLet}
+use Rattle.nk_names.specs.ProgramValue.{IsLet, AreVirtual}
 
 -- these are the declarations so far
 abbrev pub IsDeclared : List Declaration → Result Said NamesError → Type 0
@@ -37,9 +37,10 @@ abbrev pub with_first : Option (FaultKind × ℕ) → Result Said NamesError →
 with_first None said = said
 with_first (Some f) said = Err (Fault f.0 f.1)
 
--- what is said is a program's: the fields are a field table, their largest values are numbers of a text, and the policies are
--- those of a program
+-- what is said is a program's: the fields are a field table, their largest values are numbers of a text, and the policies, the
+-- fabrics and the virtual links are those of a program
 pub record HasLets (s : Said) : Type 0 where
   pub table : IsFieldTable s.fields
   pub maxima : All (λ m. m ≤ 281474976710655) s.fields.maxima
   pub policies : All (λ l. IsLet s.fields l.1) s.lets
+  pub virtuals : AreVirtual s.fields s.topo s.fabrics s.virtuals

@@ -11,5 +11,7 @@ pub mod ProgramOf
 pub mod ProgramValue
 pub mod Shape
 pub mod Topologies
+pub mod Virtual
 pub mod ReadBack
+pub mod WellFormed
 pub mod Words

@@ -27,7 +27,7 @@ fn field_of(fields: &Fields, w: &Word) -> Fid
 }
 
 /// The number of a switch or a port, or the largest one.
-fn place_of(n: Number) -> u16
+pub(crate) fn place_of(n: Number) -> u16
     ensures { result ≡ min n.value 65535 }
 {
     n.value.min(LARGEST_PLACE) as u16

@@ -36,7 +36,7 @@ fn above(most: u64, n: Number) -> Option<NamesError>
 }
 
 /// The first number of a link that no switch and no port has.
-fn first_above(a: Number, m: Number, b: Number, n: Number) -> Option<NamesError>
+pub(crate) fn first_above(a: Number, m: Number, b: Number, n: Number) -> Option<NamesError>
     ensures { result ≡ literal_ends a m b n }
 {
     above(LARGEST_PLACE, a)

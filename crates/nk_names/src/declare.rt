@@ -1,16 +1,19 @@
 //! What is said after one more declaration.
-ghost use Rattle.std.specs.Prelude.{◌≡◌, None, Some, MatchResult, IfOk, OnErr};
-ghost use Rattle.nk_grammar.specs.File.{declaration_of, field, tag, switch, declared_link, definition};
+ghost use Rattle.std.specs.Prelude.{◌≡◌, None, Some, MatchResult, IfOk, OnErr, option_map};
+ghost use Rattle.nk_declare.specs.Declarations.{link_fault};
+ghost use Rattle.nk_grammar.specs.File.{declaration_of, field, tag, switch, declared_link, definition, fabric, virtual_link};
 ghost use Rattle.nk_grammar.specs.Tree.{tree_of};
-ghost use Rattle.nk_names.specs.ProgramOf.{Returns, kind_of, text_fault_of, said_in, said_with, nothing_said, let_fault};
+ghost use Rattle.nk_names.specs.ProgramOf.{Returns, kind_of, text_fault_of, said_in, said_with, nothing_said, named_fault, virtual_topology};
 
-use crate::build::shared_of;
-use crate::check::{depth, fault_if, first_misplaced, first_unknown, size};
+use crate::build::{place_of, shared_of};
+use crate::check::{depth, fault_if, first_above, first_misplaced, first_unknown, size};
 use crate::fault::{FaultKind, NamesError};
 use crate::lets::Lets;
 use crate::named_policy::NamedPolicy;
 use crate::names::Names;
 use crate::shape::Shape;
+use crate::virtual_link::VirtualLink;
+use crate::virtuals::Virtuals;
 use nk_declare::{DeclareError, DeclareFault, Declared};
 use nk_grammar::{Ast, Decl};
 use nk_lex::{Number, Word};
@@ -32,15 +35,21 @@ pub(crate) fn refuse(fault: Option<NamesError>) -> Result<(), NamesError>
     }
 }
 
-/// Whether a policy may have the name, and its tree be written out.
-fn check_let(names: &Names, w: &Word, ast: &Ast, line: u64) -> Result<(), NamesError>
+/// Whether a policy may have the name, which none of those taken has, and its tree be written out.
+fn check_named(
+    names: &Names,
+    taken: &Lets,
+    w: &Word,
+    ast: &Ast,
+    line: u64,
+) -> Result<(), NamesError>
     ensures { MatchResult result
-        (λ _. let_fault names.now.declared.fields names.now.lets.entries.items w.now (tree_of ast.now) line ≡ None)
-        (λ e. let_fault names.now.declared.fields names.now.lets.entries.items w.now (tree_of ast.now) line ≡ Some e) }
+        (λ _. named_fault names.now.declared.fields names.now.lets.entries.items taken.now.entries.items w.now (tree_of ast.now) line ≡ None)
+        (λ e. named_fault names.now.declared.fields names.now.lets.entries.items taken.now.entries.items w.now (tree_of ast.now) line ≡ Some e) }
 {
     let fields = &names.declared.fields;
     let lets = &names.lets;
-    let twice = lets.policy(w.text.as_slice()).is_some();
+    let twice = taken.policy(w.text.as_slice()).is_some();
     refuse(fault_if(twice, FaultKind::LetTwice, w.line))?;
     refuse(first_unknown(fields, lets, ast))?;
     refuse(first_misplaced(fields, lets, ast))?;
@@ -48,6 +57,26 @@ fn check_let(names: &Names, w: &Word, ast: &Ast, line: u64) -> Result<(), NamesE
     refuse(fault_if(deep, FaultKind::TooDeep, line))?;
     let large = LARGEST_SIZE < size(fields, lets, ast);
     refuse(fault_if(large, FaultKind::TooLarge, line))
+}
+
+/// Whether a virtual link may lead from port `m` of switch `a` to port `n` of switch `b`.
+fn check_ends(names: &Names, a: Number, m: Number, b: Number, n: Number) -> Result<(), NamesError>
+    ensures { MatchResult result
+        (λ _. link_fault (virtual_topology names.now.declared.topo names.now.virtuals) a m b n ≡ None)
+        (λ e. option_map text_fault_of (link_fault (virtual_topology names.now.declared.topo names.now.virtuals) a m b n) ≡ Some e) }
+{
+    refuse(first_above(a, m, b, n))?;
+    let topo = &names.declared.topo;
+    let (from_switch, from_port) = (place_of(a), place_of(m));
+    let (to_switch, to_port) = (place_of(b), place_of(n));
+    let missing = !topo.is_port(from_switch, from_port);
+    refuse(fault_if(missing, FaultKind::NoSuchPort, m.line))?;
+    let missing = !topo.is_port(to_switch, to_port);
+    refuse(fault_if(missing, FaultKind::NoSuchPort, n.line))?;
+    let twice = names.virtuals.is_source(from_switch, from_port);
+    refuse(fault_if(twice, FaultKind::SourceTwice, m.line))?;
+    let twice = names.virtuals.is_target(to_switch, to_port);
+    refuse(fault_if(twice, FaultKind::TargetTwice, n.line))
 }
 
 /// What is wrong with a declaration, as a program's fault.
@@ -88,7 +117,14 @@ impl Names {
     {
         let declared = Declared::new(alloc)?;
         let lets = Lets::new(alloc);
-        Ok(Names { declared, lets })
+        let fabrics = Lets::new(alloc);
+        let virtuals = Virtuals::new(alloc);
+        Ok(Names {
+            declared,
+            lets,
+            fabrics,
+            virtuals,
+        })
     }
 
     /// One more field.
@@ -146,10 +182,60 @@ impl Names {
         ensures answer { Returns (λ _. said_in self.new) result (said_with (said_in self.old) (definition w.now (tree_of ast.now) line)) }
         ensures kept { OnErr result (said_in self.new ≡ said_in self.old) }
     {
-        check_let(self, w, ast, line)?;
+        check_named(self, &self.lets, w, ast, line)?;
         let shape = Shape::of(&self.declared.fields, &self.lets, ast);
         let policy = NamedPolicy::new(shared_of(alloc, &self.declared.fields, &self.lets, ast)?);
         self.lets.add(alloc, w.text.as_slice(), policy, shape)?;
+        Ok(())
+    }
+
+    /// One more fabric.
+    fn add_fabric(
+        &mut self,
+        alloc: Global,
+        w: &Word,
+        ast: &Ast,
+        line: u64,
+    ) -> Result<(), NamesError>
+        ensures answer { Returns (λ _. said_in self.new) result (said_with (said_in self.old) (fabric w.now (tree_of ast.now) line)) }
+        ensures kept { OnErr result (said_in self.new ≡ said_in self.old) }
+    {
+        check_named(self, &self.fabrics, w, ast, line)?;
+        let shape = Shape::of(&self.declared.fields, &self.lets, ast);
+        let policy = NamedPolicy::new(shared_of(alloc, &self.declared.fields, &self.lets, ast)?);
+        self.fabrics.add(alloc, w.text.as_slice(), policy, shape)?;
+        Ok(())
+    }
+
+    /// One more virtual link, from port `m` of switch `a` to port `n` of switch `b` over the fabric of the name.
+    fn add_virtual(
+        &mut self,
+        a: Number,
+        m: Number,
+        b: Number,
+        n: Number,
+        w: &Word,
+    ) -> Result<(), NamesError>
+        ensures answer { Returns (λ _. said_in self.new) result (said_with (said_in self.old) (virtual_link a m b n w.now)) }
+        ensures kept { OnErr result (said_in self.new ≡ said_in self.old) }
+    {
+        check_ends(self, a, m, b, n)?;
+        let fabric = match self.fabrics.policy(w.text.as_slice()) {
+            Some(fabric) => fabric.again()?,
+            None => {
+                return Err(NamesError::Fault {
+                    kind: FaultKind::UnknownName,
+                    line: w.line,
+                });
+            }
+        };
+        self.virtuals.add(VirtualLink {
+            from_switch: place_of(a),
+            from_port: place_of(m),
+            to_switch: place_of(b),
+            to_port: place_of(n),
+            fabric,
+        })?;
         Ok(())
     }
 
@@ -164,6 +250,8 @@ impl Names {
             Decl::Switch(n, ports) => self.add_switch(alloc, *n, ports.as_slice()),
             Decl::Link(a, m, b, n) => self.add_link(*a, *m, *b, *n),
             Decl::Let(w, ast, line) => self.add_let(alloc, w, ast, *line),
+            Decl::Fabric(w, ast, line) => self.add_fabric(alloc, w, ast, *line),
+            Decl::Virtual(a, m, b, n, w) => self.add_virtual(*a, *m, *b, *n, w),
         }
     }
 }

@@ -3,7 +3,7 @@
 
 ghost use Rattle.std.specs.Prelude.{◌≡◌, option_map};
 ghost use Rattle.nk_names.specs.Named.{policy_named};
-ghost use Rattle.nk_names.specs.ProgramValue.{IsProgram};
+ghost use Rattle.nk_names.specs.ProgramValue.{AreVirtual, IsProgram};
 
 mod body;
 mod build;
@@ -18,6 +18,8 @@ mod reader;
 pub mod reading;
 mod rows;
 mod shape;
+mod virtual_link;
+mod virtuals;
 mod words;
 
 pub use fault::{FaultKind, NamesError};
@@ -27,8 +29,10 @@ use nk_topo::Topo;
 pub use reader::ProgramReader;
 pub use rows::resolve;
 use std::marker::Model;
+pub use virtual_link::VirtualLink;
 
-/// A program: its fields, its topology, and its named policies in the order of the text. Each policy's dups are
+/// A program: its fields, its topology, and its named policies, its fabrics and its virtual links in the order of the text. The
+/// names of fabrics are a set of their own. Each policy's dups are
 /// numbered from 1 in text order; it has at most 1,048,576 elements and is at most 256 deep. The names
 /// in a policy are kept as names, so a program takes room as its text does; `NamedPolicy::written` writes them out.
 #[derive(Drop)]
@@ -39,10 +43,14 @@ pub struct Program {
     pub topo: Topo,
     /// The names of the policies, in bytes, each with its policy.
     pub lets: List<(List<u8>, NamedPolicy)>,
+    /// The names of the fabrics, in bytes, each with its policy.
+    pub fabrics: List<(List<u8>, NamedPolicy)>,
+    /// The virtual links.
+    pub virtuals: List<VirtualLink>,
 }
 
 impl Model for Program {
-    ghost use Rattle.nk_names.specs.ProgramValue.{ProgramValue, IsProgram};
+    ghost use Rattle.nk_names.specs.ProgramValue.{ProgramValue, IsProgram, AreVirtual};
 
     ghost Value = { ProgramValue };
 
@@ -51,12 +59,19 @@ impl Model for Program {
 
     ghost coded = { Prim.hlevel (codes, coded_policy) };
 
-    ghost view = { λ p. record { fields = p.fields; topo = p.topo; lets = p.lets } };
+    ghost view = { λ p. record { fields = p.fields; topo = p.topo; lets = p.lets; fabrics = p.fabrics; virtuals = p.virtuals } };
 
-    ghost invariant = { λ p. IsProgram p.fields p.topo p.lets };
+    ghost invariant = { λ p. IsProgram p.fields p.topo p.lets × AreVirtual p.fields p.topo p.fabrics p.virtuals };
 }
 
 impl Program {
+    /// What holds of each program; it does nothing.
+    pub fn laws(&self)
+        ensures { IsProgram self.now.fields self.now.topo self.now.lets }
+    {
+        let _fields = &self.fields;
+    }
+
     /// The policy with the name, if there is one.
     pub fn find(&self, name: &str) -> Option<&NamedPolicy>
         ensures found { option_map (λ p. p.now) result ≡ policy_named self.now name.now }
@@ -69,5 +84,14 @@ impl Program {
             }
         }
         None
+    }
+
+    /// The virtual links, in the order of the text.
+    pub fn virtual_links(&self) -> &[VirtualLink]
+        ensures links { result.now ≡ self.now.virtuals }
+        ensures is { IsProgram self.now.fields self.now.topo self.now.lets }
+        ensures virtuals { AreVirtual self.now.fields self.now.topo self.now.fabrics self.now.virtuals }
+    {
+        self.virtuals.as_slice()
     }
 }

@@ -46,6 +46,13 @@ impl NamedPolicy {
         self.policy.again()
     }
 
+    /// The same policy once more, for another that has it. The only error is that memory ran out.
+    pub(crate) fn again(&self) -> Result<NamedPolicy, AllocError>
+        ensures { IfOk result (λ p. p ≡ self.now) }
+    {
+        Ok(NamedPolicy::new(self.policy.again()?))
+    }
+
     /// The policy with all names in it written out. The only error is that memory ran out.
     pub fn written(&self, alloc: Global) -> Result<Pol, AllocError>
         ensures { IfOk result (λ q. tree_of q ≡ self.now) }

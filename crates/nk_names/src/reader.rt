@@ -81,7 +81,12 @@ fn program_in(names: Names) -> Result<Program, AllocError>
     requires { HasLets (said_in names) }
     ensures { IfOk result (λ p. said_by p ≡ said_in names) }
 {
-    let Names { declared, lets } = names;
+    let Names {
+        declared,
+        lets,
+        fabrics,
+        virtuals,
+    } = names;
     let Declared { fields, topo } = declared;
     let topo = topo.finish()?;
     let _switches = topo.switches();
@@ -89,11 +94,13 @@ fn program_in(names: Names) -> Result<Program, AllocError>
         fields,
         topo,
         lets: lets.into_list(),
+        fabrics: fabrics.into_list(),
+        virtuals: virtuals.into_list(),
     })
 }
 
-/// The declarations of a text taken one by one, in order: they become the fields, the topology and the policies of a program as
-/// they come, and no declaration is kept. After a fault nothing but the fault is kept. A contract sees what is said so far, or
+/// The declarations of a text taken one by one, in order: they become the fields, the topology, the policies, the fabrics and
+/// the virtual links of a program as they come, and no declaration is kept. After a fault nothing but the fault is kept. A contract sees what is said so far, or
 /// the first fault.
 #[derive(Drop)]
 pub struct ProgramReader {

@@ -32,7 +32,7 @@ pub record IsPrintedThere : Type 0 where
 
 -- the program whose one let has the name p
 abbrev pub program_with : Policy → Program
-program_with q = record { fields = dst_and_tag; topo = one_link; lets = (codes "p", q) ∷ [] }
+program_with q = record { fields = dst_and_tag; topo = one_link; lets = (codes "p", q) ∷ []; fabrics = []; virtuals = [] }
 
 -- a program has the policy under the name p, with all that the law asks of an accepted policy; so the tables carry it
 pub record IsAcceptedThere : Type 0 where
