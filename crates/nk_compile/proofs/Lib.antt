@@ -9,7 +9,6 @@ pub mod ComingEnds
 pub mod ComingSteps
 pub mod CompactAnswers
 pub mod Compacting
-pub mod Declared
 pub mod Emitted
 pub mod EndLemmas
 pub mod FewTags

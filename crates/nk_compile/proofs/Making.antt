@@ -1,6 +1,6 @@
 -- From what is seen of a policy, its levels and its tag sets to its tables or the reason of a refusal.
 use Rattle.std.proofs.Common.{◌≡◌, ℕ, ◌+◌, Bool, true, false, List, refl, sym, ap, subst, ◌∙◌, Some, None, arith}
-use Rattle.std.specs.Prelude.{Option, Result, Ok, Err, IfErr, IsErrAnd, if◌then◌else◌, slice_index}
+use Rattle.std.specs.Prelude.{Option, option_map, Result, Ok, Err, IfErr, IsErrAnd, if◌then◌else◌, slice_index}
 use Rattle.nk_field.specs.Order.{Found, IsLeast}
 use Rattle.nk_field.specs.Packet.{FieldTable, IsFieldTable}
 use Rattle.nk_topo.specs.Topology.{Topology, IsTopology}
@@ -10,7 +10,8 @@ use Rattle.nk_policy.specs.Labels.{IsTagSet, AtLeast}
 use Rattle.nk_names.specs.Accepted.{IsStartPacket, IsCompilable, is_link_outside, most_tags}
 use Rattle.nk_store.specs.Held.{Held}
 use Rattle.nk_tag.specs.Numbers.{IsAtOdd}
-use Rattle.nk_compile.specs.Refusals.{seen_with, seen_for, seen, found_from}
+use Rattle.nk_sight.specs.declared.sight.Sight.TheVariants as sight
+use Rattle.nk_compile.specs.Refusals.{refusal_of, seen_with, seen_for, seen, found_from}
 use Rattle.nk_compile.specs.Answers.{IsError}
 use Rattle.nk_compile.specs.Levelled.{IsLeastOff, IsOffFault, IsTagFault}
 use Rattle.nk_compile.specs.OffEdge.{EndsOffEdge, EndsOnEdges}
@@ -30,7 +31,8 @@ refused_with (Err d) e Q h q = subst Q (sym h) q
 
 -- the first reason of four tests
 abbrev first_reason : Bool → Bool → Bool → Bool → Option Refusal
-first_reason a b c d = if a then Some TagUsed else if b then Some LooseDup else if c then Some SwitchSet else if d then Some NoSuchLink else None
+first_reason a b c d =
+    option_map refusal_of (if a then Some sight.TagUsed else if b then Some sight.LooseDup else if c then Some sight.SwitchSet else if d then Some sight.NoSuchLink else None)
 
 -- equal options have equal values
 value_is : (a b : Refusal) → Some a ≡ Some b → a ≡ b

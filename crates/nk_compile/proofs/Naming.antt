@@ -1,27 +1,28 @@
 -- From the answer for a policy to that for its name.
 use Rattle.std.proofs.Common.{◌≡◌, ℕ, zero, suc, ◌+◌, ◌<◌, ◌≤◌, List, [], ◌∷◌, get_or, arith, Some}
 use Rattle.std.specs.Prelude.{Result, Ok, Err, IfOk, IfErr, All}
-use Rattle.nk_field.specs.Packet.{FieldTable}
-use Rattle.nk_names.proofs.Good.{few_dups}
-pub use Rattle.nk_names.proofs.Named.{let_named}
-use Rattle.nk_policy.specs.Policy.{Policy, dups_of}
+use Rattle.nk_names.proofs.Named.{let_named}
+use Rattle.nk_names.proofs.WellFormed.{let_well_formed}
+use Rattle.nk_policy.specs.Policy.{Policy}
+use Rattle.nk_policy.proofs.Numbering.{numbered_distinct}
 use Rattle.nk_names.specs.declared.Program.{Program}
 use Rattle.nk_names.specs.Named.{policy_named}
-use Rattle.nk_names.specs.ProgramValue.{IsProgram, IsLet}
+use Rattle.nk_names.specs.ProgramValue.{IsProgram}
+use Rattle.nk_names.specs.WellFormed.{IsWellFormed}
 use Rattle.nk_names.specs.Accepted.{IsAccepted}
 use Rattle.nk_compile.specs.Refusals.{IsRefused, IsReason}
 use Rattle.nk_compile.specs.Answers.{IsMade, IsError}
-use Rattle.nk_compile.specs.Counted.{HasTagSets, IsCountedAnswer}
+use Rattle.nk_compile.specs.Counted.{HasTagSets, IsCountedAnswer, IsCountedPolicyAnswer}
 use Rattle.nk_compile.specs.declared.counted.Counted.{Counted}
 use Rattle.nk_compile.specs.declared.refusal.Refusal.{Refusal}
 use Rattle.nk_compile.specs.declared.refusal.Refusal.TheVariants.{NoPolicy, NoTag, TagUsed, LooseDup, SwitchSet, NoSuchLink, OffEdge, TooManyTags}
 use Rattle.nk_compile.specs.declared.refusal.CompileError.{CompileError}
 use Rattle.nk_compile.specs.declared.refusal.CompileError.TheVariants.{NoMemory, Refused}
 use Rattle.nk_compile.proofs.Making.{seen_named}
-use Rattle.nk_compile.proofs.Printed.{accepted_carries}
+use Rattle.nk_compile.proofs.Printed.{printed_carries}
 
 -- the reason for the policy is that for its name
-reason_named : (program : Program) (name : List ℕ) (p : Policy) → policy_named program name ≡ Some p →
+pub reason_named : (program : Program) (name : List ℕ) (p : Policy) → policy_named program name ≡ Some p →
     (r : Refusal) → IsReason program.fields program.topo p r → IsRefused program name r
 reason_named program name p named NoPolicy e = absurd (seen_named program.fields.tag program.topo p e)
 reason_named program name p named NoTag e = (p, named, e)
@@ -34,16 +35,26 @@ reason_named program name p named (TooManyTags found) e = (p, named, e)
 
 -- the answer for the policy is that for its name
 pub answer_named : (program : Program) (name : List ℕ) (p : Policy) (r : Result Counted CompileError) →
-    IsProgram program.fields program.topo program.lets → policy_named program name ≡ Some p →
+    policy_named program name ≡ Some p → IsCountedPolicyAnswer program p r → IsCountedAnswer program name r
+answer_named program name p (Ok c) named h = ((p, named, h.0.0, h.0.1, h.0.2), (p, named, h.0.0, h.1))
+answer_named program name p (Err NoMemory) named h = tt
+answer_named program name p (Err (Refused r)) named h = reason_named program name p named r h
+
+-- what is made of a policy and counted of it is its answer
+pub counted_answer : (program : Program) (p : Policy) (r : Result Counted CompileError) →
+    IsProgram program.fields program.topo program.lets → IsWellFormed program.fields p →
     IfOk r (λ c. IsMade program.fields program.topo p c.tables) → IfOk r (λ c. HasTagSets program.fields program.topo p c.tag_sets) →
-    IfErr r (IsError program.fields program.topo p) → IsCountedAnswer program name r
-answer_named program name p (Ok c) ok named made counted error =
-    let accepted : IsAccepted program p = (made.compilable, made.few) in (
-      (p, named, accepted, made.printed, accepted_carries program name p c.tables ok named accepted made.printed),
-      (p, named, accepted, counted),
-    )
-answer_named program name p (Err NoMemory) ok named made counted error = tt
-answer_named program name p (Err (Refused r)) ok named made counted error = reason_named program name p named r error
+    IfErr r (IsError program.fields program.topo p) → IsCountedPolicyAnswer program p r
+counted_answer program p (Ok c) ok held made counted error =
+    let accepted : IsAccepted program p = (made.compilable, made.few) in
+    let carries = printed_carries program p c.tables ok.table ok.topology.links (numbered_distinct p 1 held.numbered) held.in_range made.compilable made.printed in
+    ((accepted, made.printed, carries), counted)
+counted_answer program p (Err e) ok held made counted error = error
+
+-- a program's policy is well formed
+pub named_well_formed : (program : Program) (name : List ℕ) (p : Policy) →
+    IsProgram program.fields program.topo program.lets → policy_named program name ≡ Some p → IsWellFormed program.fields p
+named_well_formed program name p ok named = let_well_formed program.fields p (let_named program name p ok named)
 
 -- a value of a list of values that are at most so much, 0 past its end
 at_most_all : (xs : List ℕ) (most : ℕ) → All (λ m. m ≤ most) xs → (k : ℕ) → get_or xs k 0 ≤ most
@@ -54,7 +65,3 @@ at_most_all (x ∷ xs) most h (suc k) = at_most_all xs most (λ j d lt. h (suc j
 -- a program's values are such that a number more has room
 pub has_room : (program : Program) → IsProgram program.fields program.topo program.lets → (f : ℕ) → get_or program.fields.maxima f 0 + 1 < 18446744073709551616
 has_room program ok f = let a = at_most_all program.fields.maxima 281474976710655 ok.maxima f in omega (arith, a)
-
--- a policy of a program has dups enough for numbers
-pub has_few_dups : (fields : FieldTable) (p : Policy) → IsLet fields p → 1 + dups_of p ≤ 4294967296
-has_few_dups fields p k = let a = few_dups p in let b = k.small in omega (arith, a, b)

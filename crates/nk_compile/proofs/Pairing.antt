@@ -9,6 +9,7 @@ use Rattle.nk_policy.proofs.Numbering.{numbered_distinct}
 use Rattle.nk_names.specs.declared.Program.{Program}
 use Rattle.nk_names.specs.Accepted.{IsStartPacket, IsAccepted, most_tags}
 use Rattle.nk_names.specs.Named.{policy_named}
+use Rattle.nk_names.proofs.Named.{let_named}
 use Rattle.nk_names.specs.ProgramValue.{IsProgram, IsLet}
 use Rattle.nk_tag.specs.Numbers.{AreNumbers}
 use Rattle.nk_compile.specs.declared.pair.TablePair.{TablePair}
@@ -24,7 +25,6 @@ use Rattle.nk_compile.specs.NumberedBehind.{IsTableBehind}
 use Rattle.nk_compile.specs.PairAnswers.{IsUnopposed, IsPairReason, IsPairRefused, IsPairAnswer}
 use Rattle.nk_compile.specs.Preparing.{IsPrepared, IsEarlyError}
 use Rattle.nk_compile.proofs.Levelled.{prepared_unopposed, prepared_many, prepared_least, prepared_compilable, prepared_counted, prepared_few}
-use Rattle.nk_compile.proofs.Naming.{let_named}
 use Rattle.nk_compile.proofs.Padding.{table_alone}
 use Rattle.nk_compile.proofs.PairRows.{pair_plannable}
 use Rattle.nk_compile.proofs.PairTags.{pair_tags}

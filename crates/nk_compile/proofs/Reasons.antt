@@ -1,6 +1,6 @@
 -- An accepted policy has no reason to be refused, and no policy has two.
 use Rattle.std.proofs.Common.{◌≡◌, ℕ, ◌⊎◌, inl, inr, ⊎_elim, Bool, true, false, List, refl, sym, ap, ◌∙◌}
-use Rattle.std.specs.Prelude.{Option, Some, None, if◌then◌else◌}
+use Rattle.std.specs.Prelude.{Option, option_map, Some, None, if◌then◌else◌}
 use Rattle.nk_field.specs.declared.packet.Packet.{Packet}
 use Rattle.nk_field.specs.declared.history.History.{History}
 use Rattle.nk_field.specs.Order.{Found, IsLeast}
@@ -15,7 +15,8 @@ use Rattle.nk_names.specs.Accepted.{IsStartPacket, IsCompilable, is_link_outside
 use Rattle.nk_compile.specs.declared.refusal.Refusal.{Refusal}
 use Rattle.nk_compile.specs.declared.refusal.Refusal.TheVariants.{NoPolicy, NoTag, TagUsed, LooseDup, SwitchSet, NoSuchLink, OffEdge, TooManyTags}
 use Rattle.nk_compile.specs.OffEdge.{EndsOffEdge, EndsOnEdges}
-use Rattle.nk_compile.specs.Refusals.{seen_for, seen, found_from, IsReason, IsRefused}
+use Rattle.nk_sight.specs.declared.sight.Sight.TheVariants as sight
+use Rattle.nk_compile.specs.Refusals.{refusal_of, seen_for, seen, found_from, IsReason, IsRefused}
 use Rattle.nk_compile.proofs.Orders.{one_least}
 use Rattle.nk_compile.proofs.TooMany.{never_more}
 
@@ -28,7 +29,7 @@ none_some a e = cc
 
 -- where no test passes nothing is seen
 none_of : (a b c d : Bool) → a ≡ false → b ≡ false → c ≡ false → d ≡ false
-    → ◌≡◌ {A = Option Refusal} (if a then Some TagUsed else if b then Some LooseDup else if c then Some SwitchSet else if d then Some NoSuchLink else None) None
+    → ◌≡◌ {A = Option Refusal} (option_map refusal_of (if a then Some sight.TagUsed else if b then Some sight.LooseDup else if c then Some sight.SwitchSet else if d then Some sight.NoSuchLink else None)) None
 none_of true b c d e f g h = absurd cc
 none_of false true c d e f g h = absurd cc
 none_of false false true d e f g h = absurd cc

@@ -1,4 +1,4 @@
--- What compiling a name answers.
+-- What compiling a policy answers, with a name or without.
 use Rattle.std.specs.Prelude.{ℕ, ⊤, Result, Ok, Err, List}
 use Rattle.nk_topo.specs.Topology.{Topology}
 use Rattle.nk_field.specs.Packet.{FieldTable}
@@ -9,7 +9,7 @@ use Rattle.nk_names.specs.Accepted.{IsStartPacket, IsCompilable, most_tags}
 use Rattle.nk_table.specs.declared.Tables.{Tables}
 use Rattle.nk_compile.specs.Refusals.{IsReason, IsRefused}
 use Rattle.nk_compile.specs.WholeTable.{IsTableOf}
-use Rattle.nk_compile.specs.Headline.{IsCompiled}
+use Rattle.nk_compile.specs.Headline.{IsCompiled, IsCompiledPolicy}
 use Rattle.nk_compile.specs.declared.refusal.CompileError.{CompileError}
 use Rattle.nk_compile.specs.declared.refusal.CompileError.TheVariants.{NoMemory, Refused}
 
@@ -23,6 +23,11 @@ pub record IsMade (fields : FieldTable) (topo : Topology) (p : Policy) (t : Tabl
 abbrev pub IsError : FieldTable → Topology → Policy → CompileError → Type 0
 IsError fields topo p NoMemory = ⊤
 IsError fields topo p (Refused r) = IsReason fields topo p r
+
+-- the tables of a policy, or why there are none
+abbrev pub IsPolicyAnswer : Program → Policy → Result Tables CompileError → Type 0
+IsPolicyAnswer program p (Ok t) = IsCompiledPolicy program p t
+IsPolicyAnswer program p (Err e) = IsError program.fields program.topo p e
 
 -- why a name has no answer: the first reason to refuse it; want of memory may come at any
 abbrev pub IsNoAnswer : Program → List ℕ → CompileError → Type 0

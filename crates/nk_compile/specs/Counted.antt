@@ -9,8 +9,8 @@ use Rattle.nk_names.specs.Accepted.{IsStartPacket, IsAccepted}
 use Rattle.nk_names.specs.Named.{policy_named}
 use Rattle.nk_compile.specs.declared.refusal.CompileError.{CompileError}
 use Rattle.nk_compile.specs.declared.counted.Counted.{Counted}
-use Rattle.nk_compile.specs.Answers.{IsNoAnswer}
-use Rattle.nk_compile.specs.Headline.{IsCompiled}
+use Rattle.nk_compile.specs.Answers.{IsError, IsNoAnswer}
+use Rattle.nk_compile.specs.Headline.{IsCompiled, IsCompiledPolicy}
 
 -- there are so many tag sets: the list of all of them in order, each once, is so long
 abbrev pub HasTagSets : FieldTable → Topology → Policy → ℕ → Type 0
@@ -24,7 +24,13 @@ HasTagCount program name n =
     × IsAccepted program p
     × HasTagSets program.fields program.topo p n
 
--- the tables with the number of the tag sets, or why there are none
+-- the tables of a policy with the number of its tag sets, or why there are none
+abbrev pub IsCountedPolicyAnswer : Program → Policy → Result Counted CompileError → Type 0
+IsCountedPolicyAnswer program p (Ok c) =
+    IsCompiledPolicy program p c.tables × HasTagSets program.fields program.topo p c.tag_sets
+IsCountedPolicyAnswer program p (Err e) = IsError program.fields program.topo p e
+
+-- the tables of a name with the number of its tag sets, or why there are none
 abbrev pub IsCountedAnswer : Program → List ℕ → Result Counted CompileError → Type 0
 IsCountedAnswer program name (Ok c) = IsCompiled program name c.tables × HasTagCount program name c.tag_sets
 IsCountedAnswer program name (Err e) = IsNoAnswer program name e

@@ -4,7 +4,6 @@ pub mod ClassStops
 pub mod Comings
 pub mod Compacted
 pub mod Counted
-pub mod DeclaredLinks
 pub mod Headline
 pub mod Levelled
 pub mod MadePair
@@ -19,7 +18,6 @@ pub mod PrintedTable
 pub mod Ready
 pub mod Refusals
 pub mod Smallest
-pub mod Sought
 pub mod Told
 pub mod WholeTable
 pub mod WrongEnds

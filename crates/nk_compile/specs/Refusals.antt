@@ -1,30 +1,34 @@
 -- Which policies are refused, the first reason in order: what is seen of the expanded tree, whether a packet comes there or
 -- not, then a history that ends off an edge port, and then more tag sets than the tag has values above 0.
-use Rattle.std.specs.Prelude.{◌≡◌, ℕ, ◌+◌, Option, Some, None, if◌then◌else◌, List}
+use Rattle.std.specs.Prelude.{◌≡◌, ℕ, ◌+◌, Option, Some, None, option_map, List}
 use Rattle.nk_field.specs.declared.packet.Packet.{Packet}
 use Rattle.nk_field.specs.declared.history.History.{History}
 use Rattle.nk_field.specs.Packet.{FieldTable}
 use Rattle.nk_field.specs.Order.{Found, IsLeast}
 use Rattle.nk_topo.specs.Topology.{Topology}
 use Rattle.nk_policy.specs.Policy.{Policy}
-use Rattle.nk_policy.specs.Leaves.{has_leaf, is_on_field, is_dup, is_switch_assignment}
 use Rattle.nk_names.specs.declared.Program.{Program}
 use Rattle.nk_names.specs.Named.{policy_named}
 use Rattle.nk_policy.specs.Labels.{IsTagSet, AtLeast}
-use Rattle.nk_names.specs.Accepted.{IsStartPacket, is_link_outside, most_tags}
+use Rattle.nk_names.specs.Accepted.{IsStartPacket, most_tags}
+use Rattle.nk_sight.specs.Seen.{seen_of}
+use Rattle.nk_sight.specs.declared.sight.Sight.{Sight}
+use Rattle.nk_sight.specs.declared.sight.Sight.TheVariants as sight
 use Rattle.nk_compile.specs.declared.refusal.Refusal.{Refusal}
 use Rattle.nk_compile.specs.declared.refusal.Refusal.TheVariants.{NoPolicy, NoTag, TagUsed, LooseDup, SwitchSet, NoSuchLink, OffEdge, TooManyTags}
 use Rattle.nk_compile.specs.OffEdge.{EndsOffEdge, EndsOnEdges}
 
+-- what is seen of a policy, as a refusal
+abbrev pub refusal_of : Sight → Refusal
+refusal_of sight.TagUsed = TagUsed
+refusal_of sight.LooseDup = LooseDup
+refusal_of sight.SwitchSet = SwitchSet
+refusal_of sight.NoSuchLink = NoSuchLink
+
 -- what is seen where the tag is known: it is used, a dup or an assignment of the switch stands outside of a link literal, or
 -- a literal is no declared link
 abbrev pub seen_with : ℕ → Topology → Policy → Option Refusal
-seen_with tag topo p =
-    if has_leaf (is_on_field tag) p then Some TagUsed
-    else if has_leaf is_dup p then Some LooseDup
-    else if has_leaf is_switch_assignment p then Some SwitchSet
-    else if has_leaf (is_link_outside topo.links) p then Some NoSuchLink
-    else None
+seen_with tag topo p = option_map refusal_of (seen_of tag topo.links p)
 
 -- the first reason that is seen of the tree, if there is one
 abbrev pub seen_for : Option ℕ → Topology → Policy → Option Refusal

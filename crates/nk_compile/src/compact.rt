@@ -1,8 +1,7 @@
 //! Merged tables with what tells their classes apart.
-ghost use Rattle.std.specs.Prelude.{◌≡◌, ◌≤◌, ◌<◌, ◌+◌, ◌^◌, ℕ, Some, slice_index, IfOk, IfErr};
-ghost use Rattle.nk_policy.specs.Policy.{dups_of};
+ghost use Rattle.std.specs.Prelude.{◌≡◌, ◌<◌, ◌+◌, ◌^◌, ℕ, Some, slice_index, IfOk, IfErr};
 ghost use Rattle.nk_policy.specs.Tree.{tree_of};
-ghost use Rattle.nk_names.specs.ProgramValue.{IsLet};
+ghost use Rattle.nk_names.specs.WellFormed.{IsWellFormed};
 ghost use Rattle.nk_tag.specs.Numbers.{AreNumbers};
 ghost use Rattle.nk_compile.specs.Compacted.{IsCompactOf, IsCompactError, AnswersCompact};
 ghost use Rattle.nk_compile.specs.Preparing.{IsPrepared};
@@ -74,8 +73,7 @@ fn policy_compact(
     topo: &Topo,
     p: &Pol,
 ) -> Result<Compact, CompileError>
-    requires held { IsLet fields.now (tree_of p.now) }
-    requires few { 1 + dups_of (tree_of p.now) ≤ 2 ^ 32 }
+    requires held { IsWellFormed fields.now (tree_of p.now) }
     requires room { (f : ℕ) → slice_index fields.now.maxima f + 1 < 2 ^ 64 }
     ensures made { IfOk result (IsCompactOf fields.now topo.now (tree_of p.now)) }
     ensures error { IfErr result (IsCompactError fields.now topo.now (tree_of p.now)) }
@@ -100,8 +98,7 @@ fn compact_of(
     max: u64,
 ) -> Result<Compact, CompileError>
     requires prepared { (tag : ℕ) × (max ≡ slice_index fields.now.maxima tag) × IsPrepared fields.now topo.now tag (tree_of p.now) prepared }
-    requires held { IsLet fields.now (tree_of p.now) }
-    requires few { 1 + dups_of (tree_of p.now) ≤ 2 ^ 32 }
+    requires held { IsWellFormed fields.now (tree_of p.now) }
     requires numbers { AreNumbers prepared.sets prepared.levels.levels tags.now }
     requires room { max + 1 < 2 ^ 64 }
     ensures made { IfOk result (IsCompactOf fields.now topo.now (tree_of p.now)) }
@@ -137,8 +134,7 @@ fn compact_tables(
 ) -> Result<Compact, CompileError>
     requires prepared { (tag : ℕ) × (max ≡ slice_index fields.now.maxima tag)
         × IsPrepared fields.now topo.now tag (tree_of p.now) (record { store = st.old; states = states.now; sets = ss.old; levels = lv.now }) }
-    requires held { IsLet fields.now (tree_of p.now) }
-    requires few { 1 + dups_of (tree_of p.now) ≤ 2 ^ 32 }
+    requires held { IsWellFormed fields.now (tree_of p.now) }
     requires numbers { AreNumbers ss.old lv.now.levels tags.now }
     requires room { max + 1 < 2 ^ 64 }
     ensures made { IfOk result (IsCompactOf fields.now topo.now (tree_of p.now)) }

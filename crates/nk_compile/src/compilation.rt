@@ -1,11 +1,14 @@
-//! The tables of a named policy of a program, and the number of its tag sets.
-ghost use Rattle.nk_compile.specs.Answers.{IsAnswer};
-ghost use Rattle.nk_compile.specs.Counted.{IsCountAnswer, IsCountedAnswer};
+//! The tables of a policy of a program, named or not, and the number of its tag sets.
+ghost use Rattle.nk_policy.specs.Tree.{tree_of};
+ghost use Rattle.nk_names.specs.WellFormed.{IsWellFormed};
+ghost use Rattle.nk_compile.specs.Answers.{IsAnswer, IsPolicyAnswer};
+ghost use Rattle.nk_compile.specs.Counted.{IsCountAnswer, IsCountedAnswer, IsCountedPolicyAnswer};
 
 use crate::counted::Counted;
 use crate::refusal::{CompileError, Refusal};
 use crate::tables::policy_tables;
 use nk_names::Program;
+use nk_policy::Pol;
 use nk_table::Tables;
 use std::alloc::Global;
 
@@ -18,6 +21,18 @@ pub fn compile(alloc: Global, program: &Program, name: &str) -> Result<Tables, C
     match compile_counted(alloc, program, name) {
         Ok(counted) => Ok(counted.tables),
         Err(e) => Err(e),
+    }
+}
+
+/// The printed tables of a policy over a program's fields and topology. It needs no name there, and may be larger and deeper
+/// than a text's. It is refused as by `compile`, but for want of a name.
+pub fn compile_policy(alloc: Global, program: &Program, p: &Pol) -> Result<Tables, CompileError>
+    requires { IsWellFormed program.now.fields (tree_of p.now) }
+    ensures { IsPolicyAnswer program.now (tree_of p.now) result }
+{
+    match counted_tables(alloc, program, p) {
+        Ok(made) => Ok(made.tables),
+        Err(error) => Err(error),
     }
 }
 
@@ -44,5 +59,14 @@ pub fn compile_counted(
         return Err(CompileError::Refused(Refusal::NoPolicy));
     };
     let p = named.written(alloc)?;
-    policy_tables(alloc, &program.fields, &program.topo, &p)
+    counted_tables(alloc, program, &p)
+}
+
+/// The printed tables of a policy over a program's fields and topology, and the number of its tag sets.
+fn counted_tables(alloc: Global, program: &Program, p: &Pol) -> Result<Counted, CompileError>
+    requires { IsWellFormed program.now.fields (tree_of p.now) }
+    ensures { IsCountedPolicyAnswer program.now (tree_of p.now) result }
+{
+    program.laws();
+    policy_tables(alloc, &program.fields, &program.topo, p)
 }

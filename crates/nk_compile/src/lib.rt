@@ -1,4 +1,4 @@
-//! Compilation: the tables of a named policy of a program, and of two of them for an update.
+//! Compilation: the tables of a policy of a program, named or not, and of two named ones for an update.
 #![tactic(auto)]
 
 mod aparts;
@@ -13,14 +13,13 @@ mod met;
 mod pair;
 mod prepared;
 mod refusal;
-mod sight;
 mod stops;
 mod tables;
 mod tagging;
 mod wrong_ends;
 
 pub use compact::{Apart, Compact, compile_compact};
-pub use compilation::{compile, compile_counted, tag_count};
+pub use compilation::{compile, compile_counted, compile_policy, tag_count};
 pub use counted::Counted;
 pub use pair::{TablePair, compile_pair};
 pub use refusal::{CompileError, Refusal};

@@ -1,8 +1,7 @@
 //! The tables of an old and a new policy of a program, whose tags differ.
-ghost use Rattle.std.specs.Prelude.{◌≡◌, ◌≤◌, ◌<◌, ◌+◌, ◌^◌, ℕ, Some, slice_index, IfOk, IfErr};
-ghost use Rattle.nk_policy.specs.Policy.{dups_of};
+ghost use Rattle.std.specs.Prelude.{◌≡◌, ◌<◌, ◌+◌, ◌^◌, ℕ, Some, slice_index, IfOk, IfErr};
 ghost use Rattle.nk_policy.specs.Tree.{tree_of};
-ghost use Rattle.nk_names.specs.ProgramValue.{IsLet};
+ghost use Rattle.nk_names.specs.WellFormed.{IsWellFormed};
 ghost use Rattle.nk_compile.specs.MadePair.{IsMadePair, IsPairError};
 ghost use Rattle.nk_compile.specs.PairAnswers.{IsPairAnswer};
 ghost use Rattle.nk_compile.specs.Preparing.{IsPrepared};
@@ -62,10 +61,8 @@ fn policy_pair(
     p: &Pol,
     q: &Pol,
 ) -> Result<TablePair, CompileError>
-    requires held_old { IsLet fields.now (tree_of p.now) }
-    requires few_old { 1 + dups_of (tree_of p.now) ≤ 2 ^ 32 }
-    requires held_new { IsLet fields.now (tree_of q.now) }
-    requires few_new { 1 + dups_of (tree_of q.now) ≤ 2 ^ 32 }
+    requires held_old { IsWellFormed fields.now (tree_of p.now) }
+    requires held_new { IsWellFormed fields.now (tree_of q.now) }
     requires room { (f : ℕ) → slice_index fields.now.maxima f + 1 < 2 ^ 64 }
     ensures made { IfOk result (IsMadePair fields.now topo.now (tree_of p.now) (tree_of q.now)) }
     ensures error { IfErr result (IsPairError fields.now topo.now (tree_of p.now) (tree_of q.now)) }

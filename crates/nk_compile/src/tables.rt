@@ -2,9 +2,9 @@
 ghost use Rattle.std.specs.Prelude.{◌≡◌, ◌≤◌, ◌<◌, ◌+◌, ◌^◌, ◌∷◌, [], ℕ, false, Some, slice_index, IfOk, IfErr, length};
 ghost use Rattle.nk_field.specs.Packet.{FieldTable};
 ghost use Rattle.nk_topo.specs.Topology.{Topology};
-ghost use Rattle.nk_policy.specs.Policy.{Policy, dups_of};
+ghost use Rattle.nk_policy.specs.Policy.{Policy};
 ghost use Rattle.nk_policy.specs.Tree.{tree_of};
-ghost use Rattle.nk_names.specs.ProgramValue.{IsLet};
+ghost use Rattle.nk_names.specs.WellFormed.{IsWellFormed};
 ghost use Rattle.nk_store.specs.Held.{Grows};
 ghost use Rattle.nk_determ.specs.Sets.{SetsGrow};
 ghost use Rattle.nk_reach.specs.Pairs.{AreStates};
@@ -15,11 +15,11 @@ ghost use Rattle.nk_compile.specs.declared.refusal.Refusal.TheVariants as refusa
 ghost use Rattle.nk_compile.specs.Answers.{IsMade, IsError};
 ghost use Rattle.nk_compile.specs.Counted.{HasTagSets};
 ghost use Rattle.nk_compile.specs.Preparing.{IsPrepared, IsEarlyError};
+ghost use Rattle.nk_compile.specs.Refusals.{refusal_of};
 
 use crate::counted::Counted;
 use crate::prepared::Prepared;
 use crate::refusal::{CompileError, Refusal};
-use crate::sight::seen;
 use crate::tagging::printed;
 use crate::wrong_ends::wrong_ends;
 use nk_auto::policy_automaton;
@@ -28,8 +28,9 @@ use nk_field::{Fid, Fields, List};
 use nk_places::{off_edges, starts};
 use nk_policy::Pol;
 use nk_reach::{Found, Levels, least_history, levels};
+use nk_sight::{Sight, seen};
 use nk_store::{Id, Store};
-use nk_tag::{NumberError, number, number_from};
+use nk_tag::{NumberError, number_from, odd_sets};
 use nk_topo::Topo;
 use std::alloc::{AllocError, Global};
 
@@ -104,12 +105,7 @@ pub fn all_numbers(b: &Prepared) -> Result<List<SetId>, AllocError>
     requires prepared { (fields : FieldTable) × (topo : Topology) × (tag : ℕ) × (p : Policy) × IsPrepared fields topo tag p b.now }
     ensures ok { IfOk result (λ r. AreNumbers b.now.sets b.now.levels.levels r) }
 {
-    match number(&b.sets, &b.levels, u64::MAX - 1) {
-        Ok(all) => Ok(all.sets),
-        // so many sets are more than memory holds
-        Err(NumberError::TooManyTags { found: _ }) => Err(AllocError),
-        Err(NumberError::NoMemory) => Err(AllocError),
-    }
+    odd_sets(&b.sets, &b.levels)
 }
 
 /// The fault of numbers as one of compilation.
@@ -119,6 +115,18 @@ fn fault(e: NumberError) -> CompileError
     match e {
         NumberError::NoMemory => CompileError::NoMemory,
         NumberError::TooManyTags { found } => CompileError::Refused(Refusal::TooManyTags { found }),
+    }
+}
+
+/// What is seen of a policy, as a refusal.
+fn refusal(sight: Sight) -> Refusal
+    ensures { result ≡ refusal_of sight }
+{
+    match sight {
+        Sight::TagUsed => Refusal::TagUsed,
+        Sight::LooseDup => Refusal::LooseDup,
+        Sight::SwitchSet => Refusal::SwitchSet,
+        Sight::NoSuchLink => Refusal::NoSuchLink,
     }
 }
 
@@ -132,14 +140,13 @@ pub fn prepare(
     p: &Pol,
 ) -> Result<Prepared, CompileError>
     requires tag { fields.now.tag ≡ Some tag }
-    requires held { IsLet fields.now (tree_of p.now) }
-    requires few { 1 + dups_of (tree_of p.now) ≤ 2 ^ 32 }
+    requires held { IsWellFormed fields.now (tree_of p.now) }
     requires room { slice_index fields.now.maxima tag + 1 < 2 ^ 64 }
     ensures ok { IfOk result (IsPrepared fields.now topo.now tag (tree_of p.now)) }
     ensures err { IfErr result (IsEarlyError fields.now topo.now (tree_of p.now)) }
 {
-    if let Some(reason) = seen(p, topo, tag) {
-        return Err(CompileError::Refused(reason));
+    if let Some(sight) = seen(p, topo, tag) {
+        return Err(CompileError::Refused(refusal(sight)));
     }
     let _few = fields.declared();
     let _switches = topo.switches();
@@ -163,8 +170,7 @@ pub fn policy_tables(
     topo: &Topo,
     p: &Pol,
 ) -> Result<Counted, CompileError>
-    requires held { IsLet fields.now (tree_of p.now) }
-    requires few { 1 + dups_of (tree_of p.now) ≤ 2 ^ 32 }
+    requires held { IsWellFormed fields.now (tree_of p.now) }
     requires room { (f : ℕ) → slice_index fields.now.maxima f + 1 < 2 ^ 64 }
     ensures made { IfOk result (λ c. IsMade fields.now topo.now (tree_of p.now) c.tables) }
     ensures counted { IfOk result (λ c. HasTagSets fields.now topo.now (tree_of p.now) c.tag_sets) }

@@ -5,4 +5,4 @@ mod error;
 mod numbers;
 
 pub use error::NumberError;
-pub use numbers::{Tags, later_sets, number, number_from};
+pub use numbers::{Tags, later_sets, number, number_from, odd_sets};

@@ -56,6 +56,20 @@ pub fn number_from(ss: &Sets, lv: &Levels, first: u64, max: u64) -> Result<Tags,
     Ok(Tags { sets })
 }
 
+/// The sets at odd levels as `number` gives them, as many as there are. The only error is that memory ran out.
+pub fn odd_sets(ss: &Sets, lv: &Levels) -> Result<List<SetId>, AllocError>
+    requires { AreEntries ss.now lv.now.levels }
+    ensures { IfOk result (λ r. AreNumbers ss.now lv.now.levels r) }
+{
+    let alloc = lv.levels.alloc();
+    let mut all = IndexSet::new(alloc);
+    for k in 0..lv.levels.len() / 2 {
+        add_level(alloc, ss, lv, 2 * k + 1, &mut all)?;
+    }
+    let sets = set_ids(alloc, all.as_slice())?;
+    Ok(sets)
+}
+
 /// The sets at levels behind the first one, each once: by the first of these levels that names them, inside a level by their
 /// members in dictionary order. The only error is that memory ran out.
 pub fn later_sets(ss: &Sets, lv: &Levels) -> Result<List<SetId>, AllocError>

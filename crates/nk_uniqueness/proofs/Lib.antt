@@ -3,6 +3,7 @@ pub mod OneCompact
 pub mod OneTable
 pub mod ByName
 pub mod Answering
+pub mod OfPolicies
 pub mod Comparing
 pub mod Asking
 pub mod Having

@@ -14,12 +14,13 @@ ghost use Rattle.nk_names.specs.ProgramValue.{IsProgram};
 ghost use Rattle.nk_names.specs.Topologies.{IsDeclarable};
 ghost use Rattle.nk_table.specs.declared.Tables.{Tables};
 ghost use Rattle.nk_compile.specs.declared.refusal.Refusal.{Refusal};
+ghost use Rattle.nk_compile.specs.declared.refusal.Refusal.TheVariants.{NoPolicy};
 ghost use Rattle.nk_compile.specs.declared.refusal.CompileError.{CompileError};
 ghost use Rattle.nk_compile.specs.declared.refusal.CompileError.TheVariants.{NoMemory, Refused};
 ghost use Rattle.nk_compile.specs.declared.compact.Compact.{Compact};
-ghost use Rattle.nk_compile.specs.Answers.{IsAnswer};
+ghost use Rattle.nk_compile.specs.Answers.{IsAnswer, IsPolicyAnswer};
 ghost use Rattle.nk_compile.specs.Compacted.{AcceptsCompact, IsCompacted, IsCompactRefused};
-ghost use Rattle.nk_compile.specs.Headline.{IsAcceptedByName, IsCompiled};
+ghost use Rattle.nk_compile.specs.Headline.{IsAcceptedByName, IsCompiled, IsCompiledPolicy};
 ghost use Rattle.nk_compile.specs.NumberedBehind.{IsTableBehind};
 ghost use Rattle.nk_compile.specs.PairAnswers.{FitTogether, IsCompiledPair, IsPairRefused, IsPairAnswer};
 ghost use Rattle.nk_names.specs.Named.{policy_named};
@@ -88,6 +89,24 @@ pub fn compiling_has_one_answer()
     ensures one { (program other : Program) (name : List ℕ) (a b : Result Tables CompileError) → said_by program ≡ said_by other
         → HavePackets program.fields program.topo → IsAnswer program name a → IsAnswer other name b
         → (a ≡ Err NoMemory) ⊎ ((b ≡ Err NoMemory) ⊎ (a ≡ b)) }
+{}
+
+/// Compiling a policy has one answer, unless memory runs out, whether it has a name or not: where it is accepted, its tables,
+/// and where it is refused, the reason, which is never that a name is missing. It is the same over programs with the same fields
+/// and the same topology; and what is answered of a policy is what is answered of its name.
+pub fn compiling_a_policy_has_one_answer()
+    ensures accepted { (program : Program) (p : Policy) (a : Result Tables CompileError)
+        → IsAccepted program p → IsPolicyAnswer program p a
+        → (a ≡ Err NoMemory) ⊎ ((t : Tables) × (a ≡ Ok t) × IsCompiledPolicy program p t) }
+    ensures refused { (program : Program) (p : Policy) (r : Refusal) (a : Result Tables CompileError)
+        → IsReason program.fields program.topo p r → IsPolicyAnswer program p a → (a ≡ Err NoMemory) ⊎ (a ≡ Err (Refused r)) }
+    ensures one { (program other : Program) (p : Policy) (a b : Result Tables CompileError)
+        → program.fields ≡ other.fields → program.topo ≡ other.topo → HavePackets program.fields program.topo
+        → IsPolicyAnswer program p a → IsPolicyAnswer other p b
+        → (a ≡ Err NoMemory) ⊎ ((b ≡ Err NoMemory) ⊎ (a ≡ b)) }
+    ensures unnamed { (fields : FieldTable) (topo : Topology) (p : Policy) → IsReason fields topo p NoPolicy → ⊥ }
+    ensures named { (program : Program) (name : List ℕ) (p : Policy) (a : Result Tables CompileError)
+        → policy_named program name ≡ Some p → IsPolicyAnswer program p a → IsAnswer program name a }
 {}
 
 /// Compacting a name has one answer, unless memory runs out: where the classes of its policy's tag sets are no more than the tag has

@@ -21,39 +21,39 @@ use Rattle.nk_compile.proofs.compact.compact_tables.Goals as goal
 pub met_packets-requires-clause-known : goal.met_packets-requires-clause-known
 met_packets-requires-clause-known c =
     let r = c.requires.prepared in
-    known c.args.fields.now c.args.topo.now r.0 (tree_of c.args.p.now) _ r.2 c.requires.few c.args.tags.now c.requires.numbers
+    known c.args.fields.now c.args.topo.now r.0 (tree_of c.args.p.now) _ r.2 c.requires.held.few_dups c.args.tags.now c.requires.numbers
 
 pub met_packets-requires-clause-ids : goal.met_packets-requires-clause-ids
 met_packets-requires-clause-ids c =
     let r = c.requires.prepared in
-    level_ids c.args.fields.now c.args.topo.now r.0 (tree_of c.args.p.now) _ r.2 c.requires.few c.args.tags.now c.requires.numbers
+    level_ids c.args.fields.now c.args.topo.now r.0 (tree_of c.args.p.now) _ r.2 c.requires.held.few_dups c.args.tags.now c.requires.numbers
 
 pub met_packets-requires-clause-sets : goal.met_packets-requires-clause-sets
 met_packets-requires-clause-sets c =
     let r = c.requires.prepared in
-    level_sets c.args.fields.now c.args.topo.now r.0 (tree_of c.args.p.now) _ r.2 c.requires.few c.args.tags.now c.requires.numbers
+    level_sets c.args.fields.now c.args.topo.now r.0 (tree_of c.args.p.now) _ r.2 c.requires.held.few_dups c.args.tags.now c.requires.numbers
 
 pub met_packets-requires-clause-room : goal.met_packets-requires-clause-room
 met_packets-requires-clause-room c =
     let r = c.requires.prepared in
-    labels_small c.args.fields.now c.args.topo.now r.0 (tree_of c.args.p.now) _ r.2 c.requires.few c.args.tags.now c.requires.numbers
+    labels_small c.args.fields.now c.args.topo.now r.0 (tree_of c.args.p.now) _ r.2 c.requires.held.few_dups c.args.tags.now c.requires.numbers
 
 pub new-requires-clause-states : goal.new-requires-clause-states
 new-requires-clause-states c =
     let r = c.requires.prepared in
-    states_there c.args.fields.now c.args.topo.now r.0 (tree_of c.args.p.now) _ r.2 c.requires.few c.args.tags.now c.requires.numbers
+    states_there c.args.fields.now c.args.topo.now r.0 (tree_of c.args.p.now) _ r.2 c.requires.held.few_dups c.args.tags.now c.requires.numbers
     c.met_packets.new.st c.met_packets.new.ss c.met_packets.ensures.grows c.met_packets.ensures.sets
 
 pub classes_of-requires-clause-known : goal.classes_of-requires-clause-known
 classes_of-requires-clause-known c =
     let r = c.requires.prepared in
-    known_there c.args.fields.now c.args.topo.now r.0 (tree_of c.args.p.now) _ r.2 c.requires.few c.args.tags.now c.requires.numbers
+    known_there c.args.fields.now c.args.topo.now r.0 (tree_of c.args.p.now) _ r.2 c.requires.held.few_dups c.args.tags.now c.requires.numbers
     c.new.new.st c.met_packets.new.ss (grows_on _ _ _ c.met_packets.ensures.grows c.new.ensures.grows) c.met_packets.ensures.sets
 
 pub classes_of-requires-clause-places : goal.classes_of-requires-clause-places
 classes_of-requires-clause-places c =
     let r = c.requires.prepared in
-    places_there c.args.fields.now c.args.topo.now r.0 (tree_of c.args.p.now) _ r.2 c.requires.few c.args.tags.now c.requires.numbers
+    places_there c.args.fields.now c.args.topo.now r.0 (tree_of c.args.p.now) _ r.2 c.requires.held.few_dups c.args.tags.now c.requires.numbers
     c.new.new.st c.met_packets.new.ss (grows_on _ _ _ c.met_packets.ensures.grows c.new.ensures.grows) c.met_packets.ensures.sets
 
 pub returns-then-len-max-clause-error : goal.returns-then-len-max-clause-error
@@ -73,8 +73,8 @@ returns-then-len-max-clause-error c =
       (
         sets_of c.args.ss.now c.args.tags.now,
         c.in_ok-classes.classes.numbers,
-        tags_are c.args.fields.now c.args.topo.now r.0 p _ r.2 c.requires.few c.args.tags.now c.requires.numbers,
-        classes_there c.args.fields.now c.args.topo.now r.0 p _ r.2 c.requires.few c.args.tags.now c.requires.numbers
+        tags_are c.args.fields.now c.args.topo.now r.0 p _ r.2 c.requires.held.few_dups c.args.tags.now c.requires.numbers,
+        classes_there c.args.fields.now c.args.topo.now r.0 p _ r.2 c.requires.held.few_dups c.args.tags.now c.requires.numbers
             c.new.new.st c.met_packets.new.ss (grows_on _ _ _ c.met_packets.ensures.grows c.new.ensures.grows) c.met_packets.ensures.sets
             c.in_ok-classes.classes.numbers c.laws.ensures.tidy c.in_ok-classes.ensures.classes,
         (slice_index c.in_ok-classes.classes.firsts c.args.max, get_index c.in_ok-classes.classes.numbers (slice_index c.in_ok-classes.classes.firsts c.args.max) member.0 ∙ ap Some (member.1 ∙ sym next)),
@@ -90,7 +90,7 @@ within c =
 pub aparts-requires-clause-base : goal.aparts-requires-clause-base
 aparts-requires-clause-base c =
     let r = c.requires.prepared in
-    base_there c.args.fields.now c.args.topo.now r.0 (tree_of c.args.p.now) _ r.2 c.requires.few c.args.tags.now c.requires.numbers
+    base_there c.args.fields.now c.args.topo.now r.0 (tree_of c.args.p.now) _ r.2 c.requires.held.few_dups c.args.tags.now c.requires.numbers
     c.classes_of.new.st c.classes_of.new.ss (grows_on _ _ _ c.met_packets.ensures.grows (grows_on _ _ _ c.new.ensures.grows c.classes_of.ensures.grows))
     (sets_grow_on c.args.ss.now c.met_packets.new.ss c.classes_of.new.ss c.met_packets.ensures.sets c.classes_of.ensures.sets) c.as_slice.result.now (within c)
 
@@ -99,7 +99,7 @@ aparts-requires-clause-different c =
     let r = c.requires.prepared in
     classes_differ c.new.new.st c.classes_of.new.st c.met_packets.new.ss c.classes_of.new.ss c.args.states.now c.args.tags.now c.in_ok-classes.classes.numbers c.as_slice.result.now
     (base_on c.new.new.st c.met_packets.new.ss c.new.new.st c.met_packets.new.ss c.args.states.now c.args.tags.now c.as_slice.result.now
-    (base_there c.args.fields.now c.args.topo.now r.0 (tree_of c.args.p.now) _ r.2 c.requires.few c.args.tags.now c.requires.numbers
+    (base_there c.args.fields.now c.args.topo.now r.0 (tree_of c.args.p.now) _ r.2 c.requires.held.few_dups c.args.tags.now c.requires.numbers
     c.new.new.st c.met_packets.new.ss (grows_on _ _ _ c.met_packets.ensures.grows c.new.ensures.grows) c.met_packets.ensures.sets c.as_slice.result.now (within c))
     c.classes_of.new.st c.classes_of.new.ss c.classes_of.ensures.grows c.classes_of.ensures.sets)
     c.in_ok-classes.ensures.classes (subst (AreFirsts c.in_ok-classes.classes.numbers) (sym c.as_slice.ensures) c.in_ok-classes.ensures.firsts)
@@ -114,16 +114,16 @@ merged_tables-requires c =
       mergeable = (
         c.args.fields.now,
         r.0,
-        mergeable_there c.args.fields.now c.args.topo.now r.0 (tree_of c.args.p.now) _ r.2 c.requires.few c.args.tags.now c.requires.numbers
+        mergeable_there c.args.fields.now c.args.topo.now r.0 (tree_of c.args.p.now) _ r.2 c.requires.held.few_dups c.args.tags.now c.requires.numbers
             c.aparts.new.st c.aparts.new.ss grown sets c.requires.held.in_range c.differ.ensures.ascend c.laws-3.ensures.fields
             c.in_ok-classes.classes.numbers c.in_ok-classes.classes.firsts c.as_slice-2.result.now
-            (classes_there c.args.fields.now c.args.topo.now r.0 (tree_of c.args.p.now) _ r.2 c.requires.few c.args.tags.now c.requires.numbers
+            (classes_there c.args.fields.now c.args.topo.now r.0 (tree_of c.args.p.now) _ r.2 c.requires.held.few_dups c.args.tags.now c.requires.numbers
             c.new.new.st c.met_packets.new.ss (grows_on _ _ _ c.met_packets.ensures.grows c.new.ensures.grows) c.met_packets.ensures.sets
             c.in_ok-classes.classes.numbers c.laws.ensures.tidy c.in_ok-classes.ensures.classes)
             c.in_ok-classes.ensures.firsts
             (ap (λ (l : List ℕ). length l) c.as_slice-2.ensures ∙ c.in_ok-met.ensures.len)
             (λ i lt. subst (λ l. IsMetPackets c.args.fields.now c.args.topo.now (tree_of c.args.p.now) (set_of_tag c.aparts.new.ss c.args.tags.now i) c.aparts.new.st (slice_index l i)) (sym c.as_slice-2.ensures)
-            (met_there c.args.fields.now c.args.topo.now r.0 (tree_of c.args.p.now) _ r.2 c.requires.few c.args.tags.now c.requires.numbers
+            (met_there c.args.fields.now c.args.topo.now r.0 (tree_of c.args.p.now) _ r.2 c.requires.held.few_dups c.args.tags.now c.requires.numbers
             c.aparts.new.st c.aparts.new.ss grown sets c.met_packets.new.st (slice_index c.in_ok-met.met i) i c.met_packets.ensures.grows late lt (c.in_ok-met.ensures.met i lt))),
       );
     }
@@ -148,18 +148,18 @@ returns-clause-made c =
       compilable = prepared_compilable c.args.fields.now c.args.topo.now r.0 p _ r.2;
       merged =
           subst (λ l. IsMergedTable c.args.fields.now c.args.topo.now (IsStartPacket c.args.fields.now c.args.topo.now) p l c.in_ok-classes.classes.numbers (record { fields = c.in_ok-fields.fields; topo = c.in_ok-topo.topo; tables = c.in_ok-tables.tables }))
-          (sets_there c.args.fields.now c.args.topo.now r.0 (tree_of c.args.p.now) _ r.2 c.requires.few c.args.tags.now c.requires.numbers c.aparts.new.st c.aparts.new.ss grown sets)
+          (sets_there c.args.fields.now c.args.topo.now r.0 (tree_of c.args.p.now) _ r.2 c.requires.held.few_dups c.args.tags.now c.requires.numbers c.aparts.new.st c.aparts.new.ss grown sets)
           (c.in_ok-tables.ensures c.args.fields.now r.0
-          (mergeable_there c.args.fields.now c.args.topo.now r.0 (tree_of c.args.p.now) _ r.2 c.requires.few c.args.tags.now c.requires.numbers
+          (mergeable_there c.args.fields.now c.args.topo.now r.0 (tree_of c.args.p.now) _ r.2 c.requires.held.few_dups c.args.tags.now c.requires.numbers
           c.aparts.new.st c.aparts.new.ss grown sets c.requires.held.in_range c.differ.ensures.ascend c.laws-3.ensures.fields
           c.in_ok-classes.classes.numbers c.in_ok-classes.classes.firsts c.as_slice-2.result.now
-          (classes_there c.args.fields.now c.args.topo.now r.0 (tree_of c.args.p.now) _ r.2 c.requires.few c.args.tags.now c.requires.numbers
+          (classes_there c.args.fields.now c.args.topo.now r.0 (tree_of c.args.p.now) _ r.2 c.requires.held.few_dups c.args.tags.now c.requires.numbers
           c.new.new.st c.met_packets.new.ss (grows_on _ _ _ c.met_packets.ensures.grows c.new.ensures.grows) c.met_packets.ensures.sets
           c.in_ok-classes.classes.numbers c.laws.ensures.tidy k)
           fm
           (ap (λ (l : List ℕ). length l) c.as_slice-2.ensures ∙ c.in_ok-met.ensures.len)
           (λ i lt. subst (λ l. IsMetPackets c.args.fields.now c.args.topo.now p (set_of_tag c.aparts.new.ss c.args.tags.now i) c.aparts.new.st (slice_index l i)) (sym c.as_slice-2.ensures)
-          (met_there c.args.fields.now c.args.topo.now r.0 (tree_of c.args.p.now) _ r.2 c.requires.few c.args.tags.now c.requires.numbers
+          (met_there c.args.fields.now c.args.topo.now r.0 (tree_of c.args.p.now) _ r.2 c.requires.held.few_dups c.args.tags.now c.requires.numbers
           c.aparts.new.st c.aparts.new.ss grown sets c.met_packets.new.st (slice_index c.in_ok-met.met i) i c.met_packets.ensures.grows late lt (c.in_ok-met.ensures.met i lt))))
           (record { fields = c.in_ok-fields.fields; topo = c.in_ok-topo.topo; tables = c.in_ok-tables.tables }) c.in_ok-fields.ensures c.in_ok-topo.ensures refl);
       few = λ i.
@@ -167,12 +167,12 @@ returns-clause-made c =
           (classes_few c.in_ok-classes.classes.numbers c.in_ok-classes.classes.firsts c.args.max fm few i);
       apart =
           subst (λ l. AreAparts c.args.fields.now p l c.in_ok-classes.classes.numbers c.in_ok-aparts.aparts)
-          (sets_there c.args.fields.now c.args.topo.now r.0 (tree_of c.args.p.now) _ r.2 c.requires.few c.args.tags.now c.requires.numbers c.classes_of.new.st c.classes_of.new.ss early early_sets)
-          (told_all c.args.fields.now p (distinct c.args.fields.now c.args.topo.now r.0 (tree_of c.args.p.now) _ r.2 c.requires.few c.args.tags.now c.requires.numbers) c.classes_of.new.st c.args.states.now
-          (over_there c.args.fields.now c.args.topo.now r.0 (tree_of c.args.p.now) _ r.2 c.requires.few c.args.tags.now c.requires.numbers c.classes_of.new.st c.classes_of.new.ss early early_sets)
-          (auto_there c.args.fields.now c.args.topo.now r.0 (tree_of c.args.p.now) _ r.2 c.requires.few c.args.tags.now c.requires.numbers c.classes_of.new.st c.classes_of.new.ss early early_sets)
+          (sets_there c.args.fields.now c.args.topo.now r.0 (tree_of c.args.p.now) _ r.2 c.requires.held.few_dups c.args.tags.now c.requires.numbers c.classes_of.new.st c.classes_of.new.ss early early_sets)
+          (told_all c.args.fields.now p (distinct c.args.fields.now c.args.topo.now r.0 (tree_of c.args.p.now) _ r.2 c.requires.held.few_dups c.args.tags.now c.requires.numbers) c.classes_of.new.st c.args.states.now
+          (over_there c.args.fields.now c.args.topo.now r.0 (tree_of c.args.p.now) _ r.2 c.requires.held.few_dups c.args.tags.now c.requires.numbers c.classes_of.new.st c.classes_of.new.ss early early_sets)
+          (auto_there c.args.fields.now c.args.topo.now r.0 (tree_of c.args.p.now) _ r.2 c.requires.held.few_dups c.args.tags.now c.requires.numbers c.classes_of.new.st c.classes_of.new.ss early early_sets)
           c.laws-2.ensures.tidy c.classes_of.new.ss c.args.tags.now c.in_ok-classes.classes.numbers c.in_ok-classes.classes.firsts
-          (dups_there c.args.fields.now c.args.topo.now r.0 (tree_of c.args.p.now) _ r.2 c.requires.few c.args.tags.now c.requires.numbers c.classes_of.new.st c.classes_of.new.ss early early_sets)
+          (dups_there c.args.fields.now c.args.topo.now r.0 (tree_of c.args.p.now) _ r.2 c.requires.held.few_dups c.args.tags.now c.requires.numbers c.classes_of.new.st c.classes_of.new.ss early early_sets)
           k.one_each k.from_one fm c.in_ok-aparts.aparts
           (subst (λ (l : List ℕ). AreToldApart c.classes_of.new.st c.args.states.now c.classes_of.new.ss c.args.tags.now l (first_pairs (length l) (length l)) c.in_ok-aparts.aparts) c.as_slice.ensures c.in_ok-aparts.ensures.told));
     }

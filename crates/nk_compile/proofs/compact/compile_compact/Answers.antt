@@ -1,21 +1,17 @@
 use Rattle.std.proofs.Common.{ℕ, ◌+◌, ◌<◌, Some, sym, ap, subst, ◌∙◌}
 use Rattle.std.specs.Prelude.{IfOk, IfErr, slice_index}
-use Rattle.nk_names.specs.ProgramValue.{ProgramValue, IsLet}
+use Rattle.nk_names.specs.ProgramValue.{ProgramValue}
+use Rattle.nk_names.specs.WellFormed.{IsWellFormed}
 use Rattle.nk_policy.specs.Tree.{tree_of}
 use Rattle.nk_compile.specs.Compacted.{IsCompactOf, IsCompactError}
 use Rattle.nk_compile.proofs.CompactAnswers.{compact_answer_named}
-use Rattle.nk_compile.proofs.Naming.{let_named, has_few_dups, has_room}
+use Rattle.nk_compile.proofs.Naming.{named_well_formed, has_room}
 use Rattle.nk_compile.proofs.compact.compile_compact.Goals as goal
 
 pub policy_compact-requires-clause-held : goal.policy_compact-requires-clause-held
 policy_compact-requires-clause-held c =
-    subst (λ (v : ProgramValue). IsLet v.fields (tree_of c.in_ok-p.p)) (sym c.program.view_is)
-    (let_named c.args.program.now c.args.name.now (tree_of c.in_ok-p.p) c.find.ensures.is (sym c.in-Some.ensures.found ∙ ap Some (sym c.in_ok-p.ensures)))
-
-pub policy_compact-requires-clause-few : goal.policy_compact-requires-clause-few
-policy_compact-requires-clause-few c =
-    has_few_dups c.args.program.now.fields (tree_of c.in_ok-p.p)
-    (let_named c.args.program.now c.args.name.now (tree_of c.in_ok-p.p) c.find.ensures.is (sym c.in-Some.ensures.found ∙ ap Some (sym c.in_ok-p.ensures)))
+    subst (λ (v : ProgramValue). IsWellFormed v.fields (tree_of c.in_ok-p.p)) (sym c.program.view_is)
+    (named_well_formed c.args.program.now c.args.name.now (tree_of c.in_ok-p.p) c.find.ensures.is (sym c.in-Some.ensures.found ∙ ap Some (sym c.in_ok-p.ensures)))
 
 pub policy_compact-requires-clause-room : goal.policy_compact-requires-clause-room
 policy_compact-requires-clause-room c =
