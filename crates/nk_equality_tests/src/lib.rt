@@ -1,5 +1,6 @@
 //! Tests of equality: pairs whose answer was worked out by hand, random pairs against all their histories, and their
-//! certificates against the definition; random queries over small networks against all their histories.
+//! certificates against the definition; random queries over small networks against all their histories; physical policies over small
+//! fabrics.
 #![tactic(auto)]
 
 #[cfg(test)]
@@ -8,6 +9,8 @@ mod cases;
 mod certificates;
 #[cfg(test)]
 mod definition;
+#[cfg(test)]
+mod fabrics;
 #[cfg(test)]
 mod pairs;
 #[cfg(test)]

@@ -12,7 +12,7 @@ use Rattle.nk_policy.specs.After.{drop_policy}
 use Rattle.nk_policy.proofs.Remade.{dupless_marked}
 use Rattle.nk_names.proofs.Good.{few_dups, over_in_range}
 use Rattle.nk_names.proofs.Predicates.{no_dups}
-use Rattle.nk_virtual.specs.Physical.{VirtualLink}
+use Rattle.nk_names.specs.ProgramValue.{VirtualLink}
 use Rattle.nk_virtual.specs.Fabrics.{moved_along}
 use Rattle.nk_virtual.specs.Endings.{without_records, all_without_records}
 use Rattle.nk_virtual.specs.Questions.{tag_tests, at_entry, from_entry, move, ends_or_move, tests_from, only, elsewhere}

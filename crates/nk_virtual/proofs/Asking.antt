@@ -9,7 +9,7 @@ use Rattle.nk_policy.specs.After.{drop_policy}
 use Rattle.nk_policy.specs.Ranges.{IsInRange}
 use Rattle.nk_reach.specs.Histories.{IsUpTo}
 use Rattle.nk_cert.specs.Equality.{Side, on_left, on_right, AreSame, IsOfFirstAlone, IsOfOneAlone, IsLeastDifference}
-use Rattle.nk_virtual.specs.Physical.{VirtualLink}
+use Rattle.nk_names.specs.ProgramValue.{VirtualLink}
 use Rattle.nk_virtual.specs.Fabrics.{moved_along, IsCarried}
 use Rattle.nk_virtual.specs.Endings.{without_records}
 use Rattle.nk_virtual.specs.Questions.{from_entry, move, ends_or_move, elsewhere}

@@ -11,7 +11,8 @@ use Rattle.nk_policy.specs.Leaves.{has_leaf, some_has_leaf, is_dup}
 use Rattle.nk_policy.specs.Ranges.{AssignsOnly, AllAssignOnly}
 use Rattle.nk_policy.proofs.Tests.{false_true, both_false}
 use Rattle.nk_names.specs.Accepted.{is_link_outside}
-use Rattle.nk_virtual.specs.Physical.{VirtualLink, through_fabric, link_through, physical, all_physical}
+use Rattle.nk_names.specs.ProgramValue.{VirtualLink}
+use Rattle.nk_virtual.specs.Physical.{through_fabric, link_through, physical, all_physical}
 use Rattle.nk_virtual.specs.Fabrics.{IsAtStartOf, moved_along, LiesOver}
 use Rattle.nk_virtual.proofs.Over.{over_same, over_joined}
 use Rattle.nk_virtual.proofs.Literals.{plain, moved_to, crosses, crossed, into_fabric, out_of_fabric, IsFound, is_found, not_false}

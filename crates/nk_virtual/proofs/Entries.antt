@@ -7,7 +7,7 @@ use Rattle.nk_field.specs.declared.packet.Packet.{Packet}
 use Rattle.nk_field.specs.Packet.{without}
 use Rattle.nk_policy.specs.Policy.{Policy, test, part}
 use Rattle.nk_policy.specs.Meaning.{Way, keep, keep_where, set_field, followed_by, way_of, way_of_all, Gives}
-use Rattle.nk_virtual.specs.Physical.{VirtualLink}
+use Rattle.nk_names.specs.ProgramValue.{VirtualLink}
 use Rattle.nk_virtual.specs.Fabrics.{IsAtStartOf, moved_along}
 use Rattle.nk_virtual.specs.Questions.{tag_tests, at_entry, from_entry, move}
 use Rattle.nk_virtual.proofs.Literals.{plain}

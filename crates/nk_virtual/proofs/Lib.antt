@@ -4,11 +4,16 @@ pub mod Assigned
 pub mod Carrying
 pub mod Endings
 pub mod Entries
+pub mod Judged
 pub mod Literals
+pub mod Made
+pub mod OneAnswer
 pub mod OneCarriage
+pub mod OneReason
 pub mod Only
 pub mod Over
 pub mod Parts
+pub mod Seen
 pub mod Sight
 pub mod Staying
 pub mod Telling

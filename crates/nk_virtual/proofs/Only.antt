@@ -11,7 +11,7 @@ use Rattle.nk_policy.specs.Meaning.{keep, way_of_all, Gives}
 use Rattle.nk_policy.specs.Ranges.{IsInRange}
 use Rattle.nk_policy.proofs.InRange.{ways_keep}
 use Rattle.nk_policy.proofs.LabelSteps.{gives_is_runs}
-use Rattle.nk_virtual.specs.Physical.{VirtualLink}
+use Rattle.nk_names.specs.ProgramValue.{VirtualLink}
 use Rattle.nk_virtual.specs.Fabrics.{moved_along}
 use Rattle.nk_virtual.specs.Questions.{tests_from, only, elsewhere}
 use Rattle.nk_virtual.proofs.Literals.{plain}

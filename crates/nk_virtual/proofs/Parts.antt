@@ -1,15 +1,14 @@
--- One more part of a list that is rebuilt, and a literal by the virtual links that are left.
+-- One more part of a list that is rebuilt.
 use Rattle.std.proofs.Common.{◌≡◌, ℕ, ◌+◌, ◌<◌, List, [], ◌∷◌, ◌++◌, length, get_or, drop, drop-cons, add-one, ap, sym, ◌∙◌}
-use Rattle.std.specs.Prelude.{map, slice_index}
-use Rattle.nk_policy.specs.Policy.{Policy, Policies, test}
+use Rattle.std.specs.Prelude.{slice_index}
+use Rattle.nk_policy.specs.Policy.{Policies, test}
 use Rattle.nk_policy.specs.Tree.{tree_of, trees_of}
 use Rattle.nk_policy.specs.declared.policy.Pol.{Pol}
 use Rattle.nk_policy.proofs.Trees.{joined}
 use Rattle.nk_policy.proofs.Steps.{left_is, one_more}
-use Rattle.nk_virtual.specs.declared.fabric.FabricLink.{FabricLink}
-use Rattle.nk_virtual.specs.Held.{virtual_link_of}
 use Rattle.nk_virtual.specs.Endings.{without_records, all_without_records}
-use Rattle.nk_virtual.specs.Physical.{VirtualLink, physical, all_physical, link_through}
+use Rattle.nk_names.specs.ProgramValue.{VirtualLink}
+use Rattle.nk_virtual.specs.Physical.{physical, all_physical}
 use Rattle.nk_virtual.specs.Questions.{tests_from}
 
 -- the loop's fact, after one more part is replaced
@@ -47,7 +46,3 @@ tests_more ms x i y out out' all lt e f inv =
     one_more out out' y _ (tests_from (i + 1) (drop (i + 1) ms) x) e f
     ∙ ap (λ l. joined (trees_of out) (tests_from i l x)) (sym (left_numbers ms i lt))
     ∙ inv
-
--- what stands for a literal, by the virtual links that are left
-abbrev pub left_through : List FabricLink → ℕ → ℕ → ℕ → ℕ → ℕ → Policy
-left_through xs a m b n l = link_through (map virtual_link_of xs) a m b n l

@@ -1,13 +1,15 @@
 -- What is seen of a physical policy's text: no leaf that neither the virtual policy nor a fabric has.
-use Rattle.std.proofs.Common.{◌≡◌, ℕ, ◌+◌, ◌≤◌, Bool, true, false, List, refl, ap, ◌∙◌, arith}
+use Rattle.std.proofs.Common.{◌≡◌, ℕ, ◌+◌, ◌≤◌, Bool, true, false, List, refl, ap, ◌∙◌, arith, lit≤}
 use Rattle.std.specs.Prelude.{◌==◌, ◌||◌, map, All}
 use Rattle.nk_field.proofs.Ascending.{members_from_all}
 use Rattle.nk_policy.specs.Policy.{Policy, Policies, test, range, assign, sum_of, seq_of, not_of, star_of, dup, link, no_part, part, is_predicate, are_predicates, dups_of, marked_from, all_marked_from}
-use Rattle.nk_policy.specs.Leaves.{has_leaf, some_has_leaf}
+use Rattle.nk_topo.specs.Topology.{Link}
+use Rattle.nk_policy.specs.Leaves.{has_leaf, some_has_leaf, is_on_field, is_dup, is_switch_assignment}
 use Rattle.nk_policy.proofs.Tests.{false_true, false_where, both_true, both_false, same_from}
 use Rattle.nk_names.specs.Accepted.{is_link_outside}
 use Rattle.nk_policy.specs.Complements.{NegatesPredicates, AllNegatePredicates}
-use Rattle.nk_virtual.specs.Physical.{VirtualLink, through_fabric, link_through, physical, all_physical}
+use Rattle.nk_names.specs.ProgramValue.{VirtualLink}
+use Rattle.nk_virtual.specs.Physical.{through_fabric, link_through, physical, all_physical}
 use Rattle.nk_virtual.proofs.Literals.{IsFound, is_found, not_false}
 
 -- two tests that fail, together
@@ -135,3 +137,36 @@ module _ (is : Policy → Bool) (no_switch : (n : ℕ) → is (test 0 n) ≡ fal
       all_literals_gone (part p ps) h o =
           let o2 = both_false (has_leaf outside p) (some_has_leaf outside ps) o in
           or_none (has_leaf is (physical links p)) (some_has_leaf is (all_physical links ps)) (literals_gone p h.0 o2.0) (all_literals_gone ps h.1 o2.1)
+
+-- ---- with all dups numbered anew
+
+module _ (links : List VirtualLink) (p : Policy) (among : has_leaf (is_link_outside (map (λ k. k.ends) links)) p ≡ false) (n : ℕ) where
+  -- the tag is free
+  pub physical_tag_free : (tag : ℕ) → 2 ≤ tag → has_leaf (is_on_field tag) p ≡ false
+      → All (λ k. has_leaf (is_on_field tag) k.fabric ≡ false) links
+      → has_leaf (is_on_field tag) (marked_from (physical links p) n) ≡ false
+  physical_tag_free tag past h fabrics =
+      marked_leaf (is_on_field tag) (λ l k. refl) (λ a m b j l k. refl) (physical links p) n
+      ∙ free_leaf (is_on_field tag) (λ v. past_port tag 0 (lit≤ tt) past) (λ v. past_port tag 1 (lit≤ tt) past) links fabrics p among h
+
+  -- no dup is loose
+  pub physical_dups : has_leaf is_dup p ≡ false → All (λ k. has_leaf is_dup k.fabric ≡ false) links
+      → has_leaf is_dup (marked_from (physical links p) n) ≡ false
+  physical_dups h fabrics =
+      marked_leaf is_dup (λ l k. refl) (λ a m b j l k. refl) (physical links p) n
+      ∙ free_leaf is_dup (λ v. refl) (λ v. refl) links fabrics p among h
+
+  -- nor an assignment of the switch
+  pub physical_switch : has_leaf is_switch_assignment p ≡ false → All (λ k. has_leaf is_switch_assignment k.fabric ≡ false) links
+      → has_leaf is_switch_assignment (marked_from (physical links p) n) ≡ false
+  physical_switch h fabrics =
+      marked_leaf is_switch_assignment (λ l k. refl) (λ a m b j l k. refl) (physical links p) n
+      ∙ free_leaf is_switch_assignment (λ v. refl) (λ v. refl) links fabrics p among h
+
+  -- and the literals are declared links
+  pub physical_links : (declared : List Link) → NegatesPredicates p
+      → All (λ k. has_leaf (is_link_outside declared) k.fabric ≡ false) links
+      → has_leaf (is_link_outside declared) (marked_from (physical links p) n) ≡ false
+  physical_links declared h fabrics =
+      marked_leaf (is_link_outside declared) (λ l k. refl) (λ a m b j l k. refl) (physical links p) n
+      ∙ literals_gone (is_link_outside declared) (λ v. refl) (λ v. refl) links fabrics (λ f v. refl) (λ f v w. refl) (λ f v. refl) (λ l. refl) p h among

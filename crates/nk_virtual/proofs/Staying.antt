@@ -7,7 +7,8 @@ use Rattle.std.proofs.lemmas.List.Elements.{All-head, All-tail}
 use Rattle.nk_policy.specs.Policy.{Policy, Policies, test, range, assign, sum_of, seq_of, not_of, star_of, dup, link, no_part, part}
 use Rattle.nk_policy.specs.Ranges.{UsesOnly, AllUseOnly}
 use Rattle.nk_policy.specs.Complements.{NegatesPredicates, AllNegatePredicates}
-use Rattle.nk_virtual.specs.Physical.{VirtualLink, has_ends, through_fabric, link_through, physical, all_physical}
+use Rattle.nk_names.specs.ProgramValue.{VirtualLink}
+use Rattle.nk_virtual.specs.Physical.{has_ends, through_fabric, link_through, physical, all_physical}
 use Rattle.nk_virtual.proofs.Literals.{if_true, if_false, ends_are}
 
 -- what holds of two policies holds of either

@@ -8,7 +8,7 @@ use Rattle.nk_policy.specs.After.{drop_policy}
 use Rattle.nk_cert.specs.Equality.{Side, AreSame, IsLeastDifference}
 use Rattle.nk_cert.specs.Certificates.{CertificateValue}
 use Rattle.nk_cert.specs.Comparison.{IsRelated}
-use Rattle.nk_virtual.specs.Physical.{VirtualLink}
+use Rattle.nk_names.specs.ProgramValue.{VirtualLink}
 use Rattle.nk_virtual.specs.Fabrics.{IsCarried}
 use Rattle.nk_virtual.specs.Questions.{elsewhere}
 use Rattle.nk_virtual.specs.Carriage.{Enters, IsAskable, AreComparable, IsOnTarget, IsOffTarget, IsFirstNotCarried, IsLeastStart, IsLeastFrom}

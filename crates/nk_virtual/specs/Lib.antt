@@ -2,7 +2,10 @@ pub mod Answers
 pub mod Carriage
 pub mod Endings
 pub mod Fabrics
+pub mod Flaws
 pub mod Held
 pub mod Physical
 pub mod Questions
+pub mod Reasons
+pub mod Sizes
 pub mod Worked

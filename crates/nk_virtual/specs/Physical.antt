@@ -1,13 +1,9 @@
--- Virtual links, and the policy that takes each of them over its fabric (virtual networks: Casado et al., PRESTO 2010;
+-- The policy that takes each virtual link of another over its fabric (virtual networks: Casado et al., PRESTO 2010;
 -- Smolka et al., ICFP 2015).
 use Rattle.std.specs.Prelude.{ℕ, ◌==◌, ◌&&◌, Bool, if◌then◌else◌, List, [], ◌∷◌}
 use Rattle.nk_topo.specs.Topology.{Link}
 use Rattle.nk_policy.specs.Policy.{Policy, Policies, test, range, assign, sum_of, seq_of, not_of, star_of, dup, link, no_part, part}
-
--- a link that isn't there: its ends, and its fabric, the policy that takes packets from the one end to the other
-pub record VirtualLink : Type 0 where
-  pub ends : Link
-  pub fabric : Policy
+use Rattle.nk_names.specs.ProgramValue.{VirtualLink}
 
 -- the link begins at port m of switch a and ends at port n of switch b
 abbrev pub has_ends : ℕ → ℕ → ℕ → ℕ → Link → Bool

@@ -7,7 +7,7 @@ use Rattle.nk_field.specs.Packet.{FieldTable, IsFieldTable, IsPacket, IsUntagged
 use Rattle.nk_policy.specs.Policy.{Policy, assign, seq_of, link, no_part, part}
 use Rattle.nk_policy.specs.Meaning.{Gives}
 use Rattle.nk_policy.specs.Worked.{packet, ending}
-use Rattle.nk_virtual.specs.Physical.{VirtualLink}
+use Rattle.nk_names.specs.ProgramValue.{VirtualLink}
 use Rattle.nk_virtual.specs.Fabrics.{IsVirtual}
 
 -- pt:=2;1:2=>2:1;pt:=2;2:2=>3:1

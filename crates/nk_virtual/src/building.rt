@@ -1,27 +1,26 @@
 //! The physical policy.
-ghost use Rattle.std.specs.Prelude.{◌≡◌, ◌≤◌, map, IfOk, IfErr};
+ghost use Rattle.std.specs.Prelude.{◌≡◌, ◌≤◌, IfOk};
 ghost use Rattle.nk_policy.specs.Policy.{size_of, marked_from};
 ghost use Rattle.nk_policy.specs.Tree.{tree_of, trees_of};
-ghost use Rattle.nk_virtual.specs.Answers.{IsBuilt, IsPhysicalCause};
-ghost use Rattle.nk_virtual.specs.Held.{virtual_link_of};
+ghost use Rattle.nk_virtual.specs.Answers.{IsBuilding};
 ghost use Rattle.nk_virtual.specs.Physical.{physical as physical_of, all_physical, link_through, through_fabric as fabric_of};
 
-use crate::error::PhysicalError;
-use crate::fabric::FabricLink;
+use crate::literal::has_ends;
 use crate::measure::physical_size;
+use crate::refusal::{VirtualError, VirtualRefusal};
 use nk_field::Fid;
+use nk_names::VirtualLink;
 use nk_policy::{Pol, Pols, marked};
 use std::alloc::{AllocError, Global};
 
 const MOST: u64 = 1_048_576;
 
 /// The policy with each literal of a virtual link replaced by the link's fabric, its dups numbered from 1.
-pub fn physical(alloc: Global, links: &[FabricLink], p: &Pol) -> Result<Pol, PhysicalError>
-    ensures ok { IfOk result (λ q. IsBuilt (physical_of (map virtual_link_of links.now) (tree_of p.now)) (tree_of q)) }
-    ensures err { IfErr result (λ e. IsPhysicalCause (physical_of (map virtual_link_of links.now) (tree_of p.now)) e) }
+pub(crate) fn expanded(alloc: Global, links: &[VirtualLink], p: &Pol) -> Result<Pol, VirtualError>
+    ensures { IsBuilding (physical_of links.now (tree_of p.now)) result }
 {
-    if physical_size(links, p) > MOST {
-        return Err(PhysicalError::TooLarge);
+    if physical_size(alloc, links, p)? > MOST {
+        return Err(VirtualError::Refused(VirtualRefusal::TooLarge));
     }
     let q = replaced(alloc, links, p)?;
     let q = numbered(alloc, &q)?;
@@ -31,8 +30,8 @@ pub fn physical(alloc: Global, links: &[FabricLink], p: &Pol) -> Result<Pol, Phy
 /// The policy with each literal of a virtual link replaced.
 #[cycle(replace)]
 #[tactic(auto, using(nk_policy::proofs::Trees::tree_of_sum, nk_policy::proofs::Trees::tree_of_seq))]
-fn replaced(alloc: Global, links: &[FabricLink], p: &Pol) -> Result<Pol, AllocError>
-    ensures { IfOk result (λ q. tree_of q ≡ physical_of (map virtual_link_of links.now) (tree_of p.now)) }
+fn replaced(alloc: Global, links: &[VirtualLink], p: &Pol) -> Result<Pol, AllocError>
+    ensures { IfOk result (λ q. tree_of q ≡ physical_of links.now (tree_of p.now)) }
 {
     match p {
         Pol::Test(f, n) => Ok(Pol::Test(*f, *n)),
@@ -49,8 +48,8 @@ fn replaced(alloc: Global, links: &[FabricLink], p: &Pol) -> Result<Pol, AllocEr
 
 #[cycle(replace)]
 #[tactic(auto, using(nk_policy::proofs::Trees::joined_push, nk_policy::proofs::Trees::joined_none))]
-fn all_replaced(alloc: Global, links: &[FabricLink], ps: &[Pol]) -> Result<Vec<Pol>, AllocError>
-    ensures { IfOk result (λ qs. trees_of qs.items ≡ all_physical (map virtual_link_of links.now) (trees_of ps.now)) }
+fn all_replaced(alloc: Global, links: &[VirtualLink], ps: &[Pol]) -> Result<Vec<Pol>, AllocError>
+    ensures { IfOk result (λ qs. trees_of qs.items ≡ all_physical links.now (trees_of ps.now)) }
 {
     let mut out = Vec::new(alloc);
     for q in ps {
@@ -62,17 +61,17 @@ fn all_replaced(alloc: Global, links: &[FabricLink], ps: &[Pol]) -> Result<Vec<P
 /// What stands for a link literal.
 fn through(
     alloc: Global,
-    links: &[FabricLink],
+    links: &[VirtualLink],
     a: u16,
     m: u16,
     b: u16,
     n: u16,
     mark: u32,
 ) -> Result<Pol, AllocError>
-    ensures { IfOk result (λ q. tree_of q ≡ link_through (map virtual_link_of links.now) a m b n mark) }
+    ensures { IfOk result (λ q. tree_of q ≡ link_through links.now a m b n mark) }
 {
     for k in links {
-        if k.has_ends(a, m, b, n) {
+        if has_ends(k, a, m, b, n) {
             return through_fabric(alloc, k);
         }
     }
@@ -81,10 +80,10 @@ fn through(
 
 /// What stands for a literal of a virtual link.
 #[tactic(auto, using(nk_policy::proofs::Trees::tree_of_seq))]
-fn through_fabric(alloc: Global, k: &FabricLink) -> Result<Pol, AllocError>
-    ensures { IfOk result (λ q. tree_of q ≡ fabric_of (virtual_link_of k.now)) }
+fn through_fabric(alloc: Global, k: &VirtualLink) -> Result<Pol, AllocError>
+    ensures { IfOk result (λ q. tree_of q ≡ fabric_of k.now) }
 {
-    let fabric = k.fabric.copy(alloc)?;
+    let fabric = k.fabric.written(alloc)?;
     let parts = vec![in alloc;
         Pol::Test(Fid::SWITCH, u64::from(k.from_switch)),
         Pol::Test(Fid::PORT, u64::from(k.from_port)),

@@ -1,9 +1,10 @@
-//! Virtual links.
-ghost use Rattle.std.specs.Prelude.{◌≡◌, ◌≤◌};
+//! Virtual links with their fabrics written out.
+ghost use Rattle.std.specs.Prelude.{◌≡◌, ◌≤◌, IfOk};
 ghost use Rattle.nk_virtual.specs.Held.{virtual_link_of};
-ghost use Rattle.nk_virtual.specs.Physical.{has_ends as has_link_ends};
 
+use nk_names::VirtualLink;
 use nk_policy::Pol;
+use std::alloc::{AllocError, Global};
 
 /// A virtual link: the switch and the port where it begins, those where it ends, and its fabric.
 #[derive(Debug, Drop)]
@@ -21,13 +22,6 @@ pub struct FabricLink {
 }
 
 impl FabricLink {
-    /// Whether it begins at port m of switch a and ends at port n of switch b.
-    pub(crate) fn has_ends(&self, a: u16, m: u16, b: u16, n: u16) -> bool
-        ensures { result ≡ has_link_ends a m b n (virtual_link_of self.now).ends }
-    {
-        self.from_switch == a && self.from_port == m && self.to_switch == b && self.to_port == n
-    }
-
     /// Its numbers are those of switches and ports.
     pub(crate) fn are_small(&self)
         ensures from_switch { self.now.from_switch ≤ 65535 }
@@ -46,3 +40,17 @@ impl FabricLink {
 fn is_small(n: u16)
     ensures { n ≤ 65535 }
 {}
+
+/// A virtual link of a program, the names in its fabric written out. The only error is that memory ran out.
+pub(crate) fn written(alloc: Global, k: &VirtualLink) -> Result<FabricLink, AllocError>
+    ensures { IfOk result (λ l. virtual_link_of l ≡ k.now) }
+{
+    let fabric = k.fabric.written(alloc)?;
+    Ok(FabricLink {
+        from_switch: k.from_switch,
+        from_port: k.from_port,
+        to_switch: k.to_switch,
+        to_port: k.to_port,
+        fabric,
+    })
+}

@@ -16,7 +16,13 @@ ghost use Rattle.nk_field.specs.Order.{Found};
 ghost use Rattle.nk_virtual.specs.Carriage.{IsOnTarget, IsOffTarget, IsNotCarried, IsFirstOffTarget, IsFirstNotCarried};
 ghost use Rattle.nk_virtual.specs.Endings.{without_records};
 ghost use Rattle.nk_virtual.specs.Fabrics.{LiesOver, IsVirtual, IsCarried, IsAtStartOf, moved_along};
-ghost use Rattle.nk_virtual.specs.Physical.{VirtualLink, physical};
+ghost use Rattle.nk_names.specs.declared.Program.{Program};
+ghost use Rattle.nk_names.specs.ProgramOf.{said_by};
+ghost use Rattle.nk_names.specs.ProgramValue.{VirtualLink, AreVirtual};
+ghost use Rattle.nk_virtual.specs.Answers.{IsPhysical};
+ghost use Rattle.nk_virtual.specs.Reasons.{IsVirtualReason};
+ghost use Rattle.nk_virtual.specs.declared.refusal.VirtualRefusal.{VirtualRefusal};
+ghost use Rattle.nk_virtual.specs.Physical.{physical};
 ghost use Rattle.nk_virtual.specs.Worked.{one_to_three, across_virtual, virtual_history, physical_history, HasAllThatIsAsked};
 
 /// From a packet in range without a tag, each history of the physical policy lies over one of the virtual policy that ends
@@ -119,6 +125,18 @@ pub fn one_carriage()
         → (f : Found) → IsOffTarget fields k f → ⊥ }
     ensures carried { (fields : FieldTable) (k : VirtualLink) → IsCarried fields k
         → ((f : Found) → IsOffTarget fields k f → ⊥) × ((x : Packet) → IsNotCarried fields k x → ⊥) }
+{}
+
+/// At most one thing is answered to a name, unless memory runs out, in programs that say the same: the first reason why it has no
+/// physical policy is one, there is none beside a physical policy, and of that there is one.
+pub fn one_thing_is_answered_of_a_name()
+    ensures reasons { (program other : Program) (name : List ℕ) (r s : VirtualRefusal) → said_by program ≡ said_by other
+        → AreVirtual program.fields program.topo program.fabrics program.virtuals
+        → IsVirtualReason program name r → IsVirtualReason other name s → r ≡ s }
+    ensures none { (program other : Program) (name : List ℕ) (q : Policy) (r : VirtualRefusal) → said_by program ≡ said_by other
+        → IsPhysical program name q → IsVirtualReason other name r → ⊥ }
+    ensures policies { (program other : Program) (name : List ℕ) (q s : Policy) → said_by program ≡ said_by other
+        → IsPhysical program name q → IsPhysical other name s → q ≡ s }
 {}
 
 /// A small virtual policy, worked out by hand: from port 1 of switch 1 to switch 3, by switch 2.

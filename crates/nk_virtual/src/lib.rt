@@ -4,14 +4,17 @@
 
 mod building;
 mod ends;
-mod error;
 mod fabric;
+mod flaws;
 mod judging;
 pub mod laws;
+mod literal;
 mod measure;
+mod naming;
 mod questions;
+mod refusal;
 
-pub use building::physical;
-pub use error::PhysicalError;
 pub use fabric::FabricLink;
 pub use judging::{Carriage, carriage_of};
+pub use naming::physical;
+pub use refusal::{VirtualError, VirtualRefusal};

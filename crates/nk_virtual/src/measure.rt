@@ -1,48 +1,77 @@
 //! The size of a physical policy, told before it is made.
-ghost use Rattle.std.specs.Prelude.{◌≡◌, ℕ, map, min};
-ghost use Rattle.nk_policy.specs.Policy.{size_of, sizes_of};
+ghost use Rattle.std.specs.Prelude.{◌≡◌, ℕ, map, min, IfOk};
+ghost use Rattle.nk_policy.specs.Policy.{sizes_of};
 ghost use Rattle.nk_policy.specs.Tree.{tree_of, trees_of};
-ghost use Rattle.nk_virtual.specs.Held.{virtual_link_of};
 ghost use Rattle.nk_virtual.specs.Physical.{physical, all_physical, link_through};
+ghost use Rattle.nk_virtual.specs.Sizes.{size_within, fabric_size};
 
-use crate::fabric::FabricLink;
+use crate::literal::has_ends;
+use nk_names::VirtualLink;
 use nk_policy::{Pol, size};
+use std::alloc::{AllocError, Global};
 
 const LAST: u64 = u64::MAX;
 
 /// How many elements the physical policy has, at most the last u64.
-#[cycle(physical_size)]
+pub(crate) fn physical_size(
+    alloc: Global,
+    links: &[VirtualLink],
+    p: &Pol,
+) -> Result<u64, AllocError>
+    ensures { IfOk result (λ n. n ≡ size_within (physical links.now (tree_of p.now))) }
+{
+    let sizes = fabric_sizes(alloc, links)?;
+    Ok(replaced_size(links, sizes.as_slice(), p))
+}
+
+/// How many elements the fabric of each virtual link has. Each is written out, and let go once it is measured.
+fn fabric_sizes(alloc: Global, links: &[VirtualLink]) -> Result<Vec<u64>, AllocError>
+    ensures { IfOk result (λ sizes. sizes.items ≡ map fabric_size links.now) }
+{
+    let mut sizes = Vec::new(alloc);
+    for k in links {
+        let fabric = k.fabric.written(alloc)?;
+        sizes.push(size(&fabric))?;
+    }
+    Ok(sizes)
+}
+
+/// How many elements a policy has once each literal of a virtual link is replaced.
+#[cycle(replaced_size)]
 #[tactic(auto, using(nk_policy::proofs::Trees::tree_of_sum, nk_policy::proofs::Trees::tree_of_seq))]
-pub(crate) fn physical_size(links: &[FabricLink], p: &Pol) -> u64
-    ensures { result ≡ min (size_of (physical (map virtual_link_of links.now) (tree_of p.now))) LAST }
+fn replaced_size(links: &[VirtualLink], sizes: &[u64], p: &Pol) -> u64
+    requires { sizes.now ≡ map fabric_size links.now }
+    ensures { result ≡ size_within (physical links.now (tree_of p.now)) }
 {
     match p {
         Pol::Test(_, _) | Pol::Range(_, _, _) | Pol::Set(_, _) | Pol::Dup(_) => 1,
-        Pol::Link(a, m, b, n, _) => through_size(links, *a, *m, *b, *n),
-        Pol::Sum(ps) | Pol::Seq(ps) => physical_sizes(links, ps.as_slice()).saturating_add(1),
+        Pol::Link(a, m, b, n, _) => through_size(links, sizes, *a, *m, *b, *n),
+        Pol::Sum(ps) | Pol::Seq(ps) => all_sizes(links, sizes, ps.as_slice()).saturating_add(1),
         Pol::Not(q) => size(q).saturating_add(1),
-        Pol::Star(q) => physical_size(links, q).saturating_add(1),
+        Pol::Star(q) => replaced_size(links, sizes, q).saturating_add(1),
     }
 }
 
-#[cycle(physical_size)]
-fn physical_sizes(links: &[FabricLink], ps: &[Pol]) -> u64
-    ensures { result ≡ min (sizes_of (all_physical (map virtual_link_of links.now) (trees_of ps.now))) LAST }
+#[cycle(replaced_size)]
+fn all_sizes(links: &[VirtualLink], sizes: &[u64], ps: &[Pol]) -> u64
+    requires { sizes.now ≡ map fabric_size links.now }
+    ensures { result ≡ min (sizes_of (all_physical links.now (trees_of ps.now))) LAST }
 {
     let mut total: u64 = 0;
     for q in ps {
-        total = total.saturating_add(physical_size(links, q));
+        total = total.saturating_add(replaced_size(links, sizes, q));
     }
     total
 }
 
-/// How many elements stand for a link literal, at most the last u64.
-fn through_size(links: &[FabricLink], a: u16, m: u16, b: u16, n: u16) -> u64
-    ensures { (l : ℕ) → result ≡ min (size_of (link_through (map virtual_link_of links.now) a m b n l)) LAST }
+/// How many elements stand for a link literal.
+fn through_size(links: &[VirtualLink], sizes: &[u64], a: u16, m: u16, b: u16, n: u16) -> u64
+    requires { sizes.now ≡ map fabric_size links.now }
+    ensures { (l : ℕ) → result ≡ size_within (link_through links.now a m b n l) }
 {
-    for k in links {
-        if k.has_ends(a, m, b, n) {
-            return size(&k.fabric).saturating_add(3);
+    for i in 0..links.len() {
+        if has_ends(&links[i], a, m, b, n) {
+            return sizes[i].saturating_add(3);
         }
     }
     1
