@@ -30,7 +30,7 @@ use Rattle.nk_extract.specs.RuleTree.{rows_for}
 use Rattle.nk_group.specs.Groups.{rows_after, groups_of}
 use Rattle.nk_compile.specs.PrintedTable.{IsTreeOfTag}
 use Rattle.nk_compile.specs.WholeTable.{HasRowsAt, TagTree, rows_of_trees, IsSwitchTable, IsTableOf}
-use Rattle.nk.specs.TextTables.{HasFewGroups, CompilesInOrder, CompilesPrintable}
+use Rattle.nk.specs.TextTables.{HasFewGroups, CompilesInOrder, CompilesPrintable, PoliciesInOrder, PoliciesPrintable}
 use Rattle.nk_compile.proofs.FewTags.{tags_fit}
 use Rattle.nk_compile.proofs.Fitting.{fronts}
 use Rattle.nk_names.proofs.Named.{let_named}
@@ -195,12 +195,19 @@ accepted_sound program p t writable range accepted printed =
           (members_from_all (IsSwitchTable fields printed.tag p printed.tags) t.tables printed.each u i);
     }
 
+pub policies_in_order : PoliciesInOrder
+policies_in_order program p t ok writable declarable range compiled =
+    sound_in_order program.fields program.topo t writable declarable (accepted_sound program p t writable range compiled.0 compiled.1)
+
+pub policies_printable : PoliciesPrintable
+policies_printable program p t ok writable declarable range compiled few =
+    sound_printable program.fields program.topo t writable declarable (accepted_sound program p t writable range compiled.0 compiled.1) ok.topology few
+
+-- so it is with the policy of a name
 pub compiles_in_order : CompilesInOrder
 compiles_in_order program name t ok writable declarable compiled =
-    let range = named_in_range program name compiled.0 ok compiled.1 in
-    sound_in_order program.fields program.topo t writable declarable (accepted_sound program compiled.0 t writable range compiled.2 compiled.3)
+    policies_in_order program compiled.0 t ok writable declarable (named_in_range program name compiled.0 ok compiled.1) (compiled.2, compiled.3, compiled.4)
 
 pub compiles_printable : CompilesPrintable
 compiles_printable program name t ok writable declarable compiled few =
-    let range = named_in_range program name compiled.0 ok compiled.1 in
-    sound_printable program.fields program.topo t writable declarable (accepted_sound program compiled.0 t writable range compiled.2 compiled.3) ok.topology few
+    policies_printable program compiled.0 t ok writable declarable (named_in_range program name compiled.0 ok compiled.1) (compiled.2, compiled.3, compiled.4) few

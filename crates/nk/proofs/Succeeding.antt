@@ -6,7 +6,7 @@ use Rattle.nk_io.specs.Reading.{IsAllOf}
 use Rattle.nk_query.specs.Asked.{apart, waypoint}
 use Rattle.nk_words.specs.declared.words.Command.{Command}
 use Rattle.nk_words.specs.declared.words.Command.TheVariants.{Compile, Trace, Equal, Check, Fly}
-use Rattle.nk_words.specs.declared.words.Command.TheVariants.{Apart, Waypoint, CheckApart, CheckWaypoint, Gen, Job, Update, Compact}
+use Rattle.nk_words.specs.declared.words.Command.TheVariants.{Apart, Waypoint, CheckApart, CheckWaypoint, Gen, Job, Update, Compact, Virtual}
 use Rattle.nk.specs.declared.status.Status.{Status}
 use Rattle.nk.specs.declared.status.Status.TheVariants.{Done, Differs, NoMemory}
 use Rattle.nk.specs.Answer.{Answer, IsAnswerTo, IsOutcome, IsOutcomeOf, answer_of, limit, reads, too_long}
@@ -20,6 +20,7 @@ use Rattle.nk.specs.Generating.{IsGenAnswer}
 use Rattle.nk.proofs.ByKind.{Kind, compile_kind, equal_kind, check_kind, ask_kind, judge_kind, trace_kind, fly_kind}
 use Rattle.nk.proofs.CompactKind.{compact_kind}
 use Rattle.nk.proofs.UpdateKind.{update_kind}
+use Rattle.nk.proofs.VirtualKind.{virtual_kind}
 use Rattle.nk.proofs.JobDone.{job_kind}
 
 -- ---- each command
@@ -42,6 +43,7 @@ outcome_kind (Gen size seed) bytes o h = gen_kind size seed o h
 outcome_kind (Job size seed) bytes o h = job_kind (generated size seed) o h
 outcome_kind (Update old new seed steps packet) bytes o h = update_kind old new seed steps packet bytes o h
 outcome_kind (Compact name) bytes o h = compact_kind name bytes o h
+outcome_kind (Virtual name) bytes o h = virtual_kind name bytes o h
 
 -- no two of these statuses are one
 abbrev IsNeither : Status → Type 0
@@ -117,6 +119,7 @@ given_answer (Job size seed) source bytes left a given all h = h
 given_answer (Update old new seed steps packet) source bytes left a given all h =
     read_answer (Update old new seed steps packet) source bytes left a given all h
 given_answer (Compact name) source bytes left a given all h = read_answer (Compact name) source bytes left a given all h
+given_answer (Virtual name) source bytes left a given all h = read_answer (Virtual name) source bytes left a given all h
 
 -- the answer that is fixed has an exact status
 exact_fixed : (c : Command) (bytes : List ℕ) (source : Use) (a : Answer) → IsOffered (reads c) source bytes

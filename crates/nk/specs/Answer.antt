@@ -6,7 +6,7 @@ use Rattle.nk.specs.declared.status.Status.TheVariants.{Done, Differs, Usage, Te
 use Rattle.nk.specs.declared.status.Status.TheVariants.{ReadFault, NoMemory, TooLong}
 use Rattle.nk_words.specs.declared.words.Command.{Command}
 use Rattle.nk_words.specs.declared.words.Command.TheVariants.{Compile, Trace, Equal, Check, Fly}
-use Rattle.nk_words.specs.declared.words.Command.TheVariants.{Apart, Waypoint, CheckApart, CheckWaypoint, Gen, Job, Update, Compact}
+use Rattle.nk_words.specs.declared.words.Command.TheVariants.{Apart, Waypoint, CheckApart, CheckWaypoint, Gen, Job, Update, Compact, Virtual}
 use Rattle.nk_query.specs.Asked.{apart, waypoint}
 use Rattle.nk.specs.Outcome.{Outcome, done, differs, text_refused, policy_refused}
 use Rattle.nk.specs.Asking.{IsAskAnswer}
@@ -19,6 +19,7 @@ use Rattle.nk.specs.Generating.{IsGenAnswer, IsJobAnswer}
 use Rattle.nk.specs.Judging.{IsJudgeAnswer}
 use Rattle.nk.specs.Tracing.{IsTraceAnswer}
 use Rattle.nk.specs.Updating.{IsUpdateAnswer}
+use Rattle.nk.specs.Virtualizing.{IsVirtualizeAnswer}
 
 -- a status and its text
 pub record Answer : Type 0 where
@@ -87,6 +88,7 @@ IsOutcome (Gen size seed) bytes outcome = IsGenAnswer size seed outcome
 IsOutcome (Job size seed) bytes outcome = IsJobAnswer size seed outcome
 IsOutcome (Update old new seed steps packet) bytes outcome = IsUpdateAnswer old new seed steps packet bytes outcome
 IsOutcome (Compact name) bytes outcome = IsCompactAnswer name bytes outcome
+IsOutcome (Virtual name) bytes outcome = IsVirtualizeAnswer name bytes outcome
 
 -- the answer is one that the command has to the input
 abbrev pub IsOutcomeOf : Command → List ℕ → Answer → Type 0

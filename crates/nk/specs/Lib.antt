@@ -25,3 +25,4 @@ pub mod TextTables
 pub mod Tracing
 pub mod Updating
 pub mod Use
+pub mod Virtualizing

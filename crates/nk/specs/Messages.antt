@@ -1,5 +1,6 @@
 -- What is said of a text or a policy that is refused.
 use Rattle.std.specs.Prelude.{◌≡◌, ℕ, List, true, ◌++◌, codes, decimal}
+use Rattle.nk_field.specs.declared.packet.Packet.{Packet}
 use Rattle.nk_field.specs.Packet.{FieldTable}
 use Rattle.nk_field.specs.Order.{Found}
 use Rattle.nk_field.specs.Texts.{history_bytes, packet_bytes}
@@ -9,11 +10,19 @@ use Rattle.nk_compile.specs.declared.refusal.Refusal.TheVariants as refusal
 use Rattle.nk_compile.specs.Refusals.{found_from}
 use Rattle.nk_query.specs.declared.error.QueryError.{QueryError}
 use Rattle.nk_query.specs.declared.error.QueryError.TheVariants as query
+use Rattle.nk_sight.specs.declared.sight.Sight.{Sight}
+use Rattle.nk_sight.specs.declared.sight.Sight.TheVariants as sight
+use Rattle.nk_virtual.specs.declared.refusal.VirtualRefusal.{VirtualRefusal}
+use Rattle.nk_virtual.specs.declared.refusal.VirtualRefusal.TheVariants as unphysical
+
+-- a packet that something starts at, with every field
+abbrev pub start_line : FieldTable → Packet → List ℕ
+start_line fields start = codes "start " ++ packet_bytes fields true start ++ codes "\n"
 
 -- the packet that a history starts at and the history, with every field
 abbrev pub found_lines : FieldTable → Found → List ℕ
 found_lines fields f =
-    codes "start " ++ packet_bytes fields true f.start ++ codes "\nhistory "
+    start_line fields f.start ++ codes "history "
     ++ history_bytes fields true (record { records = f.records; last = f.last }) ++ codes "\n"
 
 -- what is said of a policy that is refused
@@ -34,3 +43,25 @@ TellsQuery query.NoPolicy text = text ≡ codes "refused C1: no policy\n"
 TellsQuery query.NotAPredicate text = text ≡ codes "refused C14: not a predicate\n"
 TellsQuery query.TooLarge text = text ≡ codes "refused C13: expanded too large\n"
 TellsQuery query.NoMemory text = ⊥
+
+-- what is said of what a policy's text shows
+abbrev pub sight_line : Sight → List ℕ
+sight_line sight.TagUsed = codes "refused C3: tag used\n"
+sight_line sight.LooseDup = codes "refused C4: loose dup\n"
+sight_line sight.SwitchSet = codes "refused C5: switch set\n"
+sight_line sight.NoSuchLink = codes "refused C6: no such link\n"
+
+-- the port where a virtual link begins
+abbrev pub link_words : (switch port : ℕ) → List ℕ
+link_words switch port = codes "link " ++ decimal switch ++ codes ":" ++ decimal port ++ codes "\n"
+
+-- what is said of a name that has no physical policy
+abbrev pub unphysical_line : FieldTable → VirtualRefusal → List ℕ
+unphysical_line fields unphysical.NoPolicy = codes "refused C1: no policy\n"
+unphysical_line fields unphysical.NoTag = codes "refused C2: no tag\n"
+unphysical_line fields (unphysical.Seen s) = sight_line s
+unphysical_line fields (unphysical.OffTarget switch port start history) =
+    codes "refused C11: off target, " ++ link_words switch port ++ found_lines fields (found_from start history)
+unphysical_line fields (unphysical.NotCarried switch port start) =
+    codes "refused C12: not carried, " ++ link_words switch port ++ start_line fields start
+unphysical_line fields unphysical.TooLarge = codes "refused C13: expanded too large\n"

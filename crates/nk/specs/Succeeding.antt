@@ -1,13 +1,14 @@
 -- Which status is exactly the answer to which bytes, by command: what `Done` stands for, and what `Differs` does.
-use Rattle.std.specs.Prelude.{◌≡◌, ◌⊎◌, ◌≤◌, ◌+◌, ℕ, ⊤, Bool, true, false, List, length, codes, Some, Ok, slice_index}
+use Rattle.std.specs.Prelude.{◌≡◌, ◌⊎◌, ◌≤◌, ◌+◌, ℕ, ⊤, Bool, true, false, List, length, codes, Some, None, Ok, slice_index, map, All}
 use Rattle.nk_field.specs.declared.packet.Packet.{Packet}
 use Rattle.nk_field.specs.Texts.{packet_of}
 use Rattle.nk_topo.specs.Topology.{is_port}
 use Rattle.nk_policy.specs.After.{drop_policy}
-use Rattle.nk_policy.specs.Policy.{Policy, marked_from, dups_of}
+use Rattle.nk_policy.specs.Policy.{Policy, marked_from, dups_of, size_of}
 use Rattle.nk_names.specs.declared.Program.{Program}
 use Rattle.nk_names.specs.ProgramOf.{said_by}
 use Rattle.nk_names.specs.Accepted.{IsAccepted}
+use Rattle.nk_names.specs.Named.{policy_named}
 use Rattle.nk_gen.specs.Text.{generated}
 use Rattle.nk_table.specs.declared.Tables.{Tables}
 use Rattle.nk_tabtext.specs.Values.{tables_of}
@@ -18,10 +19,13 @@ use Rattle.nk_cert.specs.Certificates.{CertificateValue, IsCertificate}
 use Rattle.nk_cert.specs.Equality.{AreSame}
 use Rattle.nk_query.specs.Asked.{Asked, apart, waypoint, Question, NoneBreaks}
 use Rattle.nk_query.specs.Answers.{IsNamedQuestion, asked_policy}
+use Rattle.nk_sight.specs.Seen.{seen_of}
+use Rattle.nk_virtual.specs.Physical.{physical}
+use Rattle.nk_virtual.specs.Reasons.{IsUsable}
 use Rattle.nk_words.specs.Words.{command_of}
 use Rattle.nk_words.specs.declared.words.Command.{Command}
 use Rattle.nk_words.specs.declared.words.Command.TheVariants.{Compile, Trace, Equal, Check, Fly}
-use Rattle.nk_words.specs.declared.words.Command.TheVariants.{Apart, Waypoint, CheckApart, CheckWaypoint, Gen, Job, Update, Compact}
+use Rattle.nk_words.specs.declared.words.Command.TheVariants.{Apart, Waypoint, CheckApart, CheckWaypoint, Gen, Job, Update, Compact, Virtual}
 use Rattle.nk.specs.declared.status.Status.{Status}
 use Rattle.nk.specs.declared.status.Status.TheVariants.{Done, Differs, NoMemory}
 use Rattle.nk.specs.Answer.{limit, reads}
@@ -41,6 +45,21 @@ pub record AcceptsMerged (name bytes : List ℕ) : Type 0 where
   pub program : Program
   pub declared : Declares bytes (said_by program)
   pub accepted : AcceptsCompact program name
+
+-- The bytes are a program's text with a tag and with a policy of this name. Nothing is seen of the fabrics over the declared links,
+-- and each carries its virtual link; nothing is seen of the policy over the virtual links. Its physical policy has at most 1,048,576
+-- elements, and the program accepts it.
+pub record AcceptsVirtual (name bytes : List ℕ) : Type 0 where
+  pub program : Program
+  pub declared : Declares bytes (said_by program)
+  pub policy : Policy
+  pub named : policy_named program name ≡ Some policy
+  pub tag : ℕ
+  pub tag_declared : program.fields.tag ≡ Some tag
+  pub usable : All (IsUsable program.fields program.topo tag) program.virtuals
+  pub plain : seen_of tag (map (λ k. k.ends) program.virtuals) policy ≡ None
+  pub small : size_of (physical program.virtuals policy) ≤ 1048576
+  pub accepted : IsAccepted program (marked_from (physical program.virtuals policy) 1)
 
 -- The bytes are a program's text, the program accepts both of its policies of these names, the tags of both together are no
 -- more than the tag has values above 0, and the word gives a packet at one of the program's ports.
@@ -138,6 +157,7 @@ IsDone (Gen size seed) bytes = ⊤
 IsDone (Job size seed) bytes = HasJob (generated size seed) GiveSame
 IsDone (Update old new seed steps packet) bytes = AcceptsUpdate old new packet bytes
 IsDone (Compact name) bytes = AcceptsMerged name bytes
+IsDone (Virtual name) bytes = AcceptsVirtual name bytes
 
 -- the command differs over these bytes: the policies don't give the same histories, some history breaks the query, or what the
 -- text holds is no certificate
@@ -158,6 +178,7 @@ IsOtherwise (Gen size seed) bytes = ⊥
 IsOtherwise (Job size seed) bytes = HasJob (generated size seed) (λ program p q. ¬ GiveSame program p q)
 IsOtherwise (Update old new seed steps packet) bytes = ⊥
 IsOtherwise (Compact name) bytes = ⊥
+IsOtherwise (Virtual name) bytes = ⊥
 
 -- the status is `Done` exactly where the command is done over these bytes, and `Differs` exactly where it differs, but for want of
 -- memory

@@ -20,6 +20,7 @@ mod status;
 mod top;
 mod tracing;
 mod updating;
+mod virtualizing;
 
 pub use reply::{Reply, Said};
 pub use status::Status;

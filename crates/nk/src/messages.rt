@@ -8,7 +8,7 @@ ghost use Rattle.nk.specs.Asking.{broken_lines};
 ghost use Rattle.nk.specs.Checking.{invalid_line, part_word};
 ghost use Rattle.nk.specs.Comparing.{difference_lines, side_line};
 ghost use Rattle.nk.specs.Outcome.{text_refused};
-ghost use Rattle.nk.specs.Messages.{TellsQuery, fault_line, found_lines, refusal_line};
+ghost use Rattle.nk.specs.Messages.{TellsQuery, fault_line, found_lines, link_words, refusal_line, sight_line, start_line, unphysical_line};
 ghost use Rattle.nk.specs.Reply.{said};
 
 use crate::Said;
@@ -18,6 +18,8 @@ use nk_compile::Refusal;
 use nk_field::{Fields, History, Packet, history_text, packet_text};
 use nk_query::QueryError;
 use nk_reach::{Found, Side};
+use nk_sight::Sight;
+use nk_virtual::VirtualRefusal;
 use std::alloc::{AllocError, Global};
 
 /// `line N: WORDS` with a line feed.
@@ -53,6 +55,21 @@ pub(crate) fn no_policy_message(alloc: Global) -> Result<Vec<u8>, AllocError>
     Vec::from_slice(alloc, b"refused C1: no policy\n")
 }
 
+/// Appends the line of a packet that something starts at, with every field.
+fn push_start(
+    alloc: Global,
+    out: &mut Vec<u8>,
+    fields: &Fields,
+    start: &Packet,
+) -> Result<(), AllocError>
+    ensures { OnOk result (out.new.items ≡ out.old.items ++ start_line fields.now start.now) }
+{
+    let packet = packet_text(alloc, fields, start, true)?;
+    out.extend_from_slice(b"start ")?;
+    out.extend_from_slice(&packet)?;
+    out.extend_from_slice(b"\n")
+}
+
 /// Appends a packet and a history from it, with every field, each on a line of its own.
 fn push_found(
     alloc: Global,
@@ -63,11 +80,9 @@ fn push_found(
 ) -> Result<(), AllocError>
     ensures { OnOk result (out.new.items ≡ out.old.items ++ found_lines fields.now (found_from start.now history.now)) }
 {
-    let packet = packet_text(alloc, fields, start, true)?;
+    push_start(alloc, out, fields, start)?;
     let packets = history_text(alloc, fields, history, true)?;
-    out.extend_from_slice(b"start ")?;
-    out.extend_from_slice(&packet)?;
-    out.extend_from_slice(b"\nhistory ")?;
+    out.extend_from_slice(b"history ")?;
     out.extend_from_slice(&packets)?;
     out.extend_from_slice(b"\n")
 }
@@ -110,6 +125,104 @@ pub(crate) fn refusal_message(
     Vec::from_slice(alloc, message)
 }
 
+/// The message for what a policy's text shows.
+fn sight_message(alloc: Global, sight: Sight) -> Result<Vec<u8>, AllocError>
+    ensures { IfOk result (λ v. v.items ≡ sight_line sight) }
+{
+    let message: &[u8] = match sight {
+        Sight::TagUsed => b"refused C3: tag used\n",
+        Sight::LooseDup => b"refused C4: loose dup\n",
+        Sight::SwitchSet => b"refused C5: switch set\n",
+        Sight::NoSuchLink => b"refused C6: no such link\n",
+    };
+    Vec::from_slice(alloc, message)
+}
+
+/// The first line of a message about a virtual link, which tells the port where the link begins.
+fn link_message(alloc: Global, head: &[u8], switch: u16, port: u16) -> Result<Vec<u8>, AllocError>
+    ensures { IfOk result (λ v. v.items ≡ head.now ++ link_words switch port) }
+{
+    let mut message = Vec::from_slice(alloc, head)?;
+    message.extend_from_slice(b"link ")?;
+    push_number(&mut message, switch)?;
+    message.extend_from_slice(b":")?;
+    push_number(&mut message, port)?;
+    message.extend_from_slice(b"\n")?;
+    Ok(message)
+}
+
+/// Appends the number of a switch or a port.
+fn push_number(out: &mut Vec<u8>, n: u16) -> Result<(), AllocError>
+    ensures { OnOk result (out.new.items ≡ out.old.items ++ decimal n) }
+{
+    let mut buffer = Buffer::new();
+    out.extend_from_slice(buffer.format(n).as_bytes())
+}
+
+/// The message for a virtual link that has a history off target.
+fn off_target_message(
+    alloc: Global,
+    fields: &Fields,
+    link: (u16, u16),
+    start: &Packet,
+    history: &History,
+) -> Result<Vec<u8>, AllocError>
+    ensures { IfOk result (λ v. v.items ≡ codes "refused C11: off target, " ++ link_words link.0 link.1
+        ++ found_lines fields.now (found_from start.now history.now)) }
+{
+    let head = link_message(alloc, b"refused C11: off target, ", link.0, link.1)?;
+    found_message(alloc, &head, fields, start, history)
+}
+
+/// The message for a virtual link that doesn't carry a packet.
+fn not_carried_message(
+    alloc: Global,
+    fields: &Fields,
+    link: (u16, u16),
+    start: &Packet,
+) -> Result<Vec<u8>, AllocError>
+    ensures { IfOk result (λ v. v.items ≡ codes "refused C12: not carried, " ++ link_words link.0 link.1
+        ++ start_line fields.now start.now) }
+{
+    let mut message = link_message(alloc, b"refused C12: not carried, ", link.0, link.1)?;
+    push_start(alloc, &mut message, fields, start)?;
+    Ok(message)
+}
+
+/// The message for a name that has no physical policy, over these fields; each line has its line feed.
+pub(crate) fn unphysical_message(
+    alloc: Global,
+    fields: &Fields,
+    reason: &VirtualRefusal,
+) -> Result<Vec<u8>, AllocError>
+    ensures { IfOk result (λ v. v.items ≡ unphysical_line fields.now reason.now) }
+{
+    match reason {
+        VirtualRefusal::NoPolicy => no_policy_message(alloc),
+        VirtualRefusal::NoTag => Vec::from_slice(alloc, b"refused C2: no tag\n"),
+        VirtualRefusal::Seen(sight) => sight_message(alloc, *sight),
+        VirtualRefusal::OffTarget {
+            switch,
+            port,
+            start,
+            history,
+        } => off_target_message(alloc, fields, (*switch, *port), start, history),
+        VirtualRefusal::NotCarried {
+            switch,
+            port,
+            start,
+        } => not_carried_message(alloc, fields, (*switch, *port), start),
+        VirtualRefusal::TooLarge => too_large_message(alloc),
+    }
+}
+
+/// The message for a policy that is too large once it is expanded.
+fn too_large_message(alloc: Global) -> Result<Vec<u8>, AllocError>
+    ensures { IfOk result (λ v. v.items ≡ codes "refused C13: expanded too large\n") }
+{
+    Vec::from_slice(alloc, b"refused C13: expanded too large\n")
+}
+
 /// What is said of a history that one of two policies alone has.
 pub(crate) fn difference_message(
     alloc: Global,
@@ -142,7 +255,7 @@ pub(crate) fn query_message(alloc: Global, cause: QueryError) -> Result<Vec<u8>,
     match cause {
         QueryError::NoPolicy => no_policy_message(alloc),
         QueryError::NotAPredicate => Vec::from_slice(alloc, b"refused C14: not a predicate\n"),
-        QueryError::TooLarge => Vec::from_slice(alloc, b"refused C13: expanded too large\n"),
+        QueryError::TooLarge => too_large_message(alloc),
         QueryError::NoMemory => Err(AllocError),
     }
 }

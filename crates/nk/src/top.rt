@@ -20,6 +20,7 @@ use crate::judging::{check_apart_reply, check_waypoint_reply};
 use crate::reply::{Reply, Said, deliver};
 use crate::tracing::trace_reply;
 use crate::updating::update_answer;
+use crate::virtualizing::virtual_answer;
 use nk_io::{LONGEST, Sink, Source, read_all};
 use nk_words::{Command, WordsError, read_words};
 use std::alloc::{AllocError, Global};
@@ -175,6 +176,7 @@ fn perform(alloc: Global, command: &Command, bytes: &[u8]) -> Result<Said, Alloc
             bytes,
         ),
         Command::Compact(name) => compact_answer(alloc, name.as_str(), bytes),
+        Command::Virtual(name) => virtual_answer(alloc, name.as_str(), bytes),
         Command::Trace(_, _)
         | Command::Fly(_, _, _)
         | Command::Check(_, _)

@@ -2,12 +2,13 @@
 use Rattle.std.proofs.Common.{◌≡◌, ℕ, Bool, true, false, MatchBool, List, [], length, nat_lt, sym, ap, subst, ◌∙◌}
 use Rattle.std.specs.Prelude.{Option, Some, None}
 use Rattle.nk_io.specs.Reading.{IsAllOf}
+use Rattle.nk_grammar.specs.Fields.{DeclaresFields}
 use Rattle.nk_names.specs.ReadBack.{DeclaresWritable}
 use Rattle.nk_tabtext.specs.Values.{tables_of}
 use Rattle.nk_query.specs.Asked.{apart, waypoint}
 use Rattle.nk_words.specs.declared.words.Command.{Command}
 use Rattle.nk_words.specs.declared.words.Command.TheVariants.{Compile, Trace, Equal, Check, Fly}
-use Rattle.nk_words.specs.declared.words.Command.TheVariants.{Apart, Waypoint, CheckApart, CheckWaypoint, Gen, Job, Update, Compact}
+use Rattle.nk_words.specs.declared.words.Command.TheVariants.{Apart, Waypoint, CheckApart, CheckWaypoint, Gen, Job, Update, Compact, Virtual}
 use Rattle.nk_gen.specs.Text.{generated}
 use Rattle.nk_uniqueness.specs.Texts.{TextsHavePackets}
 use Rattle.nk_uniqueness.proofs.Comparing.{OnePrinted, OneFinding}
@@ -21,9 +22,10 @@ use Rattle.nk_one_answer.proofs.Following.{OneTrace, by_tables, one_located, one
 use Rattle.nk_one_answer.proofs.OneJob.{one_job}
 use Rattle.nk_one_answer.proofs.Compacting.{one_compacting}
 use Rattle.nk_one_answer.proofs.Updating.{one_update}
+use Rattle.nk_one_answer.proofs.Virtualizing.{one_virtualizing}
 use Rattle.nk_one_answer.proofs.Named.{one_compile, one_equal, one_check, one_ask, one_judge}
 
-module _ (printed : OnePrinted) (finding : OneFinding) (writable : DeclaresWritable) (packets : TextsHavePackets) (trace : OneTrace) where
+module _ (fields : DeclaresFields) (printed : OnePrinted) (finding : OneFinding) (writable : DeclaresWritable) (packets : TextsHavePackets) (trace : OneTrace) where
   one_outcome : (c : Command) (bytes : List ℕ) (o p : Outcome) → IsOutcome c bytes o → IsOutcome c bytes p → o ≡ p
   one_outcome (Compile name) bytes o p h k = one_compile packets name bytes o p h k
   one_outcome (Trace hops packet) bytes o p h k = by_tables (ToLocated hops) (one_located trace hops) (tables_of bytes) packet o p h k
@@ -38,6 +40,7 @@ module _ (printed : OnePrinted) (finding : OneFinding) (writable : DeclaresWrita
   one_outcome (Job size seed) bytes o p h k = one_job printed writable packets (generated size seed) o p h k
   one_outcome (Update old new seed steps packet) bytes o p h k = one_update packets old new seed steps packet bytes o p h k
   one_outcome (Compact name) bytes o p h k = one_compacting packets name bytes o p h k
+  one_outcome (Virtual name) bytes o p h k = one_virtualizing fields packets name bytes o p h k
 
   of_bytes : (c : Command) (bytes : List ℕ) (a b : Answer) → IsOutcomeOf c bytes a → IsOutcomeOf c bytes b → a ≡ b
   of_bytes c bytes a b h k = h.2 ∙ ap answer_of (one_outcome c bytes h.0 k.0 h.1 k.1) ∙ sym k.2

@@ -5,3 +5,4 @@ pub mod OneJob
 pub mod Answers
 pub mod Compacting
 pub mod Updating
+pub mod Virtualizing

@@ -7,6 +7,7 @@ ghost use Rattle.nk.specs.Ends.{IsFixedBy};
 ghost use Rattle.nk.specs.Use.{Use};
 
 use nk_cert::laws::{one_certificate_is_printed, one_thing_is_found};
+use nk_grammar::fields_of_texts_have_names;
 use nk_names::laws::declared_fields_are_writable;
 use nk_sim::laws::a_packet_has_one_trace;
 use nk_uniqueness::laws::switches_have_packets;
@@ -21,6 +22,7 @@ pub fn there_is_one_answer()
         → source.old ≡ Some bytes → other.old ≡ Some bytes
         → IsFixedBy (command_of words) source a → IsFixedBy (command_of words) other b → a ≡ b }
 {
+    fields_of_texts_have_names();
     one_certificate_is_printed();
     one_thing_is_found();
     declared_fields_are_writable();

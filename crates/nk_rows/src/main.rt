@@ -56,7 +56,7 @@ use crate::trial::tried;
 use std::{fs, io};
 
 /// The files, in the order in which they are told. One that isn't named here isn't run.
-const FILES: [&str; 21] = [
+const FILES: [&str; 22] = [
     "words.rows",
     "texts.rows",
     "refused.rows",
@@ -69,6 +69,7 @@ const FILES: [&str; 21] = [
     "flown.rows",
     "updated.rows",
     "compact.rows",
+    "virtual.rows",
     "pieces.rows",
     "generated.rows",
     "equal.rows",

@@ -22,3 +22,10 @@ pub four_more : (s t u v : Shape) (o a b c d e : App) → a ≡ o → b ≡ with
     → d ≡ with_subcommand c u → e ≡ with_subcommand d v
     → e ≡ with_subcommand (with_subcommand (with_subcommand (with_subcommand o s) t) u) v
 four_more s t u v o a b c d e same second third fourth fifth = rw (fifth, fourth, third, second, same) refl
+
+-- so it is with five more
+pub five_more : (s t u v w : Shape) (o a b c d e f : App) → a ≡ o → b ≡ with_subcommand a s → c ≡ with_subcommand b t
+    → d ≡ with_subcommand c u → e ≡ with_subcommand d v → f ≡ with_subcommand e w
+    → f ≡ with_subcommand (with_subcommand (with_subcommand (with_subcommand (with_subcommand o s) t) u) v) w
+five_more s t u v w o a b c d e f same second third fourth fifth sixth =
+    rw (sixth, four_more s t u v o a b c d e same second third fourth fifth) refl

@@ -11,7 +11,7 @@ use Rattle.clap.specs.Simple.{subcommand_of}
 use Rattle.clap.specs.Faults.{fault_of}
 use Rattle.nk_words.specs.declared.words.Command.{Command}
 use Rattle.nk_words.specs.declared.words.Command.TheVariants.{Compile, Trace, Equal, Check, Fly}
-use Rattle.nk_words.specs.declared.words.Command.TheVariants.{Apart, Waypoint, CheckApart, CheckWaypoint, Gen, Job, Update, Compact}
+use Rattle.nk_words.specs.declared.words.Command.TheVariants.{Apart, Waypoint, CheckApart, CheckWaypoint, Gen, Job, Update, Compact, Virtual}
 use Rattle.nk_words.specs.declared.words.WordsError.{WordsError}
 use Rattle.nk_words.specs.App.{nk_app}
 use Rattle.nk_words.specs.Number.{is_number_upto, number_between}
@@ -156,7 +156,8 @@ with_within name rows c =
     (either c (bytes_eq name (codes "job")) _ _ (mapped (λ n. Job n.0 n.1) c (network_numbers rows) (network_within rows))
     (either c (bytes_eq name (codes "update")) _ _ (update_within rows c)
     (either c (bytes_eq name (codes "compact")) _ _ (mapped (λ x. Compact x) c (first_of (codes "NAME") rows) (λ x e. tt))
-    (λ h. cc)))))))))))))
+    (either c (bytes_eq name (codes "virtual")) _ _ (mapped (λ x. Virtual x) c (first_of (codes "NAME") rows) (λ x e. tt))
+    (λ h. cc))))))))))))))
 
 -- the command that the words give
 pub command_within : (words : List Text) (c : Command) → command_of words ≡ Some c → IsWithinLimits c

@@ -55,7 +55,9 @@ unfoldable pub nk_app : App
 nk_app = with_subcommand
     (with_subcommand
     (with_subcommand
+    (with_subcommand
     (with_subcommand nk_without_generation (leaf_shape (codes "gen") (codes "SIZE" ∷ codes "SEED" ∷ [])))
     (leaf_shape (codes "job") (codes "SIZE" ∷ codes "SEED" ∷ [])))
     (leaf_shape (codes "update") (codes "OLD" ∷ codes "NEW" ∷ codes "SEED" ∷ codes "STEPS" ∷ codes "PACKET" ∷ [])))
-    (leaf_shape (codes "compact") (codes "NAME" ∷ []))
+    (leaf_shape (codes "compact") (codes "NAME" ∷ [])))
+    (leaf_shape (codes "virtual") (codes "NAME" ∷ []))

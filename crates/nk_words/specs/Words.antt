@@ -9,7 +9,7 @@ use Rattle.clap.specs.Simple.{subcommand_of}
 use Rattle.clap.specs.Faults.{fault_of}
 use Rattle.nk_words.specs.declared.words.Command.{Command}
 use Rattle.nk_words.specs.declared.words.Command.TheVariants.{Compile, Trace, Equal, Check, Fly}
-use Rattle.nk_words.specs.declared.words.Command.TheVariants.{Apart, Waypoint, CheckApart, CheckWaypoint, Gen, Job, Update, Compact}
+use Rattle.nk_words.specs.declared.words.Command.TheVariants.{Apart, Waypoint, CheckApart, CheckWaypoint, Gen, Job, Update, Compact, Virtual}
 use Rattle.nk_words.specs.declared.words.WordsError.{WordsError}
 use Rattle.nk_words.specs.declared.words.WordsError.TheVariants.{NoMemory, Usage}
 use Rattle.nk_words.specs.App.{nk_app}
@@ -97,6 +97,10 @@ update_of rows =
 abbrev pub compact_of : List Row → Option Command
 compact_of rows = option_map (λ name. Compact name) (first_of (codes "NAME") rows)
 
+-- the command `virtual NAME`, from what was found of its argument
+abbrev pub virtual_of : List Row → Option Command
+virtual_of rows = option_map (λ name. Virtual name) (first_of (codes "NAME") rows)
+
 -- the command of this name, from what was found of its arguments
 abbrev pub command_with : Text → List Row → Option Command
 command_with name rows = if bytes_eq name (codes "compile") then compile_of rows
@@ -111,7 +115,8 @@ command_with name rows = if bytes_eq name (codes "compile") then compile_of rows
     else if bytes_eq name (codes "gen") then gen_of rows
     else if bytes_eq name (codes "job") then job_of rows
     else if bytes_eq name (codes "update") then update_of rows
-    else if bytes_eq name (codes "compact") then compact_of rows else None
+    else if bytes_eq name (codes "compact") then compact_of rows
+    else if bytes_eq name (codes "virtual") then virtual_of rows else None
 
 -- the command of the subcommand that was found
 abbrev pub command_found : Option (Text × List Row) → Option Command

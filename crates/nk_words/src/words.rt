@@ -8,7 +8,7 @@ ghost use Rattle.nk_words.specs.App.{leaf_app, leaf_shape, nk_app, nk_top, nk_wi
 ghost use Rattle.nk_words.specs.Words.{IsWithinLimits, Reads, command_found, command_of, command_with, compact_of, compile_of};
 ghost use Rattle.nk_words.specs.Words.{apart_of, check_apart_of, check_of, check_waypoint_of, equal_of, fly_of};
 ghost use Rattle.nk_words.specs.Words.{gen_of, job_of, network_numbers};
-ghost use Rattle.nk_words.specs.Words.{four_texts, argument_number, texts, three_texts, trace_of, update_of, waypoint_of};
+ghost use Rattle.nk_words.specs.Words.{four_texts, argument_number, texts, three_texts, trace_of, update_of, virtual_of, waypoint_of};
 
 use crate::Bytes;
 use crate::number::number_from;
@@ -53,6 +53,9 @@ pub enum Command {
     Update(Bytes, Bytes, u64, u64, Bytes),
     /// `compact NAME`: the table of every switch for the policy of this name, with as few tags as its histories need.
     Compact(Bytes),
+    /// `virtual NAME`: the table of every switch for the physical policy of the virtual one of this name, with each virtual
+    /// link by its fabric.
+    Virtual(Bytes),
 }
 
 /// Why the words give no command.
@@ -160,7 +163,8 @@ fn application<'a>(alloc: Global) -> Result<clap::Command<'a>, AllocError>
         "update",
         &["OLD", "NEW", "SEED", "STEPS", "PACKET"],
     )?;
-    with_leaf(alloc, app, "compact", &["NAME"])
+    let app = with_leaf(alloc, app, "compact", &["NAME"])?;
+    with_leaf(alloc, app, "virtual", &["NAME"])
 }
 
 /// The command that the words give. `Usage` comes exactly where they give none.
@@ -218,6 +222,8 @@ fn command_named(alloc: Global, name: &str, found: &ArgMatches) -> Result<Comman
         update(alloc, found)
     } else if name == "compact" {
         compact(alloc, found)
+    } else if name == "virtual" {
+        over_fabrics(alloc, found)
     } else {
         Err(WordsError::Usage)
     }
@@ -334,6 +340,14 @@ fn compact(alloc: Global, found: &ArgMatches) -> Result<Command, WordsError>
 {
     let name = text(alloc, found, "NAME")?;
     Ok(Command::Compact(name))
+}
+
+/// `virtual NAME`.
+fn over_fabrics(alloc: Global, found: &ArgMatches) -> Result<Command, WordsError>
+    ensures { Reads (virtual_of (rows_of (found_of found.now))) result }
+{
+    let name = text(alloc, found, "NAME")?;
+    Ok(Command::Virtual(name))
 }
 
 /// The numbers of the arguments `SIZE SEED`.
