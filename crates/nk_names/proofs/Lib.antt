@@ -15,6 +15,7 @@ pub mod ReadingBack
 pub mod Topologies
 pub mod WellFormed
 pub mod Fabrics
+pub mod Weaker
 pub mod Writable
 pub mod Predicates
 pub mod PredicatesBack

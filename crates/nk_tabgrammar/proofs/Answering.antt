@@ -25,11 +25,11 @@ read_append (x ∷ xs) ys r = by_step (read_one r x) (read_append xs ys)
     by_step (Some r) go = go r
 
 -- tokens that are taken are the front of a text
-text_goes_on : (ts : List Terminal) (r : Reading) → read_all ts first_reading ≡ Some r → TableTextGoesOn ts
+pub text_goes_on : (ts : List Terminal) (r : Reading) → read_all ts first_reading ≡ Some r → TableTextGoesOn ts
 text_goes_on ts r e = let at = front_of ts r e in subst TableTextGoesOn (sym at.0) (completes r.stage r.text r.table at.1)
 
 -- tokens that are refused are the front of none
-text_stops : (ts : List Terminal) → read_all ts first_reading ≡ None → TableTextGoesOn ts → ⊥
+pub text_stops : (ts : List Terminal) → read_all ts first_reading ≡ None → TableTextGoesOn ts → ⊥
 text_stops ts e g =
     let refused : read_all (ts ++ g.0) first_reading ≡ None = read_append ts g.0 first_reading ∙ ap (option_and_then (read_all g.0)) e in
     none_some g.1 (ap (option_and_then written_at_end) (sym refused) ∙ ap (λ l. option_and_then written_at_end (read_all l first_reading)) g.2 ∙ text_passes g.1)

@@ -1,20 +1,18 @@
 -- A reader has stopped exactly where no text goes on with the tokens.
-use Rattle.std.proofs.Common.{◌≡◌, ℕ, List, [], ◌∷◌, ◌++◌, true, false, refl, sym, ap, subst, ◌∙◌, Option}
+use Rattle.std.proofs.Common.{◌≡◌, ℕ, List, [], ◌∷◌, true, false, refl, sym, ap, ◌∙◌, Option}
 use Rattle.std.specs.Prelude.{◌↔◌, None, Some, Bool, is_none, option_and_then}
 use Rattle.std.specs.List.{fold}
 use Rattle.nk_lex.specs.declared.token.Token.{Token}
 use Rattle.nk_tabgrammar.specs.Answer.{terminals}
 use Rattle.nk_tabgrammar.specs.Spelling.{TableTextGoesOn}
-use Rattle.nk_tabgrammar.specs.Terminal.{Terminal, terminal_of}
-use Rattle.nk_tabgrammar.specs.Machine.{Reading, first_reading, next_reading, read_all, read_one, reading, written_at_end}
+use Rattle.nk_tabgrammar.specs.Terminal.{terminal_of}
+use Rattle.nk_tabgrammar.specs.Machine.{Reading, first_reading, next_reading, read_all, reading}
 use Rattle.nk_tabgrammar.specs.declared.states.State.{State}
 use Rattle.nk_tabgrammar.specs.declared.stage.Stage.{Stage}
 use Rattle.nk_tabgrammar.specs.declared.written.WrittenTable.{WrittenTable}
 use Rattle.nk_tabgrammar.specs.declared.written.WrittenTables.{WrittenTables}
 use Rattle.nk_tabgrammar.specs.States.{MaybeStep, after_token, state_of_stage}
-use Rattle.nk_tabgrammar.proofs.Spelled.{front_of, none_some}
-use Rattle.nk_tabgrammar.proofs.Passing.{text_passes}
-use Rattle.nk_tabgrammar.proofs.Completing.{completes}
+use Rattle.nk_tabgrammar.proofs.Answering.{text_goes_on, text_stops}
 use Rattle.nk_tabtext.specs.Progress.{KnownValue, Sound, Faulty, Stopped, StopsWithTexts, first_progress, is_stopped, known_after, progress_after, step_on}
 use Rattle.nk_tabtext.proofs.Fitting.{Fits}
 use Rattle.nk_tabtext.proofs.Going.{Both, Follows}
@@ -47,27 +45,6 @@ stops_here (t ∷ ts) s x c k line h =
         ap (λ a. is_stopped (fold progress_after (at_place a t.line (known_after k z.1 t)) ts).known) b.0 ∙ ih r (known_after k z.1 t) b.1
     by None (Some z) ih b = absurd b
     by (Some r) None ih b = absurd b
-
--- tokens in two parts
-read_append : (xs ys : List Terminal) (r : Reading) → read_all (xs ++ ys) r ≡ option_and_then (read_all ys) (read_all xs r)
-read_append [] ys r = refl
-read_append (x ∷ xs) ys r = by_step (read_one r x) (read_append xs ys)
-  where
-    by_step : (o : Option Reading)
-        → ((r : Reading) → read_all (xs ++ ys) r ≡ option_and_then (read_all ys) (read_all xs r))
-        → option_and_then (read_all (xs ++ ys)) o ≡ option_and_then (read_all ys) (option_and_then (read_all xs) o)
-    by_step None go = refl
-    by_step (Some r) go = go r
-
--- tokens that are taken are the front of a text
-text_goes_on : (ts : List Terminal) (r : Reading) → read_all ts first_reading ≡ Some r → TableTextGoesOn ts
-text_goes_on ts r e = let at = front_of ts r e in subst TableTextGoesOn (sym at.0) (completes r.stage r.text r.table at.1)
-
--- tokens that are refused are the front of none
-text_stops : (ts : List Terminal) → read_all ts first_reading ≡ None → TableTextGoesOn ts → ⊥
-text_stops ts e g =
-    let refused : read_all (ts ++ g.0) first_reading ≡ None = read_append ts g.0 first_reading ∙ ap (option_and_then (read_all g.0)) e in
-    none_some g.1 (ap (option_and_then written_at_end) (sym refused) ∙ ap (λ l. option_and_then written_at_end (read_all l first_reading)) g.2 ∙ text_passes g.1)
 
 pub stops_with_texts : StopsWithTexts
 stops_with_texts ts =
