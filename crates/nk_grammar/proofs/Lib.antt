@@ -9,6 +9,7 @@ pub mod Progress
 pub mod Texts
 pub mod Answering
 pub mod Written
+pub mod TextReading
 pub mod Nested
 pub mod LetTexts
 pub mod FieldsOfTexts

@@ -26,6 +26,11 @@ phase_of (stage.By a m b n) s = by_wanted a m b n
 phase_of (stage.PolicyNamed k w line) s = policy_named k w line
 phase_of (stage.Policy k w line) s = in_policy k w line s
 
+-- a policy is read
+abbrev pub IsInPolicy : Stage → Type 0
+IsInPolicy (stage.Policy k w line) = ⊤
+IsInPolicy s = ⊥
+
 -- what a reader is to the machine, which keeps the declarations too
 abbrev pub phase_in : Reader → Phase
 phase_in r = phase_of r.stage (reader_state r.policy)

@@ -7,6 +7,8 @@ pub mod Reader
 pub mod File
 pub mod FileMachine
 pub mod FileReader
+pub mod TextProgress
+pub mod TextReader
 pub mod Answer
 pub mod Nesting
 pub mod Text

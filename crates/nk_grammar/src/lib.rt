@@ -19,8 +19,8 @@
 //!         | NAME := NUMBER | NUMBER : NUMBER => NUMBER : NUMBER | ( pol )
 //! ```
 //!
-//! `file` reads texts without a certificate, `file_with_certificate` those with one; `CertifiedReader` reads these token by token, and
-//! keeps nothing that is done.
+//! `file` reads texts without a certificate, `file_with_certificate` those with one; `TextReader` and `CertifiedReader` read them token
+//! by token, and keep nothing that is done.
 //!
 //! Several terms are one sum, and several factors one sequence; a single one is only itself. Several
 //! `*` behind one atom are one star. Parentheses have no node of their own in the tree. A `(` is open
@@ -38,6 +38,7 @@ mod parts;
 mod place;
 mod reader;
 mod text;
+mod text_reader;
 
 pub use ast::{Ast, Asts};
 pub use certified_reader::{CertifiedReader, file_with_certificate};
@@ -51,4 +52,4 @@ pub use laws::{
     texts_are_answered, texts_are_read, what_is_completed_is_written, what_is_read_is_a_policy,
     what_is_refused_goes_nowhere, what_is_taken_goes_on,
 };
-pub use text::file;
+pub use text_reader::{TextReader, file};

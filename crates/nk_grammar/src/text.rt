@@ -1,20 +1,20 @@
-//! A text read token by token.
-ghost use Rattle.std.specs.Prelude.{◌≡◌, ◌++◌, ◌≤◌, [], map, None, Some, Ok, All, IfErr, IfOk, OnOk};
-ghost use Rattle.nk_lex.specs.Lex.{largest};
-ghost use Rattle.nk_grammar.specs.File.{IsWritten, declaration_of};
+//! The declarations of a text, read token by token up to the first fault.
+ghost use Rattle.std.specs.Prelude.{◌≡◌, ℕ, [], None, Some, Ok, IfErr};
+ghost use Rattle.nk_lex.specs.declared.word.Word.{Word};
+ghost use Rattle.nk_grammar.specs.File.{declaration_of};
 ghost use Rattle.nk_grammar.specs.FileMachine.{
   Returns,
   begin_declaration,
   declarations_at_end,
   defined,
   ended_at,
-  file_of,
   first_reading,
   in_policy,
   judged,
   link_read,
   name_wanted,
   next_reading,
+  one_more,
   policy_named,
   policy_on,
   port_read,
@@ -22,14 +22,16 @@ ghost use Rattle.nk_grammar.specs.FileMachine.{
   read_one,
   reading,
 };
-ghost use Rattle.nk_grammar.specs.FileReader.{StaysWithoutMemory, declaration_done, phase_in};
+ghost use Rattle.nk_grammar.specs.FileReader.{IsInPolicy, StaysWithoutMemory, declaration_done, phase_in};
+ghost use Rattle.nk_grammar.specs.declared.decl.PolicyWord.{PolicyWord};
+ghost use Rattle.nk_grammar.specs.declared.decl.Stage.{Stage};
 ghost use Rattle.nk_grammar.specs.Machine.{policy_ended, step};
 ghost use Rattle.nk_grammar.specs.Reader.{reader_state};
 ghost use Rattle.nk_grammar.specs.Terminal.{terminal_of};
 ghost use Rattle.nk_grammar.specs.Tree.{tree_of};
 
 use crate::ast::Ast;
-use crate::decl::{Decl, File, GrammarError, LinkWord, Naming, PolicyWord, Stage};
+use crate::decl::{Decl, GrammarError, LinkWord, Naming, PolicyWord, Stage};
 use crate::frame::Took;
 use crate::parts::{name_of, number_of, quad_after};
 use crate::place::{Quad, QuadNext};
@@ -106,50 +108,49 @@ impl Reader {
         }
     }
 
-    /// A policy took a token.
-    fn go_in_policy(
-        &mut self,
-        word: PolicyWord,
-        name: Word,
-        line: u64,
-        token: &Token,
-    ) -> Result<Option<Decl>, GrammarError>
-        ensures read { Returns (λ d. reading (phase_in self.new) (declaration_done d)) result
-            (judged token.now.line (Some (reading (in_policy word name line (reader_state self.old.policy)) []))) }
+    /// A policy took a token, and goes on.
+    fn go_on_in_policy(&mut self, token: &Token) -> Result<Option<Decl>, GrammarError>
+        ensures read { (k : PolicyWord) (w : Word) (line : ℕ) → self.old.stage ≡ Stage.Policy k w line
+            → Returns (λ d. reading (phase_in self.new) (declaration_done d)) result
+            (judged token.now.line (Some (reading (in_policy k w line (reader_state self.old.policy)) []))) }
         ensures err { IfErr result (λ e. e ≡ GrammarError.TooDeep token.now.line) }
     {
         if self.policy.is_shallow() {
-            self.go(Stage::Policy(word, name, line), None)
+            Ok(None)
         } else {
             Err(GrammarError::TooDeep { line: token.line })
         }
     }
 
-    /// One more token of a policy, or the first one behind it.
-    fn take_in_policy(
-        &mut self,
-        alloc: Global,
-        word: PolicyWord,
-        name: Word,
-        line: u64,
-        token: &Token,
-    ) -> Result<Option<Decl>, GrammarError>
-        ensures read { Returns (λ d. reading (phase_in self.new) (declaration_done d)) result
-            (judged token.now.line (policy_on word name line []
+    /// A policy ended before this token.
+    fn end_policy(&mut self, policy: Ast, token: &Token) -> Result<Option<Decl>, GrammarError>
+        requires stage { IsInPolicy self.old.stage }
+        ensures read { (k : PolicyWord) (w : Word) (line : ℕ) → self.old.stage ≡ Stage.Policy k w line
+            → Returns (λ d. reading (phase_in self.new) (declaration_done d)) result
+            (judged token.now.line (begin_declaration (one_more [] (defined k w (tree_of policy) line)) (terminal_of token.now))) }
+        ensures err { IfErr result (λ e. e ≡ GrammarError.Unexpected token.now.line) }
+    {
+        let Stage::Policy(word, name, line) = replace(&mut self.stage, Stage::Between) else {
+            unreachable!()
+        };
+        self.begin(Some(policy_of(word, name, policy, line)), token)
+    }
+
+    /// One more token of a policy, or the first one behind it. What is read of the declaration stays where it is.
+    fn take_in_policy(&mut self, alloc: Global, token: &Token) -> Result<Option<Decl>, GrammarError>
+        requires stage { IsInPolicy self.old.stage }
+        ensures read { (k : PolicyWord) (w : Word) (line : ℕ) → self.old.stage ≡ Stage.Policy k w line
+            → Returns (λ d. reading (phase_in self.new) (declaration_done d)) result
+            (judged token.now.line (policy_on k w line []
             (step (reader_state self.old.policy) (terminal_of token.now))
             (policy_ended (reader_state self.old.policy)) (terminal_of token.now))) }
-        ensures kept { StaysWithoutMemory result (in_policy word name line (reader_state self.old.policy)) (phase_in self.new) }
+        ensures kept { StaysWithoutMemory result (phase_in self.old) (phase_in self.new) }
     {
         match self.policy.take(alloc, token) {
-            Ok(Took::Taken) => self.go_in_policy(word, name, line, token),
-            Ok(Took::Ended(policy)) => {
-                self.begin(Some(policy_of(word, name, policy, line)), token)
-            }
+            Ok(Took::Taken) => self.go_on_in_policy(token),
+            Ok(Took::Ended(policy)) => self.end_policy(policy, token),
             Ok(Took::Refused) => Err(GrammarError::Unexpected { line: token.line }),
-            Err(AllocError) => {
-                self.stage = Stage::Policy(word, name, line);
-                Err(GrammarError::NoMemory)
-            }
+            Err(AllocError) => Err(GrammarError::NoMemory),
         }
     }
 
@@ -272,6 +273,9 @@ impl Reader {
             (judged token.now.line (read_one (reading (phase_in self.old) []) (terminal_of token.now))) }
         ensures kept { StaysWithoutMemory result (phase_in self.old) (phase_in self.new) }
     {
+        if let Stage::Policy(..) = &self.stage {
+            return self.take_in_policy(alloc, token);
+        }
         match replace(&mut self.stage, Stage::Between) {
             Stage::Between => self.begin(None, token),
             Stage::Name(naming) => self.take_name(alloc, naming, token),
@@ -295,7 +299,7 @@ impl Reader {
                 _ => Err(GrammarError::Unexpected { line: token.line }),
             },
             Stage::PolicyNamed(word, name, line) => self.take_sign(alloc, word, name, line, token),
-            Stage::Policy(word, name, line) => self.take_in_policy(alloc, word, name, line, token),
+            Stage::Policy(..) => unreachable!(),
         }
     }
 
@@ -321,74 +325,5 @@ impl Reader {
             },
             _ => Err(GrammarError::Unexpected { line }),
         }
-    }
-}
-
-/// Puts a declaration that is done behind the others. The only error is that memory ran out.
-pub fn push_declaration(decls: &mut Vec<Decl>, done: Option<Decl>) -> Result<(), AllocError>
-    ensures { OnOk result (map declaration_of decls.new.items
-        ≡ map declaration_of decls.old.items ++ declaration_done done) }
-{
-    match done {
-        Some(decl) => {
-            decls.push(decl)?;
-            Ok(())
-        }
-        None => Ok(()),
-    }
-}
-
-/// Reads a text's tokens, and puts its declarations into a list, or answers the first fault.
-fn read_declarations(
-    alloc: Global,
-    tokens: &[Token],
-    reader: &mut Reader,
-    decls: &mut Vec<Decl>,
-) -> Result<(), GrammarError>
-    requires first { reading (phase_in reader.old) [] ≡ first_reading }
-    requires none { decls.old.items ≡ [] }
-    ensures { Returns (λ _. map declaration_of decls.new.items) result (file_of tokens.now) }
-{
-    let mut line = 1;
-    for token in tokens {
-        let done = reader.take(alloc, token)?;
-        push_declaration(decls, done)?;
-        line = token.line;
-    }
-    let done = reader.end(alloc, line)?;
-    push_declaration(decls, done)?;
-    Ok(())
-}
-
-/// The declarations of a text's tokens, or the first fault.
-fn read_file(alloc: Global, tokens: &[Token]) -> Result<File, GrammarError>
-    ensures decls { Returns (λ f. map declaration_of f.decls) result (file_of tokens.now) }
-    ensures rows { IfOk result (λ f. f.rows ≡ []) }
-{
-    let mut reader = Reader::new(alloc);
-    let mut decls = Vec::new(alloc);
-    read_declarations(alloc, tokens, &mut reader, &mut decls)?;
-    Ok(File {
-        decls: List::from_vec(decls),
-        rows: List::from_vec(Vec::new(alloc)),
-    })
-}
-
-/// The declarations of a text's tokens, in order; there are no rows.
-///
-/// The first fault is answered. `Unexpected` comes at the first token with which no text can continue, or, where
-/// the tokens end too early, with the line of the last token, 1 without tokens. `TooDeep` comes at the first
-/// token that opens a 257th parenthesis or `~`, where a text could continue with it.
-#[tactic(auto, using(crate::proofs::Written::written_of))]
-pub fn file(alloc: Global, tokens: &[Token]) -> Result<File, GrammarError>
-    ensures read { Returns (λ f. map declaration_of f.decls) result (file_of tokens.now) }
-    // From the tokens of a text come numbers of a text.
-    ensures written { All (λ t. t.value ≤ largest) tokens.now
-        → IfOk result (λ f. All IsWritten (map declaration_of f.decls)) }
-    ensures rows { IfOk result (λ f. f.rows ≡ []) }
-{
-    match read_file(alloc, tokens) {
-        Ok(file) => Ok(file),
-        Err(error) => Err(error),
     }
 }

@@ -1,0 +1,30 @@
+-- What the code's reader of a program's text is to the machine.
+use Rattle.std.specs.Prelude.{◌≡◌, ℕ, List, [], ◌++◌, ◌∷◌, Option, None, Ok}
+use Rattle.std.specs.declared.result.Result.{Result}
+use Rattle.nk_lex.specs.declared.token.Token.{Token}
+use Rattle.nk_grammar.specs.declared.decl.Decl.{Decl}
+use Rattle.nk_grammar.specs.declared.decl.GrammarError.{GrammarError}
+use Rattle.nk_grammar.specs.declared.text_reader.KnownText.{KnownText}
+use Rattle.nk_grammar.specs.declared.text_reader.KnownText.TheVariants as known
+use Rattle.nk_grammar.specs.Terminal.{terminal_of}
+use Rattle.nk_grammar.specs.File.{Declaration}
+use Rattle.nk_grammar.specs.FileMachine.{Returns, judged, read_one, reading}
+use Rattle.nk_grammar.specs.FileReader.{StaysWithoutMemory, declaration_done, phase_in}
+use Rattle.nk_grammar.specs.TextProgress.{TextProgress, Going, Stopped, rest_by}
+
+-- what is known
+abbrev pub progress_in : KnownText → ℕ → TextProgress
+progress_in (known.Sound r) line = Going (phase_in r) line
+progress_in (known.Stopped e) line = Stopped e
+
+-- a token is taken as the machine takes it, or nothing changes: where there is a fault, or memory ran out
+abbrev pub TakesToken : KnownText → KnownText → Token → Result (Option Decl) GrammarError → Type 0
+TakesToken (known.Sound r) (known.Sound s) t result =
+    Returns (λ d. reading (phase_in s) (declaration_done d)) result (judged t.line (read_one (reading (phase_in r) []) (terminal_of t)))
+    × StaysWithoutMemory result (phase_in r) (phase_in s)
+TakesToken (known.Sound r) (known.Stopped e) t result = ⊥
+TakesToken (known.Stopped e) k t result = (k ≡ known.Stopped e) × (result ≡ Ok None)
+
+-- behind any declarations, the token leads from the one to the other, and completes these
+abbrev pub GoesOn : TextProgress → Token → TextProgress → List Declaration → Type 0
+GoesOn old t new es = (ds : List Declaration) (us : List Token) → rest_by new (ds ++ es) us ≡ rest_by old ds (t ∷ us)
