@@ -43,11 +43,13 @@ pub fn seen_among(p: &Pol, links: &[(u16, u16, u16, u16)], tag: Fid) -> Option<S
     first_seen(p, &Links::Listed(links), tag)
 }
 
-/// What is seen of a policy over links.
+/// What is seen of a policy over links. A text that shows nothing is gone through once.
 fn first_seen(p: &Pol, links: &Links, tag: Fid) -> Option<Sight>
     ensures { result ≡ seen_of tag (links_of links.now) (tree_of p.now) }
 {
-    if holds_leaf(p, links, &Sought::OnField(tag)) {
+    if !holds_leaf(p, links, &Sought::AnyOf(tag)) {
+        None
+    } else if holds_leaf(p, links, &Sought::OnField(tag)) {
         Some(Sight::TagUsed)
     } else if holds_leaf(p, links, &Sought::LooseDup) {
         Some(Sight::LooseDup)

@@ -21,6 +21,8 @@ pub enum Sought {
     SwitchAssignment,
     /// A link literal that is none of the links.
     LinkOutside,
+    /// Any of these, with this field as the tag.
+    AnyOf(Fid),
 }
 
 /// Whether some leaf of the policy is what is looked for.
@@ -60,7 +62,7 @@ fn is_sought_test(_links: &Links, sought: &Sought, f: Fid, _n: u64) -> bool
     ensures { result ≡ test_for sought.now (links_of _links.now) (test f _n) }
 {
     match sought {
-        Sought::OnField(g) => *g == f,
+        Sought::OnField(g) | Sought::AnyOf(g) => *g == f,
         _ => false,
     }
 }
@@ -70,7 +72,7 @@ fn is_sought_range(_links: &Links, sought: &Sought, f: Fid, _lo: u64, _hi: u64) 
     ensures { result ≡ test_for sought.now (links_of _links.now) (range f _lo _hi) }
 {
     match sought {
-        Sought::OnField(g) => *g == f,
+        Sought::OnField(g) | Sought::AnyOf(g) => *g == f,
         _ => false,
     }
 }
@@ -82,6 +84,7 @@ fn is_sought_assignment(_links: &Links, sought: &Sought, f: Fid, _n: u64) -> boo
     match sought {
         Sought::OnField(g) => *g == f,
         Sought::SwitchAssignment => f == Fid::SWITCH,
+        Sought::AnyOf(g) => f == Fid::SWITCH || *g == f,
         _ => false,
     }
 }
@@ -91,7 +94,7 @@ fn is_sought_dup(_links: &Links, sought: &Sought, _l: u32) -> bool
     ensures { result ≡ test_for sought.now (links_of _links.now) (dup _l) }
 {
     match sought {
-        Sought::LooseDup => true,
+        Sought::LooseDup | Sought::AnyOf(_) => true,
         _ => false,
     }
 }
@@ -101,7 +104,7 @@ fn is_sought_link(links: &Links, sought: &Sought, from: (u16, u16), to: (u16, u1
     ensures { result ≡ test_for sought.now (links_of links.now) (link from.0 from.1 to.0 to.1 _l) }
 {
     match sought {
-        Sought::LinkOutside => !has_link(links, from, to),
+        Sought::LinkOutside | Sought::AnyOf(_) => !has_link(links, from, to),
         _ => false,
     }
 }
