@@ -17,6 +17,7 @@ pub mod Messages
 pub mod Outcome
 pub mod Pieces
 pub mod ProgramText
+pub mod ProgramTokens
 pub mod ReadText
 pub mod Reply
 pub mod Status

@@ -1,7 +1,9 @@
 -- What reading a program's text gives.
 use Rattle.std.specs.Prelude.{◌≡◌, ℕ, List, Ok}
 use Rattle.nk_lex.specs.declared.token.Token.{Token}
+use Rattle.nk_lex.specs.declared.token.LexError.{LexError}
 use Rattle.nk_lex.specs.Lex.{tokens_of}
+use Rattle.nk_grammar.specs.declared.decl.GrammarError.{GrammarError}
 use Rattle.nk_grammar.specs.File.{Declaration}
 use Rattle.nk_grammar.specs.FileMachine.{file_of}
 use Rattle.nk_names.specs.declared.Program.{Program}
@@ -10,7 +12,7 @@ use Rattle.nk.specs.declared.program_text.ReadText.{ReadText}
 use Rattle.nk.specs.declared.program_text.ReadText.TheVariants as read
 use Rattle.nk.specs.Declarable.{CanBeDeclared}
 use Rattle.nk.specs.Messages.{fault_line}
-use Rattle.nk.specs.ProgramText.{HasFault, IsFaultOfNames, IsFaultOfTokens}
+use Rattle.nk.specs.ProgramText.{HasFault, IsFaultOfNames, IsFaultOfTokens, TellsGrammar, TellsLexical}
 
 -- the program is what the declarations say, with fields and a topology that a text can declare
 pub record IsOfDeclarations (declarations : List Declaration) (program : Program) : Type 0 where
@@ -33,6 +35,16 @@ pub record IsOfBytes (bytes : List ℕ) (program : Program) : Type 0 where
 abbrev pub IsFaultLine : ℕ → List ℕ → ReadText → Type 0
 IsFaultLine line words (read.Program program) = ⊥
 IsFaultLine line words (read.Fault text) = text.items ≡ fault_line line words
+
+-- a lexical fault is read, and the line tells it
+abbrev pub IsLexicalFault : LexError → ReadText → Type 0
+IsLexicalFault e (read.Program program) = ⊥
+IsLexicalFault e (read.Fault text) = TellsLexical e text.items
+
+-- so it is with a fault of the tokens
+abbrev pub IsGrammarFault : GrammarError → ReadText → Type 0
+IsGrammarFault e (read.Program program) = ⊥
+IsGrammarFault e (read.Fault text) = TellsGrammar e text.items
 
 -- what is read of declarations
 abbrev pub IsReadOfNames : List Declaration → ReadText → Type 0

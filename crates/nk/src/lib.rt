@@ -15,6 +15,7 @@ pub mod laws;
 mod messages;
 mod pieces;
 mod program_text;
+mod program_tokens;
 mod reply;
 mod status;
 mod top;

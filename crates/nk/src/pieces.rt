@@ -8,6 +8,7 @@ ghost use Rattle.nk_io.specs.Reading.{IsCause};
 ghost use Rattle.nk.specs.Answer.{limit};
 ghost use Rattle.nk.specs.Pieces.{IsLexedAs, IsLexedOf};
 
+use crate::program_tokens::ProgramTokens;
 use nk_certtext::CertReader;
 use nk_io::{PieceError, ReadError, Source, Taken, next_piece};
 use nk_lex::{Feed, LexError, Token};
@@ -48,6 +49,16 @@ impl TokenReader for CertReader {
 
     fn take(&mut self, alloc: Global, token: &Token) -> Result<(), AllocError> {
         self.take(alloc, token)
+    }
+}
+
+impl TokenReader for ProgramTokens {
+    ghost use Rattle.nk.specs.ProgramTokens.{AreTaken};
+
+    ghost has_taken = { λ reader tokens. AreTaken tokens reader };
+
+    fn take(&mut self, alloc: Global, token: &Token) -> Result<(), AllocError> {
+        self.take_token(alloc, token)
     }
 }
 
@@ -102,6 +113,26 @@ pub(crate) fn read_pieces<S: Source, R: TokenReader>(
             return Err(ReadError::NoMemory);
         }
     }
+}
+
+/// Takes the tokens of a text in memory, piece by piece, so that no more of them are kept at once than a piece completes. All are
+/// taken where the text has no lexical fault.
+pub(crate) fn take_text<R: TokenReader>(
+    alloc: Global,
+    text: &[u8],
+    reader: &mut R,
+) -> Result<Lexed, AllocError>
+    requires first { R.has_taken reader.old [] }
+    ensures { IfOk result (λ lexed. IsLexedAs (R.has_taken reader.new) lexed (tokens_of text.now)) }
+{
+    let mut feed = Feed::new(alloc);
+    let mut rest = text;
+    'pieces: while !rest.is_empty() {
+        let (piece, more) = rest.split_at(rest.len().min(PIECE));
+        take_piece(alloc, &mut feed, reader, piece)?;
+        rest = more;
+    }
+    end_text(alloc, feed, reader)
 }
 
 /// Takes the tokens that a piece completes.
