@@ -13,7 +13,8 @@ use Rattle.nk_grammar.specs.Answer.{terminals}
 use Rattle.nk_grammar.specs.Certified.{Certified, certified, rows_said, HasCertificate}
 use Rattle.nk_grammar.specs.CertifiedAnswer.{IsCertifiedDeepToken, IsCertifiedAnswer}
 use Rattle.nk_grammar.specs.CertifiedMachine.{Certifying, certify_one, certify_all, first_certifying, certified_at_end, open_certified, judged_certified, certified_end_at, rest_of_certified, certified_of}
-use Rattle.nk_grammar.proofs.Files.{within, beyond}
+use Rattle.nk_grammar.proofs.Files.{within}
+use Rattle.nk_nesting.proofs.Beyond.{beyond}
 use Rattle.nk_grammar.proofs.CertifiedTexts.{reads_certified}
 use Rattle.nk_grammar.proofs.CertifiedAnswering.{answers}
 use Rattle.nk_nesting.specs.Counts.{GoWith}

@@ -1,3 +1,4 @@
+pub mod Beyond
 pub mod Counting
 pub mod Following
 pub mod Limits

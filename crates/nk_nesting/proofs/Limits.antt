@@ -12,7 +12,8 @@ use Rattle.nk_grammar.specs.Terminal.{Terminal, name, number, tilde, opening, cl
 use Rattle.nk_grammar.specs.File.{Declaration, Written, declared, spell_file}
 use Rattle.nk_grammar.specs.FileMachine.{Reading, read_one, read_all, first_reading, declarations_at_end, open_count, judged, ended_at, rest_of_file, file_of}
 use Rattle.nk_grammar.specs.Answer.{terminals, IsDeepToken, IsAnswer}
-use Rattle.nk_grammar.proofs.Files.{within, beyond}
+use Rattle.nk_grammar.proofs.Files.{within}
+use Rattle.nk_nesting.proofs.Beyond.{beyond}
 use Rattle.nk_grammar.proofs.Texts.{reads_file}
 use Rattle.nk_grammar.proofs.Answering.{answers}
 use Rattle.nk_nesting.specs.Counts.{open_in_file, Changes, GoWith}
