@@ -9,3 +9,4 @@ pub mod PacketSets
 pub mod Choices
 pub mod Halves
 pub mod Apart
+pub mod Again

@@ -10,10 +10,10 @@ ghost use Rattle.nk_algebra.specs.Seqs.{seq_leaf};
 ghost use Rattle.nk_algebra.specs.Subs.{sub};
 
 use crate::choices::choose;
-use crate::leaves::union;
+use crate::leaves::union_later;
 use crate::maps::{LeafMap, map_leaves};
 use crate::part::{part_near, tested};
-use crate::seqs::sequence;
+use crate::seqs::{sequence, sequence_anew};
 use nk_field::{Act, Fid, List};
 use nk_store::{Id, Node, Out, Store};
 use std::alloc::{AllocError, Global};
@@ -142,9 +142,22 @@ fn wide_field(st: &Store, a: Id, b: Id) -> Option<Fid>
     }
 }
 
+/// The sequence, where no answer is kept of these two.
+pub(crate) fn seq_anew(st: &mut Store, a: Id, b: Id) -> Result<Id, AllocError>
+    requires left { IsId st.old a }
+    requires right { IsId st.old b }
+    ensures grows { Grows st.old st.new }
+    ensures ok { IfOk result (λ d. HasLeaves st.new d (λ pk. seq_leaf (look st.old a pk) (look st.old b) pk)) }
+{
+    match wide_field(st, a, b) {
+        None => sequence_anew(st, a, b),
+        Some(f) => seq_apart(st, f, a, b),
+    }
+}
+
 /// The sequence, by its leaves.
 #[cycle(apart)]
-pub(crate) fn seq_leaves(st: &mut Store, a: Id, b: Id) -> Result<Id, AllocError>
+fn seq_leaves(st: &mut Store, a: Id, b: Id) -> Result<Id, AllocError>
     requires left { IsId st.old a }
     requires right { IsId st.old b }
     ensures grows { Grows st.old st.new }
@@ -170,7 +183,7 @@ fn seq_apart(st: &mut Store, f: Fid, a: Id, b: Id) -> Result<Id, AllocError>
     let kept = keeping(st, f, a)?;
     let right = seq_kept(st, f, kept, b)?;
     let left = seq_moved(st, f, a, b)?;
-    union(st, left, right)
+    union_later(st, left, right)
 }
 
 /// The outs that leave the field as it is.

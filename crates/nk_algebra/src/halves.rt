@@ -5,7 +5,7 @@ ghost use Rattle.nk_store.specs.Held.{look, Grows, HasLeaves};
 ghost use Rattle.nk_algebra.specs.Choices.{AreChoices};
 ghost use Rattle.nk_algebra.specs.Halves.{start, chosen};
 
-use crate::leaves::{both, union};
+use crate::leaves::{both_later, union_later};
 use crate::spans::range;
 use nk_field::{Fid, List};
 use nk_store::{Id, Store};
@@ -41,7 +41,7 @@ fn choose_some(
     let middle = from + (to - from) / 2;
     let left = choose_some(st, f, parts, from, middle)?;
     let right = choose_some(st, f, parts, middle, to)?;
-    union(st, left, right)
+    union_later(st, left, right)
 }
 
 /// The diagram of one part, for its values alone.
@@ -54,7 +54,7 @@ fn choose_one(st: &mut Store, f: Fid, parts: &List<(u64, Id)>, k: usize) -> Resu
     let from = first_value(st, f, parts, k);
     let (end, d) = *parts.at(k);
     let guard = range(st, f, from, end)?;
-    both(st, guard, d)
+    both_later(st, guard, d)
 }
 
 /// The first value of a part.

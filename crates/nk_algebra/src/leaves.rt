@@ -1,10 +1,12 @@
 //! Operations leaf by leaf.
-ghost use Rattle.std.specs.Prelude.{◌≡◌, ℕ, ◌≤◌, min, [], ◌++◌, IfOk, IfSome, OnOk, drop, length};
-ghost use Rattle.nk_store.specs.Held.{IsId, look, top, Grows, HasLeaves};
+ghost use Rattle.std.specs.Prelude.{◌≡◌, ℕ, ◌≤◌, min, [], ◌++◌, Some, IfOk, IfSome, OnOk, drop, length};
+ghost use Rattle.nk_store.specs.Held.{IsId, look, top, recalled, Grows, HasLeaves};
+ghost use Rattle.nk_store.specs.KeptAnswers.{GivesKept};
+ghost use Rattle.nk_store.specs.declared.operation.Operation.TheVariants as operations;
 ghost use Rattle.nk_algebra.specs.Leaves.{merged, guarded, absent};
 ghost use Rattle.nk_algebra.specs.Predicates.{IsPredicate, Ends};
 
-use crate::pairs::{Join, merge};
+use crate::pairs::{Join, merge, merge_anew};
 use nk_field::{Act, List};
 use nk_store::{Id, Node, Operation, Out, Store};
 use std::alloc::{AllocError, Global};
@@ -162,11 +164,43 @@ pub fn union(st: &mut Store, a: Id, b: Id) -> Result<Id, AllocError>
     ensures ok { IfOk result (λ d. HasLeaves st.new d (λ pk. merged (look st.old a pk) (look st.old b pk))) }
     ensures predicate { IfOk result (λ d. IsPredicate st.old a → IsPredicate st.old b → IsPredicate st.new d) }
     ensures ends { IfOk result (λ d. Ends (look st.old a) → Ends (look st.old b) → Ends (look st.new d)) }
+    ensures kept { IfOk result (λ d. recalled st.new operations.Union a b ≡ Some d) }
+    ensures again { GivesKept st.old st.new operations.Union a b result }
 {
-    union_later(st, a, b)
+    union_once(st, a, b)
 }
 
-/// Both leaves together; no field is tested before both test one.
+/// Both leaves together, made once: the answer is kept, and given again at each later call.
+fn union_once(st: &mut Store, a: Id, b: Id) -> Result<Id, AllocError>
+    requires left { IsId st.old a }
+    requires right { IsId st.old b }
+    ensures grows { Grows st.old st.new }
+    ensures ok { IfOk result (λ d. HasLeaves st.new d (λ pk. merged (look st.old a pk) (look st.old b pk))) }
+    ensures kept { IfOk result (λ d. recalled st.new operations.Union a b ≡ Some d) }
+    ensures again { GivesKept st.old st.new operations.Union a b result }
+{
+    if let Some(d) = st.recall(Operation::Union, a, b) {
+        return Ok(d);
+    }
+    let d = union_anew(st, a, b)?;
+    st.keep(Operation::Union, a, b, d)?;
+    Ok(d)
+}
+
+/// Both leaves together, where no answer is kept.
+fn union_anew(st: &mut Store, a: Id, b: Id) -> Result<Id, AllocError>
+    requires left { IsId st.old a }
+    requires right { IsId st.old b }
+    ensures grows { Grows st.old st.new }
+    ensures ok { IfOk result (λ d. HasLeaves st.new d (λ pk. merged (look st.old a pk) (look st.old b pk))) }
+{
+    match united(st, a, b) {
+        Some(d) => Ok(d),
+        None => merge_anew(st, &Together, a, b),
+    }
+}
+
+/// Both leaves together; no field is tested before both test one. Where one of both is the answer, nothing is kept.
 pub(crate) fn union_later(st: &mut Store, a: Id, b: Id) -> Result<Id, AllocError>
     requires left { IsId st.old a }
     requires right { IsId st.old b }
@@ -185,6 +219,48 @@ pub fn both(st: &mut Store, pred: Id, d: Id) -> Result<Id, AllocError>
     ensures ok { IfOk result (λ r. HasLeaves st.new r (λ pk. guarded (look st.old pred pk) (look st.old d pk))) }
     ensures predicate { IfOk result (λ r. IsPredicate st.old d → IsPredicate st.new r) }
     ensures ends { IfOk result (λ r. Ends (look st.old d) → Ends (look st.new r)) }
+    ensures kept { IfOk result (λ r. recalled st.new operations.Both pred d ≡ Some r) }
+    ensures again { GivesKept st.old st.new operations.Both pred d result }
+{
+    both_once(st, pred, d)
+}
+
+/// The diagram `d` where the predicate holds, made once: the answer is kept, and given again at each later call.
+fn both_once(st: &mut Store, pred: Id, d: Id) -> Result<Id, AllocError>
+    requires pred { IsId st.old pred }
+    requires right { IsId st.old d }
+    ensures grows { Grows st.old st.new }
+    ensures ok { IfOk result (λ r. HasLeaves st.new r (λ pk. guarded (look st.old pred pk) (look st.old d pk))) }
+    ensures kept { IfOk result (λ r. recalled st.new operations.Both pred d ≡ Some r) }
+    ensures again { GivesKept st.old st.new operations.Both pred d result }
+{
+    if let Some(r) = st.recall(Operation::Both, pred, d) {
+        return Ok(r);
+    }
+    let r = both_anew(st, pred, d)?;
+    st.keep(Operation::Both, pred, d, r)?;
+    Ok(r)
+}
+
+/// The diagram `d` where the predicate holds, where no answer is kept.
+fn both_anew(st: &mut Store, pred: Id, d: Id) -> Result<Id, AllocError>
+    requires pred { IsId st.old pred }
+    requires right { IsId st.old d }
+    ensures grows { Grows st.old st.new }
+    ensures ok { IfOk result (λ r. HasLeaves st.new r (λ pk. guarded (look st.old pred pk) (look st.old d pk))) }
+{
+    match guarded_by_leaf(st, pred, d) {
+        Some(r) => Ok(r),
+        None => merge_anew(st, &Guard, pred, d),
+    }
+}
+
+/// The diagram `d` where the predicate holds. Where one of both is the answer, nothing is kept.
+pub(crate) fn both_later(st: &mut Store, pred: Id, d: Id) -> Result<Id, AllocError>
+    requires pred { IsId st.old pred }
+    requires right { IsId st.old d }
+    ensures grows { Grows st.old st.new }
+    ensures ok { IfOk result (λ r. HasLeaves st.new r (λ pk. guarded (look st.old pred pk) (look st.old d pk))) }
 {
     merge(st, &Guard, pred, d)
 }
@@ -195,6 +271,25 @@ pub fn negate(st: &mut Store, pred: Id) -> Result<Id, AllocError>
     ensures grows { Grows st.old st.new }
     ensures ok { IfOk result (λ r. HasLeaves st.new r (λ pk. absent (look st.old pred pk) (look st.old pred pk))) }
     ensures predicate { IfOk result (λ r. IsPredicate st.new r) }
+    ensures kept { IfOk result (λ r. recalled st.new operations.Negate pred pred ≡ Some r) }
+    ensures again { GivesKept st.old st.new operations.Negate pred pred result }
 {
-    merge(st, &Absent, pred, pred)
+    negate_once(st, pred)
+}
+
+/// The predicate that holds exactly where this one doesn't, made once: the answer is kept, and given again at each later
+/// call.
+fn negate_once(st: &mut Store, pred: Id) -> Result<Id, AllocError>
+    requires { IsId st.old pred }
+    ensures grows { Grows st.old st.new }
+    ensures ok { IfOk result (λ r. HasLeaves st.new r (λ pk. absent (look st.old pred pk) (look st.old pred pk))) }
+    ensures kept { IfOk result (λ r. recalled st.new operations.Negate pred pred ≡ Some r) }
+    ensures again { GivesKept st.old st.new operations.Negate pred pred result }
+{
+    if let Some(r) = st.recall(Operation::Negate, pred, pred) {
+        return Ok(r);
+    }
+    let r = merge_anew(st, &Absent, pred, pred)?;
+    st.keep(Operation::Negate, pred, pred, r)?;
+    Ok(r)
 }

@@ -2,6 +2,7 @@
 //! it fails; its only error is that memory ran out.
 #![tactic(auto)]
 
+mod again;
 mod aims;
 mod apart;
 mod choices;
@@ -20,6 +21,7 @@ mod sums;
 mod unions;
 mod walks;
 
+pub use again::second_calls;
 pub use aims::{aim, assign};
 pub use choices::choose;
 pub use constants::{empty, identity};

@@ -24,12 +24,13 @@ pub trait Join {
         None
     }
 
-    /// Keeps what two diagrams are when put together.
+    /// Keeps what two diagrams are when put together. No node is made.
     fn keep(&self, _st: &mut Store, _a: Id, _b: Id, _d: Id) -> Result<(), AllocError>
         requires left { IsId _st.old _a }
         requires right { IsId _st.old _b }
         requires leaves { HasLeaves _st.old _d (λ pk. joined self.now (look _st.old _a pk) (look _st.old _b pk)) }
-        ensures { _st.new ≡ _st.old }
+        ensures grows { Grows _st.old _st.new }
+        ensures nodes { _st.new.nodes ≡ _st.old.nodes }
     {
         Ok(())
     }
@@ -69,12 +70,24 @@ pub fn merge<J: Join>(st: &mut Store, j: &J, a: Id, b: Id) -> Result<Id, AllocEr
     if let Some(d) = known_top(st, j, a, b) {
         return Ok(d);
     }
-    let d = match first_field(st, a, b) {
-        None => merge_leaves(st, j, a, b)?,
-        Some(f) => merge_case(st, j, f, a, b)?,
-    };
+    let d = merge_anew(st, j, a, b)?;
     j.keep(st, a, b, d)?;
     Ok(d)
+}
+
+/// The same, where nothing of these two is known at once or has to be kept here; of what stands below them it is.
+#[cycle(merge)]
+pub(crate) fn merge_anew<J: Join>(st: &mut Store, j: &J, a: Id, b: Id) -> Result<Id, AllocError>
+    requires left { IsId st.old a }
+    requires right { IsId st.old b }
+    ensures grows { Grows st.old st.new }
+    ensures ok { IfOk result (λ d. HasLeaves st.new d (λ pk. J.joined j.now (look st.old a pk) (look st.old b pk))) }
+    ensures later { IfOk result (λ d. min (top st.old a) (top st.old b) ≤ top st.new d) }
+{
+    match first_field(st, a, b) {
+        None => merge_leaves(st, j, a, b),
+        Some(f) => merge_case(st, j, f, a, b),
+    }
 }
 
 /// Two diagrams put together where one tests a field, by the parts.

@@ -1,19 +1,21 @@
 //! One diagram, then another one.
-ghost use Rattle.std.specs.Prelude.{◌≡◌, ℕ, ◌≤◌, ◌<◌, List as Items, [], ◌∷◌, ◌++◌, IfOk, OnOk, MatchOption, ◌-◌, min, cond, ltb, map, slice_index, slice_index_or, drop, length};
+ghost use Rattle.std.specs.Prelude.{◌≡◌, ℕ, ◌≤◌, ◌<◌, List as Items, [], ◌∷◌, ◌++◌, Some, IfOk, OnOk, MatchOption, ◌-◌, min, cond, ltb, map, slice_index, slice_index_or, drop, length};
 ghost use Rattle.nk_field.specs.Act.{applied};
 ghost use Rattle.nk_store.specs.Leaves.{IsActFrom};
 ghost use Rattle.nk_store.specs.Nodes.{child_at};
-ghost use Rattle.nk_store.specs.Held.{IsId, IsWhole, look, top, Grows, HasLeaves};
+ghost use Rattle.nk_store.specs.Held.{IsId, IsWhole, look, top, recalled, Grows, HasLeaves};
+ghost use Rattle.nk_store.specs.KeptAnswers.{GivesKept};
+ghost use Rattle.nk_store.specs.declared.operation.Operation.TheVariants as operations;
 ghost use Rattle.nk_algebra.specs.Subs.{sub, IsSplit};
 ghost use Rattle.nk_algebra.specs.Seqs.{out_after, prefixed, seq_leaf, outs_of, no_out, out_made};
 ghost use Rattle.nk_algebra.specs.Unions.{over_places};
 ghost use Rattle.nk_algebra.specs.Choices.{AreChoices};
 ghost use Rattle.nk_algebra.specs.Predicates.{IsPredicate, Ends};
 
-use crate::apart::seq_leaves;
+use crate::apart::seq_anew;
 use crate::choices::choose;
 use crate::constants::empty;
-use crate::leaves::union;
+use crate::leaves::union_later;
 use crate::maps::{LeafMap, map_leaves};
 use crate::part::{part_near, tested};
 use crate::restricts::restrict;
@@ -104,8 +106,27 @@ pub fn seq(st: &mut Store, a: Id, b: Id) -> Result<Id, AllocError>
     ensures ok { IfOk result (λ d. HasLeaves st.new d (λ pk. seq_leaf (look st.old a pk) (look st.old b) pk)) }
     ensures predicate { IfOk result (λ d. IsPredicate st.old a → IsPredicate st.old b → IsPredicate st.new d) }
     ensures ends { IfOk result (λ d. Ends (look st.old b) → Ends (look st.new d)) }
+    ensures kept { IfOk result (λ d. recalled st.new operations.Seq a b ≡ Some d) }
+    ensures again { GivesKept st.old st.new operations.Seq a b result }
 {
-    seq_leaves(st, a, b)
+    seq_once(st, a, b)
+}
+
+/// The sequence, made once: the answer is kept, and given again at each later call.
+fn seq_once(st: &mut Store, a: Id, b: Id) -> Result<Id, AllocError>
+    requires left { IsId st.old a }
+    requires right { IsId st.old b }
+    ensures grows { Grows st.old st.new }
+    ensures ok { IfOk result (λ d. HasLeaves st.new d (λ pk. seq_leaf (look st.old a pk) (look st.old b) pk)) }
+    ensures kept { IfOk result (λ d. recalled st.new operations.Seq a b ≡ Some d) }
+    ensures again { GivesKept st.old st.new operations.Seq a b result }
+{
+    if let Some(made) = st.recall(Operation::Seq, a, b) {
+        return Ok(made);
+    }
+    let made = seq_anew(st, a, b)?;
+    st.keep(Operation::Seq, a, b, made)?;
+    Ok(made)
 }
 
 /// The sequence, by its leaves.
@@ -122,12 +143,23 @@ pub(crate) fn sequence(st: &mut Store, a: Id, b: Id) -> Result<Id, AllocError>
     if let Some(d) = st.recall(Operation::Seq, a, b) {
         return Ok(d);
     }
-    let d = match tested(st, a) {
-        None => seq_outs(st, a, b)?,
-        Some(f) => seq_case(st, f, a, b)?,
-    };
+    let d = sequence_anew(st, a, b)?;
     st.keep(Operation::Seq, a, b, d)?;
     Ok(d)
+}
+
+/// The same, where nothing of these two is known at once or has to be kept here; of what stands below them it is.
+#[cycle(seq)]
+pub(crate) fn sequence_anew(st: &mut Store, a: Id, b: Id) -> Result<Id, AllocError>
+    requires left { IsId st.old a }
+    requires right { IsId st.old b }
+    ensures grows { Grows st.old st.new }
+    ensures ok { IfOk result (λ d. HasLeaves st.new d (λ pk. seq_leaf (look st.old a pk) (look st.old b) pk)) }
+{
+    match tested(st, a) {
+        None => seq_outs(st, a, b),
+        Some(f) => seq_case(st, f, a, b),
+    }
 }
 
 /// The sequence at a diagram that tests a field.
@@ -214,7 +246,7 @@ fn seq_some(st: &mut Store, a: Id, b: Id, from: usize, to: usize) -> Result<Id, 
     let middle = from + (to - from) / 2;
     let left = seq_some(st, a, b, from, middle)?;
     let right = seq_some(st, a, b, middle, to)?;
-    union(st, left, right)
+    union_later(st, left, right)
 }
 
 /// The sequence at a diagram that tests a field, part by part.

@@ -1,7 +1,9 @@
 //! Diagrams whose acts assign exactly the fields that they change.
-ghost use Rattle.std.specs.Prelude.{◌≡◌, ℕ, ◌<◌, ◌↔◌, cond, eqb, List as Items, IfOk, true};
+ghost use Rattle.std.specs.Prelude.{◌≡◌, ℕ, ◌<◌, ◌↔◌, cond, eqb, List as Items, Some, IfOk, true};
 ghost use Rattle.std.specs.List.{list_any};
-ghost use Rattle.nk_store.specs.Held.{IsId, IsPacket, look, Grows, HasLeaves};
+ghost use Rattle.nk_store.specs.Held.{IsId, IsPacket, look, recalled, Grows, HasLeaves};
+ghost use Rattle.nk_store.specs.KeptAnswers.{GivesKept};
+ghost use Rattle.nk_store.specs.declared.operation.Operation.TheVariants as operations;
 ghost use Rattle.nk_determ.specs.Unchanged.{leaf_changing};
 ghost use Rattle.nk_determ.specs.Exact.{split_leaf, AreExact, Sends};
 
@@ -19,16 +21,20 @@ pub fn split(st: &mut Store, d: Id) -> Result<Id, AllocError>
     ensures ok { IfOk result (λ r. HasLeaves st.new r (λ pk. split_leaf st.old.maxes pk (look st.old d pk))) }
     ensures exact { IfOk result (λ r. AreExact st.new r) }
     ensures means { IfOk result (λ r. (pk : Items ℕ) (y : Items ℕ) (t : ℕ) → IsPacket st.old pk → Sends st.new r pk y t ↔ Sends st.old d pk y t) }
+    ensures kept { IfOk result (λ r. recalled st.new operations.Split d d ≡ Some r) }
+    ensures again { GivesKept st.old st.new operations.Split d d result }
 {
     let _tidy = st.view(d);
     divide(st, d)
 }
 
-/// The split diagram.
+/// The split diagram, made once: the answer is kept, and given again at each later call.
 fn divide(st: &mut Store, d: Id) -> Result<Id, AllocError>
     requires { IsId st.old d }
     ensures grows { Grows st.old st.new }
     ensures ok { IfOk result (λ r. HasLeaves st.new r (λ pk. split_leaf st.old.maxes pk (look st.old d pk))) }
+    ensures kept { IfOk result (λ r. recalled st.new operations.Split d d ≡ Some r) }
+    ensures again { GivesKept st.old st.new operations.Split d d result }
 {
     if let Some(r) = st.recall(Operation::Split, d, d) {
         return Ok(r);

@@ -14,6 +14,8 @@ pub const DST: u8 = 2;
 enum Case {
     /// `sw:=1` and then `sw=0` passes nothing; `sw=0` and then `sw:=1` passes the packet with `sw` 0.
     OrderMatters,
+    /// A second call of an operation gives what the first one gave and makes no node.
+    SecondCallsMakeNoNode,
     /// Of `sw=0` and `sw=0` aimed at 5 together a packet with `sw` 0 goes to 0 and to 5; where `sw` is set to 1, `~sw=0`
     /// passes it.
     LeavesAreUnited,
@@ -41,8 +43,9 @@ enum Case {
 }
 
 /// All cases.
-const CASES: [Case; 12] = [
+const CASES: [Case; 13] = [
     Case::OrderMatters,
+    Case::SecondCallsMakeNoNode,
     Case::LeavesAreUnited,
     Case::PolicyAtTwoPackets,
     Case::StarOfADup,
@@ -61,6 +64,7 @@ impl Case {
     fn holds_in(self, fields: &Fields, st: &mut Store, ss: &mut Sets) -> Result<bool, AllocError> {
         match self {
             Case::OrderMatters => algebra::order_matters(st),
+            Case::SecondCallsMakeNoNode => algebra::second_calls_make_no_node(st),
             Case::LeavesAreUnited => algebra::leaves_are_united(st),
             Case::PolicyAtTwoPackets => auto::is_moved_or_kept(st),
             Case::StarOfADup => auto::ends_or_records(st),

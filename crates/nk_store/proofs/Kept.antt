@@ -1,4 +1,4 @@
--- Answers keep their meaning while the store grows.
+-- Answers keep their meaning while the store grows, and stay where one more is kept.
 use Rattle.std.proofs.Common.{◌≡◌, ℕ, Bool, true, false, cond, List, Option, Some, None, IfSome, refl, sym, ◌∙◌, ap, subst}
 use Rattle.std.specs.Map.{lookup}
 use Rattle.std.specs.Prelude.{OnOk, OnErr}
@@ -7,10 +7,12 @@ use Rattle.std.specs.declared.result.Result.TheVariants.{Ok, Err}
 use Rattle.nk_store.specs.declared.operation.Operation.{Operation}
 use Rattle.nk_store.specs.declared.operation.Key.{Key}
 use Rattle.nk_store.specs.declared.node.Out.{Out}
-use Rattle.nk_store.specs.Held.{Held, look, Grows}
+use Rattle.nk_store.specs.Held.{Held, IsId, node_of, look, top, Grows, IsCanonical, recalled}
 use Rattle.nk_store.specs.Operations.{made}
-use Rattle.nk_store.specs.Equal.{key_same}
-use Rattle.nk_store.specs.KeptAnswers.{IsAnswer, key_eq, AreAnswers, IsKeptLeaf}
+use Rattle.nk_store.specs.Equal.{key_same, key_alike}
+use Rattle.nk_store.specs.Keys.{key_eq, key_of}
+use Rattle.nk_store.specs.KeptAnswers.{IsAnswer, keeping, AreAnswers, IsKeptLeaf}
+use Rattle.nk_store.proofs.Stores.{grows_same}
 
 -- an answer is one in a store that grew
 pub answer_grown : (old new : Held) (operation : Operation) (a b d : ℕ) → Grows old new →
@@ -35,6 +37,11 @@ pub answers_grown : (old new : Held) (answers : List (Key × ℕ)) → Grows old
     AreAnswers new answers
 answers_grown old new answers g m = λ k d e. answer_grown old new k.operation k.left k.right d g (m k d e)
 
+-- and of a store that grew and keeps the same answers
+pub answers_stay : (old new : Held) → Grows old new → new.kept ≡ old.kept → AreAnswers old old.kept →
+    AreAnswers new new.kept
+answers_stay old new g e m = subst (AreAnswers new) (sym e) (answers_grown old new old.kept g m)
+
 -- with one answer more, all that are kept are answers
 pub answers_kept : (st : Held) (old new : List (Key × ℕ)) (k : Key) (d : ℕ) → AreAnswers st old →
     IsAnswer st k.operation k.left k.right d →
@@ -49,19 +56,101 @@ answers_kept st old new k d m r u = λ q e is. by q e is (key_eq k q) refl
         subst (λ x. IsAnswer st q.operation q.left q.right x) answer (subst (λ (x : Key). IsAnswer st x.operation x.left x.right d) same r)
     by q e is false h = m q e (sym (u q ∙ ap (λ b. cond b (Some d) (lookup (key_eq q) old)) h) ∙ is)
 
--- the same whatever a call answers that keeps it or leaves all as it was
-pub answers_after : {T E : Type 0} (st : Held) (old new : List (Key × ℕ)) (k : Key) (d : ℕ) (r : Result T E) →
-    AreAnswers st old → IsAnswer st k.operation k.left k.right d →
-    OnOk r ((q : Key) → lookup (key_eq q) new ≡ cond (key_eq k q) (Some d) (lookup (key_eq q) old)) →
-    OnErr r (new ≡ old) → AreAnswers st new
-answers_after st old new k d (Ok x) m a u e = answers_kept st old new k d m a u
-answers_after st old new k d (Err x) m a u e = subst (AreAnswers st) (sym e) m
+-- what is found once one answer more is kept
+abbrev pub IsFound : List (Key × ℕ) → List (Key × ℕ) → Key → ℕ → Type 0
+IsFound old new k d = (q : Key) → lookup (key_eq q) new ≡ cond (key_eq k q) (Some d) (lookup (key_eq q) old)
 
--- what is found of a key is its answer
-pub recalled : (st : Held) (answers : List (Key × ℕ)) (k : Key) (o : Option ℕ) → AreAnswers st answers →
-    o ≡ lookup (key_eq k) answers → IfSome o (λ d. IsAnswer st k.operation k.left k.right d)
-recalled st answers k None m e = tt
-recalled st answers k (Some d) m e = m k d (sym e)
+-- two answers of an operation on the same diagrams are one
+pub one_answer : (st : Held) (operation : Operation) (a b d e : ℕ) → IsCanonical st →
+    IsAnswer st operation a b d → IsAnswer st operation a b e → d ≡ e
+one_answer st operation a b d e c r s =
+    c d e r.leaves.id s.leaves.id (λ pk h. r.leaves.leaf pk h.0 ∙ sym (s.leaves.leaf pk h.0))
+
+-- the store with other answers
+abbrev with_kept : Held → List (Key × ℕ) → Held
+with_kept st ks = record st { kept = ks }
+
+-- what was found is found still
+stays : (st : Held) (ks : List (Key × ℕ)) (k : Key) (d : ℕ) → IsCanonical st → AreAnswers st st.kept →
+    IsAnswer st k.operation k.left k.right d → IsFound st.kept ks k d → (q : Key) (e : ℕ) →
+    lookup (key_eq q) st.kept ≡ Some e → lookup (key_eq q) ks ≡ Some e
+stays st ks k d c m r u q e is = by (key_eq k q) refl
+  where
+    by : (b : Bool) → key_eq k q ≡ b → lookup (key_eq q) ks ≡ Some e
+    by true h =
+        let same : k ≡ q = key_same k q h in
+        let answer : IsAnswer st q.operation q.left q.right d = subst (λ (x : Key). IsAnswer st x.operation x.left x.right d) same r in
+        u q ∙ ap (λ b. cond b (Some d) (lookup (key_eq q) st.kept)) h
+        ∙ ap (λ x. Some x) (one_answer st q.operation q.left q.right d e c answer (m q e is))
+    by false h = u q ∙ ap (λ b. cond b (Some d) (lookup (key_eq q) st.kept)) h ∙ is
+
+-- a store with one answer more has grown
+pub grows_keeping : (st : Held) (ks : List (Key × ℕ)) (k : Key) (d : ℕ) → IsCanonical st → AreAnswers st st.kept →
+    IsAnswer st k.operation k.left k.right d → IsFound st.kept ks k d → Grows st (with_kept st ks)
+unfolding IsId node_of look top recalled
+grows_keeping st ks k d c m r u = record {
+  ids = λ i h. h;
+  nodes = λ i h. refl;
+  tops = λ i h. refl;
+  leaves = λ i pk h. refl;
+  maxes = refl;
+  width = refl;
+  tag = refl;
+  kept = λ operation x y e is. stays st ks k d c m r u (key_of operation x y) e is;
+}
+
+-- what keeping one answer more makes of a store, whether there was memory for it or not
+pub record Keeps (st new : Held) : Type 0 where
+  pub grows : Grows st new
+  pub answers : AreAnswers new new.kept
+  pub nodes : new.nodes ≡ st.nodes
+
+-- a call that keeps it or leaves all as it was makes that
+pub kept_after : {T E : Type 0} (st new : Held) (operation : Operation) (a b d : ℕ) (r : Result T E) → IsCanonical st →
+    AreAnswers st st.kept → IsAnswer st operation a b d → OnOk r (new ≡ keeping st operation a b d) →
+    OnOk r (IsFound st.kept new.kept (key_of operation a b) d) → OnErr r (new ≡ st) → Keeps st new
+kept_after st new operation a b d (Ok x) c m r ok u err =
+    let same : new ≡ with_kept st new.kept = ok ∙ ap (λ ks. with_kept st ks) (sym (ap (λ (s : Held). s.kept) ok)) in
+    let g : Grows st new = subst (Grows st) (sym same) (grows_keeping st new.kept (key_of operation a b) d c m r u) in
+    record {
+      grows = g;
+      answers = answers_grown st new new.kept g (answers_kept st st.kept new.kept (key_of operation a b) d m r u);
+      nodes = ap (λ (s : Held). s.nodes) ok;
+    }
+kept_after st new operation a b d (Err x) c m r ok u err = record {
+  grows = subst (Grows st) (sym err) (grows_same st);
+  answers = subst (λ (s : Held). AreAnswers s s.kept) (sym err) m;
+  nodes = ap (λ (s : Held). s.nodes) err;
+}
+
+-- the answer that was kept is recalled
+pub recalled_kept : (old new : Held) (operation : Operation) (a b d : ℕ) →
+    IsFound old.kept new.kept (key_of operation a b) d → recalled new operation a b ≡ Some d
+unfolding recalled
+recalled_kept old new operation a b d u =
+    u (key_of operation a b) ∙ ap (λ t. cond t (Some d) (recalled old operation a b)) (key_alike (key_of operation a b))
+
+-- any other is as before
+pub recalled_others : (old new : Held) (k : Key) (d : ℕ) → IsFound old.kept new.kept k d →
+    (operation : Operation) (x y : ℕ) → (key_of operation x y ≡ k → ⊥) → recalled new operation x y ≡ recalled old operation x y
+unfolding recalled
+recalled_others old new k d u operation x y other = by (key_eq k (key_of operation x y)) refl
+  where
+    by : (b : Bool) → key_eq k (key_of operation x y) ≡ b → lookup (key_eq (key_of operation x y)) new.kept ≡ lookup (key_eq (key_of operation x y)) old.kept
+    by true h = absurd (other (sym (key_same k (key_of operation x y) h)))
+    by false h = u (key_of operation x y) ∙ ap (λ t. cond t (Some d) (lookup (key_eq (key_of operation x y)) old.kept)) h
+
+-- what is recalled is an answer
+pub recalled_is : (st : Held) → AreAnswers st st.kept → (operation : Operation) (a b d : ℕ) →
+    recalled st operation a b ≡ Some d → IsAnswer st operation a b d
+unfolding recalled
+recalled_is st m operation a b d e = m (key_of operation a b) d e
+
+-- and so is what a call answers that recalls
+pub recalled_answer : (st : Held) (operation : Operation) (a b : ℕ) (o : Option ℕ) → AreAnswers st st.kept →
+    o ≡ recalled st operation a b → IfSome o (λ d. IsAnswer st operation a b d)
+recalled_answer st operation a b None m e = tt
+recalled_answer st operation a b (Some d) m e = recalled_is st m operation a b d (sym e)
 
 -- a leaf that is kept is that leaf in a store that grew
 pub leaf_kept : (old new : Held) (outs : List Out) (o : Option ℕ) → Grows old new → IsKeptLeaf old outs o →

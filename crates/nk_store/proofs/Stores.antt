@@ -6,8 +6,9 @@ use Rattle.std.proofs.lemmas.Grind.{reverse_onto}
 use Rattle.nk_store.specs.declared.node.Node.{Node}
 use Rattle.nk_store.specs.declared.node.Node.TheVariants.{Leaf, Case}
 use Rattle.nk_store.specs.declared.node.Out.{Out}
+use Rattle.nk_store.specs.declared.operation.Key.{Key}
 use Rattle.nk_store.specs.Nodes.{child_at, node_at, look_in, node_top, Rises, Each, IsLater, Joined, joined, Fits, Sound}
-use Rattle.nk_store.specs.Held.{Held, HasFields, IsId, node_of, look, top, Grows, HasLeaves, IsChild, AreParts, IsCase, IsNodeOf, IsStill, IsReduced, IsTidy, Agree, IsCanonical}
+use Rattle.nk_store.specs.Held.{Held, HasFields, IsId, node_of, look, top, Grows, HasLeaves, IsChild, AreParts, IsCase, IsNodeOf, IsStill, IsReduced, IsTidy, Agree, IsCanonical, recalled}
 use Rattle.nk_store.proofs.Looks.{node_at-old, node_at-new, look-old, top-old, look_leaf, look_case, look_same, look_tidy, fits_at, leaf_fits_at, joined_some, each_child, each_weaker}
 use Rattle.nk_store.proofs.Same.{same_number, tests_not}
 use Rattle.nk_store.proofs.Joins.{joined_child, joined_rises, joined_each, joined_joined, joined_some as joined_more, single_child}
@@ -17,8 +18,8 @@ abbrev pub with_nodes : Held → List Node → Held
 with_nodes st nodes = record st { nodes = nodes }
 
 -- a store with no node
-abbrev pub bare : List ℕ → ℕ → Option ℕ → Held
-bare maxes width tag = record { nodes = []; maxes = maxes; width = width; tag = tag }
+abbrev pub bare : List ℕ → ℕ → Option ℕ → List (Key × ℕ) → Held
+bare maxes width tag kept = record { nodes = []; maxes = maxes; width = width; tag = tag; kept = kept }
 
 -- what the store's nodes keep to
 abbrev pub IsSound : Held → Type 0
@@ -84,7 +85,7 @@ pushed_reversed xs ys n e = ap (λ zs. reverse zs) e ∙ reverse-append xs (n �
 
 -- a store with a newer node has grown
 pub grows_newer : (st : Held) (n : Node) → Grows st (with_nodes st (n ∷ st.nodes))
-unfolding IsId node_of look top
+unfolding IsId node_of look top recalled
 grows_newer st n = record {
   ids = λ d h. omega (arith, h);
   nodes = λ d h. node_at-old n st.nodes d h;
@@ -93,6 +94,7 @@ grows_newer st n = record {
   maxes = refl;
   width = refl;
   tag = refl;
+  kept = λ operation a b d e. e;
 }
 
 -- a store with a node put last has grown
@@ -116,7 +118,7 @@ pushed_is base xs ys n e =
 
 -- a store has grown from itself
 pub grows_same : (st : Held) → Grows st st
-grows_same st = record { ids = λ d h. h; nodes = λ d h. refl; tops = λ d h. refl; leaves = λ d pk h. refl; maxes = refl; width = refl; tag = refl }
+grows_same st = record { ids = λ d h. h; nodes = λ d h. refl; tops = λ d h. refl; leaves = λ d pk h. refl; maxes = refl; width = refl; tag = refl; kept = λ operation a b d e. e }
 
 -- growing twice is growing
 pub grows_on : (a b c : Held) → Grows a b → Grows b c → Grows a c
@@ -128,6 +130,7 @@ grows_on a b c g h = record {
   maxes = h.maxes ∙ g.maxes;
   width = h.width ∙ g.width;
   tag = h.tag ∙ g.tag;
+  kept = λ operation a b d e. h.kept operation a b d (g.kept operation a b d e);
 }
 
 -- a leaf's number has its outs at each packet

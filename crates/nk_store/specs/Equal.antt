@@ -1,5 +1,5 @@
 -- `==` of nodes, and of what answers are found by, tells whether they are one.
-use Rattle.std.proofs.Common.{◌≡◌, ℕ, Bool, true, false, ◌&&◌, refl, ap, eqb, eqb-true, IsTrue}
+use Rattle.std.proofs.Common.{◌≡◌, ℕ, Bool, true, false, ◌&&◌, refl, ap, ◌∙◌, eqb, eqb-true, eq-eqb, IsTrue}
 use Rattle.std.specs.Bool.{Decides}
 use Rattle.std.specs.Cmp.Lexicographic.{pointwise_decides}
 use Rattle.std.proofs.lemmas.Bool.Decides.{Decides-eqb, Decides-and, Decides-like}
@@ -95,3 +95,20 @@ key_same k q h =
     let b : k.left ≡ q.left = eqb-true _ _ (and_left _ _ rest) in
     let c : k.right ≡ q.right = eqb-true _ _ (and_right _ _ rest) in
     λ i. record { operation = a i; left = b i; right = c i }
+
+-- an operation is equal to itself
+operation_alike : (a : Operation) → operation_impl.ghosts.eq a a ≡ true
+operation_alike Union = refl
+operation_alike Both = refl
+operation_alike Negate = refl
+operation_alike Missing = refl
+operation_alike Seq = refl
+operation_alike Split = refl
+
+-- two that both hold hold together
+and_both : (s t : Bool) → s ≡ true → t ≡ true → (s && t) ≡ true
+and_both s t h k = ap (λ x. x && t) h ∙ k
+
+-- a key is equal to itself
+pub key_alike : (k : Key) → key_impl.ghosts.eq k k ≡ true
+key_alike k = and_both _ _ (operation_alike k.operation) (and_both _ _ (eq-eqb k.left k.left refl) (eq-eqb k.right k.right refl))

@@ -1,19 +1,25 @@
 -- What contracts see of a store.
 use Rattle.std.specs.Prelude.{◌≡◌, ℕ, ◌<◌, ◌≤◌, ◌-◌, ◌++◌, List, Option, Some, length, replicate, slice_index, slice_set}
+use Rattle.std.specs.Map.{lookup}
 use Rattle.nk_field.specs.Packet.{FieldTable}
 use Rattle.nk_store.specs.declared.node.Node.{Node}
 use Rattle.nk_store.specs.declared.node.Node.TheVariants.{Leaf, Case}
 use Rattle.nk_store.specs.declared.node.Out.{Out}
+use Rattle.nk_store.specs.declared.operation.Operation.{Operation}
+use Rattle.nk_store.specs.declared.operation.Key.{Key}
+use Rattle.nk_store.specs.Keys.{key_eq, key_of}
 use Rattle.nk_store.specs.Leaves.{Strict, Every, Suits}
 use Rattle.nk_store.specs.Nodes.{child_at, node_at, look_in, top_in, Rises, Each, Joined, InRange}
 
 -- the nodes, newest first; the highest value at each of eighteen places, 0 where no field is; how many fields there are,
--- the switch and the port among them; and which of them is the tag
+-- the switch and the port among them; which of them is the tag; and the answers of operations that are kept, each with what
+-- it is found by
 pub record Held : Type 0 where
   pub nodes : List Node
   pub maxes : List ℕ
   pub width : ℕ
   pub tag : Option ℕ
+  pub kept : List (Key × ℕ)
 
 -- the store is over these fields
 pub record IsOver (fields : FieldTable) (st : Held) : Type 0 where
@@ -45,11 +51,15 @@ look st d pk = look_in st.nodes d pk
 unfoldable pub top : Held → ℕ → ℕ
 top st d = top_in st.nodes d
 
+-- the answer that is kept of an operation on two diagrams; None where none is
+unfoldable pub recalled : Held → Operation → ℕ → ℕ → Option ℕ
+recalled st operation a b = lookup (key_eq (key_of operation a b)) st.kept
+
 -- a packet of the store's fields, with each value in its range
 abbrev pub IsPacket : Held → List ℕ → Type 0
 IsPacket st pk = InRange st.maxes pk
 
--- the numbers of the old store are numbers of the new one, with the same nodes and leaves
+-- the numbers of the old store are numbers of the new one, with the same nodes and leaves, and what was kept is kept still
 pub record Grows (old new : Held) : Type 0 where
   pub ids : (d : ℕ) → IsId old d → IsId new d
   pub nodes : (d : ℕ) → IsId old d → node_of new d ≡ node_of old d
@@ -58,6 +68,7 @@ pub record Grows (old new : Held) : Type 0 where
   pub maxes : new.maxes ≡ old.maxes
   pub width : new.width ≡ old.width
   pub tag : new.tag ≡ old.tag
+  pub kept : (operation : Operation) (a b d : ℕ) → recalled old operation a b ≡ Some d → recalled new operation a b ≡ Some d
 
 -- a packet has eighteen values
 abbrev pub IsWhole : List ℕ → Type 0

@@ -1,12 +1,13 @@
 -- The answers of operations that a store keeps.
-use Rattle.std.specs.Prelude.{◌≡◌, ℕ, Bool, List, [], Option, Some, None}
+use Rattle.std.specs.Prelude.{◌≡◌, ℕ, List, [], Option, Some, None}
 use Rattle.std.specs.Map.{lookup}
-use Rattle.indexmap.specs.IndexMap.{insert_entry}
+use Rattle.std.specs.declared.result.Result.{Result}
+use Rattle.std.specs.declared.result.Result.TheVariants.{Ok}
 use Rattle.nk_store.specs.declared.node.Out.{Out}
 use Rattle.nk_store.specs.declared.operation.Operation.{Operation}
 use Rattle.nk_store.specs.declared.operation.Key.{Key}
-use Rattle.nk_store.specs.contracts.operation.KeyPartialEq.TheImpl.{ghosts}
-use Rattle.nk_store.specs.Held.{Held, IsId, look, top, HasLeaves}
+use Rattle.nk_store.specs.Keys.{key_eq, key_of, with_answer}
+use Rattle.nk_store.specs.Held.{Held, IsId, look, top, recalled, HasLeaves}
 use Rattle.nk_store.specs.Operations.{made}
 
 -- d is the operation's answer on a and b: at each packet it has the leaf that the operation makes
@@ -15,17 +16,13 @@ pub record IsAnswer (st : Held) (operation : Operation) (a b d : ℕ) : Type 0 w
   pub right : IsId st b
   pub leaves : HasLeaves st d (λ pk. made operation st.maxes (look st a pk) (look st b) pk)
 
--- whether two keys are one
-abbrev pub key_eq : Key → Key → Bool
-key_eq k q = ghosts.eq k q
+-- the store with one answer more, and else as it is
+abbrev pub keeping : Held → Operation → ℕ → ℕ → ℕ → Held
+keeping st operation a b d = record st { kept = with_answer st.kept (key_of operation a b) d }
 
--- what an answer on two diagrams is found by
-abbrev pub key_of : Operation → ℕ → ℕ → Key
-key_of operation a b = record { operation = operation; left = a; right = b }
-
--- the answers with one more put in: at the place of its key, where that is there, else behind all others
-abbrev pub with_answer : List (Key × ℕ) → Key → ℕ → List (Key × ℕ)
-with_answer answers k d = insert_entry ghosts.eq answers k d
+-- a call of an operation that finds its answer kept gives that answer, and leaves the store as it was
+abbrev pub GivesKept : {E : Type 0} → Held → Held → Operation → ℕ → ℕ → Result ℕ E → Type 0
+GivesKept old new operation a b result = (d : ℕ) → recalled old operation a b ≡ Some d → (result ≡ Ok d) × (new ≡ old)
 
 -- what is kept of each key is the answer of its operation on its diagrams
 abbrev pub AreAnswers : Held → List (Key × ℕ) → Type 0

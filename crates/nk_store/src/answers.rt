@@ -2,7 +2,7 @@
 ghost use Rattle.std.specs.Prelude.{◌≡◌, [], cond, Some, OnOk, OnErr};
 ghost use Rattle.std.specs.Map.{lookup};
 ghost use Rattle.nk_store.specs.declared.operation.Key.{Key};
-ghost use Rattle.nk_store.specs.KeptAnswers.{key_of, key_eq, with_answer};
+ghost use Rattle.nk_store.specs.Keys.{key_of, key_eq, with_answer};
 
 use crate::identity_hasher::IdentityHasher;
 use crate::node::Id;

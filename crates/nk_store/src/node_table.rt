@@ -1,11 +1,17 @@
-//! The nodes of a store, each once.
-ghost use Rattle.std.specs.Prelude.{◌≡◌, ℕ, ◌+◌, ◌-◌, ◌<◌, ◌≤◌, [], ◌++◌, length, replicate, reverse, true, slice_index, IfOk, List as Items};
+//! The nodes of a store, each once, and what is kept beside them.
+ghost use Rattle.std.specs.Prelude.{◌≡◌, ℕ, ◌+◌, ◌-◌, ◌<◌, ◌≤◌, [], ◌++◌, length, replicate, reverse, true, slice_index, cond, Some, IfOk, OnOk, OnErr, List as Items};
+ghost use Rattle.std.specs.Map.{lookup};
 ghost use Rattle.nk_store.specs.Nodes.{child_at, is_empty_leaf, Fits, Sound};
 ghost use Rattle.nk_store.specs.Leaves.{Strict, Every, Suits};
-ghost use Rattle.nk_store.specs.Held.{IsId, node_of, look, top, Grows, HasLeaves, AreParts, IsNodeOf, IsStill, IsReduced, AreTidy, Agree, IsCanonical, IsOver, HasFields};
+ghost use Rattle.nk_store.specs.Held.{IsId, node_of, look, top, Grows, HasLeaves, AreParts, IsNodeOf, IsStill, IsReduced, AreTidy, Agree, IsCanonical, IsOver, HasFields, recalled};
+ghost use Rattle.nk_store.specs.declared.operation.Key.{Key};
+ghost use Rattle.nk_store.specs.Keys.{key_eq, key_of};
+ghost use Rattle.nk_store.specs.KeptAnswers.{keeping};
 
+use crate::answers::Answers;
 use crate::identity_hasher::IdentityHasher;
 use crate::node::{Id, Node, Out};
+use crate::operation::Operation;
 use crate::parts::{in_whole, part_child};
 use indexmap::IndexSet;
 use nk_field::{Fid, Fields, List, PLACES, Packet};
@@ -13,13 +19,15 @@ use std::alloc::{AllocError, Global};
 use std::hash::BuildHasherDefault;
 use std::marker::Model;
 
-/// The nodes, each once, in the order in which they were made, and what is kept of the fields.
+/// The nodes, each once, in the order in which they were made, what is kept of the fields, and the answers of operations
+/// that are kept, whatever they are.
 #[derive(Drop)]
 pub(crate) struct NodeTable {
     nodes: IndexSet<Node, BuildHasherDefault<IdentityHasher>>,
     maxes: [u64; 18],
     width: usize,
     tag: Option<Fid>,
+    answers: Answers,
 }
 
 impl Model for NodeTable {
@@ -29,9 +37,9 @@ impl Model for NodeTable {
 
     ghost Value = { Held };
 
-    ghost view = { λ s. record { nodes = reverse s.nodes.keys; maxes = s.maxes; width = s.width; tag = s.tag } };
+    ghost view = { λ s. record { nodes = reverse s.nodes.keys; maxes = s.maxes; width = s.width; tag = s.tag; kept = s.answers } };
 
-    ghost invariant = { λ s. HasFields (record { nodes = reverse s.nodes.keys; maxes = s.maxes; width = s.width; tag = s.tag })
+    ghost invariant = { λ s. HasFields (record { nodes = reverse s.nodes.keys; maxes = s.maxes; width = s.width; tag = s.tag; kept = s.answers })
         × Sound s.maxes (reverse s.nodes.keys) };
 }
 
@@ -42,6 +50,7 @@ impl NodeTable {
         ensures nodes { IfOk result (λ st. st.nodes ≡ []) }
         ensures over { IfOk result (λ st. IsOver fields.now st) }
         ensures fields { IfOk result HasFields }
+        ensures kept { IfOk result (λ st. st.kept ≡ []) }
     {
         let _few = fields.declared();
         Ok(NodeTable {
@@ -49,6 +58,7 @@ impl NodeTable {
             maxes: maxima(fields),
             width: fields.len(),
             tag: fields.tag(),
+            answers: Answers::new(alloc),
         })
     }
 
@@ -144,6 +154,7 @@ impl NodeTable {
         requires sorted { Strict outs }
         requires suits { Every (Suits self.old.maxes) outs }
         ensures grows { Grows self.old self.new }
+        ensures kept { self.new.kept ≡ self.old.kept }
         ensures ok { IfOk result (λ d. HasLeaves self.new d (λ pk. outs)) }
         ensures later { IfOk result (λ d. top self.new d ≡ 18) }
     {
@@ -161,6 +172,7 @@ impl NodeTable {
     pub(crate) fn case(&mut self, field: Fid, parts: List<(u64, Id)>) -> Result<Id, AllocError>
         requires { AreParts self.old field parts }
         ensures grows { Grows self.old self.new }
+        ensures kept { self.new.kept ≡ self.old.kept }
         ensures ok { IfOk result (λ d. HasLeaves self.new d
             (λ pk. look self.old (child_at 0 parts (slice_index pk field)) pk)) }
         ensures later { IfOk result (λ d. field ≤ top self.new d) }
@@ -172,6 +184,7 @@ impl NodeTable {
     fn choice(&mut self, field: Fid, parts: List<(u64, Id)>) -> Result<Id, AllocError>
         requires { AreParts self.old field parts }
         ensures grows { Grows self.old self.new }
+        ensures kept { self.new.kept ≡ self.old.kept }
         ensures ok { IfOk result (λ d. HasLeaves self.new d
             (λ pk. look self.old (child_at 0 parts (slice_index pk field)) pk)) }
         ensures later { IfOk result (λ d. field ≤ top self.new d) }
@@ -192,10 +205,35 @@ impl NodeTable {
         self.nodes.len()
     }
 
+    /// The answer that is kept of an operation on two diagrams.
+    #[tactic(auto, unfolding(crate::specs::Held::recalled))]
+    pub(crate) fn recall(&self, operation: Operation, a: Id, b: Id) -> Option<Id>
+        ensures { result ≡ recalled self.now operation a b }
+    {
+        self.answers.recall(operation, a, b)
+    }
+
+    /// Keeps one answer more; where memory runs out, all stays as it was.
+    pub(crate) fn keep(
+        &mut self,
+        operation: Operation,
+        a: Id,
+        b: Id,
+        d: Id,
+    ) -> Result<(), AllocError>
+        ensures ok { OnOk result (self.new ≡ keeping self.old operation a b d) }
+        ensures found { OnOk result ((q : Key) → lookup (key_eq q) self.new.kept
+            ≡ cond (key_eq (key_of operation a b) q) (Some d) (lookup (key_eq q) self.old.kept)) }
+        ensures err { OnErr result (self.new ≡ self.old) }
+    {
+        self.answers.keep(operation, a, b, d)
+    }
+
     /// The number of this node, which is made where it isn't there.
     fn place(&mut self, node: Node) -> Result<Id, AllocError>
         requires { Fits self.old.maxes self.old.nodes node }
         ensures grows { Grows self.old self.new }
+        ensures kept { self.new.kept ≡ self.old.kept }
         ensures ok { IfOk result (λ d. IsId self.new d × (node_of self.new d ≡ node)) }
     {
         let (place, _) = self.nodes.insert_full(node)?;

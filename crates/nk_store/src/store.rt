@@ -1,13 +1,14 @@
 //! The store.
-ghost use Rattle.std.specs.Prelude.{◌≡◌, ℕ, ◌≤◌, [], ◌∷◌, length, true, slice_index, IfOk, IfSome, List as Items};
+ghost use Rattle.std.specs.Prelude.{◌≡◌, ℕ, ◌≤◌, [], ◌∷◌, length, true, slice_index, Some, IfOk, IfSome, OnOk, OnErr, List as Items};
 ghost use Rattle.nk_store.specs.declared.node.Out.{Out};
 ghost use Rattle.nk_store.specs.Nodes.{child_at, is_empty_leaf, Sound};
 ghost use Rattle.std.specs.declared.cmp.Ordering.TheVariants.{Less};
 ghost use Rattle.nk_store.specs.Leaves.{out_cmp, Strict, Every, Suits, AreOrdered};
-ghost use Rattle.nk_store.specs.Held.{IsId, node_of, look, top, Grows, HasLeaves, AreParts, IsNodeOf, IsStill, IsReduced, AreTidy, Agree, IsCanonical, IsOver, HasFields};
-ghost use Rattle.nk_store.specs.KeptAnswers.{IsAnswer, passing};
+ghost use Rattle.nk_store.specs.Held.{IsId, node_of, look, top, Grows, HasLeaves, AreParts, IsNodeOf, IsStill, IsReduced, AreTidy, Agree, IsCanonical, IsOver, HasFields, recalled};
+ghost use Rattle.nk_store.specs.Keys.{key_of};
+ghost use Rattle.nk_store.specs.KeptAnswers.{IsAnswer, keeping, passing};
+ghost use Rattle.nk_store.specs.declared.operation.Operation.{Operation};
 
-use crate::answers::Answers;
 use crate::node::{Id, Node, Out};
 use crate::node_table::NodeTable;
 use crate::operation::Operation;
@@ -17,11 +18,10 @@ use std::cmp::Ordering;
 use std::marker::Model;
 
 /// Diagrams that share their nodes. Two diagrams are equal exactly where their numbers are. The store also keeps answers
-/// of operations and the two leaves that are asked for most, which its contract value doesn't show.
+/// of operations, which its contract value shows, and the two leaves that are asked for most, which it doesn't show.
 #[derive(Drop)]
 pub struct Store {
     table: NodeTable,
-    answers: Answers,
     empty: Option<Id>,
     identity: Option<Id>,
 }
@@ -35,7 +35,7 @@ impl Model for Store {
 
     ghost view = { λ s. s.table };
 
-    ghost invariant = { λ s. AreAnswers s.table s.answers × IsKeptLeaf s.table [] s.empty × IsKeptLeaf s.table (passing ∷ []) s.identity };
+    ghost invariant = { λ s. AreAnswers s.table s.table.kept × IsKeptLeaf s.table [] s.empty × IsKeptLeaf s.table (passing ∷ []) s.identity };
 }
 
 impl Store {
@@ -45,10 +45,10 @@ impl Store {
         ensures nodes { IfOk result (λ st. st.nodes ≡ []) }
         ensures over { IfOk result (λ st. IsOver fields.now st) }
         ensures fields { IfOk result HasFields }
+        ensures kept { IfOk result (λ st. st.kept ≡ []) }
     {
         Ok(Store {
             table: NodeTable::new(alloc, fields)?,
-            answers: Answers::new(alloc),
             empty: None,
             identity: None,
         })
@@ -86,6 +86,7 @@ impl Store {
         ensures still { (d : ℕ) → IsId self.now d → IsStill self.now d }
         ensures reduced { (d : ℕ) → IsId self.now d → IsReduced self.now d }
         ensures tidy { AreTidy self.now }
+        ensures answers { (operation : Operation) (a b d : ℕ) → recalled self.now operation a b ≡ Some d → IsAnswer self.now operation a b d }
     {
         self.table.laws();
     }
@@ -134,6 +135,7 @@ impl Store {
     pub fn leaf(&mut self, outs: List<Out>) -> Result<Id, AllocError>
         requires { Every (Suits self.old.maxes) outs }
         ensures grows { Grows self.old self.new }
+        ensures kept { self.new.kept ≡ self.old.kept }
         ensures ok { IfOk result (λ d. (r : Items Out) × AreOrdered outs r × HasLeaves self.new d (λ pk. r)) }
         ensures later { IfOk result (λ d. top self.new d ≡ 18) }
     {
@@ -145,6 +147,7 @@ impl Store {
         requires sorted { Strict outs }
         requires suits { Every (Suits self.old.maxes) outs }
         ensures grows { Grows self.old self.new }
+        ensures kept { self.new.kept ≡ self.old.kept }
         ensures ok { IfOk result (λ d. HasLeaves self.new d (λ pk. outs)) }
         ensures later { IfOk result (λ d. top self.new d ≡ 18) }
     {
@@ -154,6 +157,7 @@ impl Store {
     /// The leaf with no out: it drops every packet. The only error is that memory ran out.
     pub fn empty(&mut self) -> Result<Id, AllocError>
         ensures grows { Grows self.old self.new }
+        ensures kept { self.new.kept ≡ self.old.kept }
         ensures ok { IfOk result (λ d. HasLeaves self.new d (λ pk. [])) }
         ensures later { IfOk result (λ d. top self.new d ≡ 18) }
     {
@@ -168,6 +172,7 @@ impl Store {
     /// The leaf that passes each packet as it is, to target 0. The only error is that memory ran out.
     pub fn identity(&mut self) -> Result<Id, AllocError>
         ensures grows { Grows self.old self.new }
+        ensures kept { self.new.kept ≡ self.old.kept }
         ensures ok { IfOk result (λ d. HasLeaves self.new d (λ pk. passing ∷ [])) }
         ensures later { IfOk result (λ d. top self.new d ≡ 18) }
     {
@@ -196,6 +201,7 @@ impl Store {
     pub fn case(&mut self, field: Fid, parts: List<(u64, Id)>) -> Result<Id, AllocError>
         requires { AreParts self.old field parts }
         ensures grows { Grows self.old self.new }
+        ensures kept { self.new.kept ≡ self.old.kept }
         ensures ok { IfOk result (λ d. HasLeaves self.new d
             (λ pk. look self.old (child_at 0 parts (slice_index pk field)) pk)) }
         ensures later { IfOk result (λ d. field ≤ top self.new d) }
@@ -210,19 +216,28 @@ impl Store {
         self.table.len()
     }
 
-    /// The answer of an operation on two diagrams, where it was kept. An operation on one diagram has it twice.
+    /// The answer of an operation on two diagrams: None exactly where none is kept under that operation and those
+    /// diagrams. An operation on one diagram has it twice.
     pub fn recall(&self, operation: Operation, a: Id, b: Id) -> Option<Id>
-        ensures { IfSome result (λ d. IsAnswer self.now operation a b d) }
+        ensures is { result ≡ recalled self.now operation a b }
+        ensures answer { IfSome result (λ d. IsAnswer self.now operation a b d) }
     {
-        self.answers.recall(operation, a, b)
+        self.table.recall(operation, a, b)
     }
 
-    /// Keeps the answer of an operation on two diagrams. The diagrams stay as they are, also where memory runs out.
+    /// Keeps the answer of an operation on two diagrams: the kept answers are then the old ones and that one. The
+    /// diagrams stay as they are; where memory runs out, the kept answers do too.
     pub fn keep(&mut self, operation: Operation, a: Id, b: Id, d: Id) -> Result<(), AllocError>
         requires { IsAnswer self.old operation a b d }
-        ensures { self.new ≡ self.old }
+        ensures ok { OnOk result (self.new ≡ keeping self.old operation a b d) }
+        ensures kept { OnOk result (recalled self.new operation a b ≡ Some d) }
+        ensures others { OnOk result ((o : Operation) (x y : ℕ) → (key_of o x y ≡ key_of operation a b → ⊥) → recalled self.new o x y ≡ recalled self.old o x y) }
+        ensures nodes { self.new.nodes ≡ self.old.nodes }
+        ensures grows { Grows self.old self.new }
+        ensures err { OnErr result (self.new ≡ self.old) }
     {
-        self.answers.keep(operation, a, b, d)
+        self.table.laws();
+        self.table.keep(operation, a, b, d)
     }
 }
 

@@ -10,10 +10,10 @@ use Rattle.nk_algebra.proofs.Splits.{kept_leaf, kept_push, kept_all, kept_made, 
 use Rattle.nk_algebra.proofs.apart.+apart.Goals as goal
 
 pub seq_apart-returns-clause-ok : goal.seq_apart-returns-clause-ok
-seq_apart-returns-clause-ok t c = IfOk-weaker c.union.result _ _
-    (λ d h. apart_made c.args.st.now c.keeping.new.st c.seq_kept.new.st c.seq_moved.new.st c.union.new.st c.args.f c.args.a c.args.b c.in_ok-kept.kept c.in_ok-right.right c.in_ok-left.left d
+seq_apart-returns-clause-ok t c = IfOk-weaker c.union_later.result _ _
+    (λ d h. apart_made c.args.st.now c.keeping.new.st c.seq_kept.new.st c.seq_moved.new.st c.union_later.new.st c.args.f c.args.a c.args.b c.in_ok-kept.kept c.in_ok-right.right c.in_ok-left.left d
     c.requires.left c.requires.right c.keeping.ensures.grows c.seq_kept.ensures.grows c.seq_moved.ensures.grows
-    c.in_ok-kept.ensures.ok c.in_ok-right.ensures.ok c.in_ok-left.ensures.ok h) c.union.ensures.ok
+    c.in_ok-kept.ensures.ok c.in_ok-right.ensures.ok c.in_ok-left.ensures.ok h) c.union_later.ensures.ok
 
 pub seq_kept-returns-clause-ok : goal.seq_kept-returns-clause-ok
 seq_kept-returns-clause-ok t c = IfOk-weaker c.choose.result _ _

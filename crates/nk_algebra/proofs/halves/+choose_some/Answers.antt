@@ -15,5 +15,5 @@ returns-clause-ok t c =
     let middle = c.args.from + (c.args.to - c.args.from) / 2 in
     let low : c.args.from ≤ middle = omega arith in
     let high : middle ≤ c.args.to = omega (arith, c.requires.some) in
-    IfOk-weaker c.union.result _ _ (λ r u. chosen_halves c.args.st.now c.choose_some.new.st c.choose_some-2.new.st c.union.new.st c.args.f c.args.parts.now c.args.from middle c.args.to c.in_ok-left.left c.in_ok-right.right r
-    c.requires.choices low high c.choose_some.ensures.grows c.choose_some-2.ensures.grows c.in_ok-left.ensures.ok c.in_ok-right.ensures.ok u) c.union.ensures.ok
+    IfOk-weaker c.union_later.result _ _ (λ r u. chosen_halves c.args.st.now c.choose_some.new.st c.choose_some-2.new.st c.union_later.new.st c.args.f c.args.parts.now c.args.from middle c.args.to c.in_ok-left.left c.in_ok-right.right r
+    c.requires.choices low high c.choose_some.ensures.grows c.choose_some-2.ensures.grows c.in_ok-left.ensures.ok c.in_ok-right.ensures.ok u) c.union_later.ensures.ok

@@ -5,13 +5,16 @@ use Rattle.nk_algebra.proofs.Merges.{pair_at}
 use Rattle.nk_algebra.proofs.pairs.+merge.Given as goal
 
 abbrev pub decreases-merge : goal.decreases-merge
-decreases-merge g l = 3 * (l.a + l.b) + 2
+decreases-merge g l = 4 * (l.a + l.b) + 3
+
+abbrev pub decreases-merge_anew : goal.decreases-merge_anew
+decreases-merge_anew g l = 4 * (l.a + l.b) + 2
 
 abbrev pub decreases-merge_case : goal.decreases-merge_case
-decreases-merge_case g l = 3 * (l.a + l.b) + 1
+decreases-merge_case g l = 4 * (l.a + l.b) + 1
 
 abbrev pub decreases-merge_parts : goal.decreases-merge_parts
-decreases-merge_parts g l = 3 * (l.a + l.b)
+decreases-merge_parts g l = 4 * (l.a + l.b)
 
 abbrev pub invariant-merge_parts-loop-parts : goal.invariant-merge_parts-loop-parts
 invariant-merge_parts-loop-parts g l = record {

@@ -5,13 +5,16 @@ use Rattle.nk_algebra.proofs.Chosen.{Serving, value_leaf}
 use Rattle.nk_algebra.proofs.seqs.+seq.Given as goal
 
 abbrev pub decreases-sequence : goal.decreases-sequence
-decreases-sequence l = 3 * l.a + 2
+decreases-sequence l = 4 * l.a + 3
+
+abbrev pub decreases-sequence_anew : goal.decreases-sequence_anew
+decreases-sequence_anew l = 4 * l.a + 2
 
 abbrev pub decreases-seq_case : goal.decreases-seq_case
-decreases-seq_case l = 3 * l.a + 1
+decreases-seq_case l = 4 * l.a + 1
 
 abbrev pub decreases-seq_parts : goal.decreases-seq_parts
-decreases-seq_parts l = 3 * l.a
+decreases-seq_parts l = 4 * l.a
 
 abbrev pub invariant-seq_parts-loop-parts : goal.invariant-seq_parts-loop-parts
 invariant-seq_parts-loop-parts l = record {

@@ -15,6 +15,6 @@ returns-clause-ok t c =
     let low : c.args.from ≤ middle = omega arith in
     let high : middle ≤ c.args.to = omega (arith, c.requires.some) in
     let made = out_made (outs_of c.args.st.now c.args.a) (look c.args.st.now c.args.b) in
-    IfOk-weaker c.union.result _ _ (λ r u. halves_made made c.seq_some.new.st c.seq_some-2.new.st c.union.new.st c.args.from middle c.args.to c.in_ok-left.left c.in_ok-right.right r
+    IfOk-weaker c.union_later.result _ _ (λ r u. halves_made made c.seq_some.new.st c.seq_some-2.new.st c.union_later.new.st c.args.from middle c.args.to c.in_ok-left.left c.in_ok-right.right r
     (out_strict (outs_of c.args.st.now c.args.a) (look c.args.st.now c.args.b)) low high c.seq_some-2.ensures.grows c.in_ok-left.ensures.ok
-    (outs_made_grown c.args.st.now c.seq_some.new.st c.seq_some-2.new.st c.args.a c.args.b middle (c.args.to - middle) c.in_ok-right.right c.seq_some.ensures.grows c.requires.left c.requires.right c.in_ok-right.ensures.ok) u) c.union.ensures.ok
+    (outs_made_grown c.args.st.now c.seq_some.new.st c.seq_some-2.new.st c.args.a c.args.b middle (c.args.to - middle) c.in_ok-right.right c.seq_some.ensures.grows c.requires.left c.requires.right c.in_ok-right.ensures.ok) u) c.union_later.ensures.ok

@@ -24,3 +24,12 @@ returns-clause-ok c =
     c.in_ok-from.ensures.ok.id (λ pk r. ap has_out (c.in_ok-from.ensures.ok.leaf pk r.0))
     c.in_ok-goal.ensures.ids c.in_ok-goal.ensures.marked.count c.in_ok-goal.ensures.alone
     c.in_ok-lv.ensures.fits.ids c.in_ok-lv.ensures.labels c.in_ok-lv.ensures.same c.in_ok-lv.ensures.ok
+
+pub returns-in_err-s-clause-grows : goal.returns-in_err-s-clause-grows
+returns-in_err-s-clause-grows c = grows_on _ _ _ c.new.ensures.grows c.identity.ensures.grows
+
+pub returns-in_err-lv-clause-grows : goal.returns-in_err-lv-clause-grows
+returns-in_err-lv-clause-grows c = grows_on _ _ _ (grows_on _ _ _ c.new.ensures.grows c.identity.ensures.grows) c.levels.ensures.grows
+
+pub returns-clause-grows : goal.returns-clause-grows
+returns-clause-grows c = grows_on _ _ _ (grows_on _ _ _ c.new.ensures.grows c.identity.ensures.grows) c.levels.ensures.grows

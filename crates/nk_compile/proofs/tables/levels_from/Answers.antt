@@ -69,3 +69,9 @@ pub returns-then-broken-clause-grows : goal.returns-then-broken-clause-grows
 returns-then-broken-clause-grows c =
     grows_on _ _ _ c.off_edges.ensures.grows
     (grows_on _ _ _ c.starts.ensures.grows (grows_on _ _ _ c.wrong_ends.ensures.grows (grows_on _ _ _ c.levels.ensures.grows c.least_history.ensures.grows)))
+
+pub returns-in_err-found-clause-grows : goal.returns-in_err-found-clause-grows
+returns-in_err-found-clause-grows c =
+    grows_on _ _ _ c.off_edges.ensures.grows
+    (grows_on _ _ _ c.starts.ensures.grows
+    (grows_on _ _ _ c.wrong_ends.ensures.grows (grows_on _ _ _ c.levels.ensures.grows c.least_history.ensures.grows)))

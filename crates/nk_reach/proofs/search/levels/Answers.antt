@@ -135,3 +135,20 @@ loop-all-preserved g c =
       same = λ st set pk. c.in_ok-any_bad.ensures.same st set pk ∙ c.loop-all.invariant.same st set pk;
       going = (h + 1, subst (λ ls. Going c.args.st.now c.args.ss.now c.merge.new.st c.next_level.new.ss c.args.states.now c.args.s c.args.start bad c.merge.new.met.entries ls (h + 1)) (sym c.in_ok-push-2.ensures.ok) done);
     }
+
+pub returns-then-branch-clause-grows : goal.returns-then-branch-clause-grows
+returns-then-branch-clause-grows g c = grows_on _ _ _ c.loop-all.invariant.going.1.grows c.any_bad.ensures.grows
+
+pub returns-then-len-eq0-clause-grows : goal.returns-then-len-eq0-clause-grows
+returns-then-len-eq0-clause-grows g c =
+    grows_on _ _ _ (grows_on _ _ _ c.loop-all.invariant.going.1.grows c.any_bad.ensures.grows) c.next_level.ensures.grows
+
+pub returns-in_err-merge-clause-grows : goal.returns-in_err-merge-clause-grows
+returns-in_err-merge-clause-grows g c =
+    grows_on _ _ _ (grows_on _ _ _ (grows_on _ _ _ c.loop-all.invariant.going.1.grows c.any_bad.ensures.grows) c.next_level.ensures.grows)
+    c.merge.ensures.grows
+
+pub returns-in_err-push-2-clause-grows : goal.returns-in_err-push-2-clause-grows
+returns-in_err-push-2-clause-grows g c =
+    grows_on _ _ _ (grows_on _ _ _ (grows_on _ _ _ c.loop-all.invariant.going.1.grows c.any_bad.ensures.grows) c.next_level.ensures.grows)
+    c.merge.ensures.grows

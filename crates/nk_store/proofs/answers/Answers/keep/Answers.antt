@@ -1,7 +1,7 @@
 use Rattle.std.proofs.Common.{◌≡◌, ℕ, List, cond, Some, subst}
 use Rattle.std.specs.Map.{lookup}
 use Rattle.nk_store.specs.declared.operation.Key.{Key}
-use Rattle.nk_store.specs.KeptAnswers.{key_eq}
+use Rattle.nk_store.specs.Keys.{key_eq}
 use Rattle.nk_store.proofs.answers.Answers.keep.Goals as goal
 
 pub returns-clause-found : goal.returns-clause-found

@@ -5,12 +5,12 @@ use Rattle.nk_store.proofs.Stores.{IsSound, bare, kept_id, kept_node, node_means
 use Rattle.nk_store.proofs.node_table.NodeTable.view.Goals as goal
 
 pub index-requires : goal.index-requires
-index-requires c = omega (arith, c.place.ensures, kept_id c.args.self.now (bare c.self.inside.maxes c.self.inside.width c.self.inside.tag) c.self.inside.nodes.keys c.args.d c.self.view_is c.requires)
+index-requires c = omega (arith, c.place.ensures, kept_id c.args.self.now (bare c.self.inside.maxes c.self.inside.width c.self.inside.tag c.self.inside.answers) c.self.inside.nodes.keys c.args.d c.self.view_is c.requires)
 
 node_is : (c : goal.After-index) → c.index.result.now ≡ node_of c.args.self.now c.args.d
 node_is c =
     let at : slice_get c.self.inside.nodes.keys c.args.d ≡ Some c.index.result.now = ap (λ k. slice_get c.self.inside.nodes.keys k) (sym c.place.ensures) ∙ c.index.ensures in
-    kept_node c.args.self.now (bare c.self.inside.maxes c.self.inside.width c.self.inside.tag) c.self.inside.nodes.keys c.args.d c.index.result.now c.self.view_is c.requires (sym (get_or_from_slice_get c.self.inside.nodes.keys c.args.d c.index.result.now c.index.result.now at))
+    kept_node c.args.self.now (bare c.self.inside.maxes c.self.inside.width c.self.inside.tag c.self.inside.answers) c.self.inside.nodes.keys c.args.d c.index.result.now c.self.view_is c.requires (sym (get_or_from_slice_get c.self.inside.nodes.keys c.args.d c.index.result.now c.index.result.now at))
 
 pub returns-clause-node : goal.returns-clause-node
 returns-clause-node c = node_is c
