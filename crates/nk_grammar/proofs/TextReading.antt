@@ -14,8 +14,8 @@ use Rattle.nk_grammar.specs.Terminal.{terminal_of}
 use Rattle.nk_grammar.specs.File.{Declaration, IsWritten}
 use Rattle.nk_grammar.specs.FileMachine.{Returns, rest_of_file, ended_at, text_ended, file_of}
 use Rattle.nk_grammar.specs.FileReader.{declaration_done, phase_in}
-use Rattle.nk_grammar.specs.TextProgress.{TextProgress, Going, Stopped, rest_by, IsTextRead, HasStopped}
-use Rattle.nk_grammar.specs.TextReader.{GoesOn, TakesToken, progress_in}
+use Rattle.nk_grammar.specs.TextProgress.{TextProgress, Going, Stopped, rest_by, IsTextRead, IsTextStopped}
+use Rattle.nk_grammar.specs.TextReader.{TakesTextOn, TakesToken, progress_in}
 use Rattle.nk_grammar.proofs.Behind.{ended_behind, judged_behind, refused_behind}
 use Rattle.nk_grammar.proofs.Written.{written_of}
 
@@ -23,7 +23,7 @@ use Rattle.nk_grammar.proofs.Written.{written_of}
 
 -- a token is taken
 pub takes_on : (k j : KnownText) (t : Token) (o : Option Decl) (line : ℕ) → TakesToken k j t (Ok o)
-    → GoesOn (progress_in k line) t (progress_in j t.line) (declaration_done o)
+    → TakesTextOn (progress_in k line) t (progress_in j t.line) (declaration_done o)
 takes_on (known.Sound r) (known.Sound s) t o line h ds us =
     sym (ap (λ x. and_then x (λ x. rest_of_file us x t.line)) (judged_behind ds t.line (phase_in r) (phase_in s) (declaration_done o) (terminal_of t) h.0))
 takes_on (known.Sound r) (known.Stopped e) t o line h ds us = absurd h
@@ -31,7 +31,7 @@ takes_on (known.Stopped e) j t o line h ds us = ap (λ x. rest_by (progress_in x
 
 -- a token has a fault
 pub takes_fault : (k j : KnownText) (t : Token) (e : GrammarError) (line : ℕ) → (e ≡ error.NoMemory → ⊥) → TakesToken k j t (Err e)
-    → GoesOn (progress_in k line) t (Stopped e) []
+    → TakesTextOn (progress_in k line) t (Stopped e) []
 takes_fault (known.Sound r) (known.Sound s) t error.NoMemory line n h ds us = absurd (n refl)
 takes_fault (known.Sound r) (known.Sound s) t (error.Unexpected at) line n h ds us =
     sym (ap (λ x. and_then x (λ x. rest_of_file us x t.line)) (refused_behind ds t.line (phase_in r) (error.Unexpected at) (terminal_of t) h.0))
@@ -44,7 +44,7 @@ takes_fault (known.Stopped f) j t e line n h ds us = absurd (differ h.1)
     differ i = cc
 
 -- behind a fault nothing is taken
-pub takes_nothing : (k j : KnownText) (t : Token) (r : Result (Option Decl) GrammarError) (line at : ℕ) → HasStopped (progress_in k line)
+pub takes_nothing : (k j : KnownText) (t : Token) (r : Result (Option Decl) GrammarError) (line at : ℕ) → IsTextStopped (progress_in k line)
     → TakesToken k j t r → (r ≡ Ok None) × (progress_in j at ≡ progress_in k line)
 takes_nothing (known.Sound r) j t x line at i h = absurd (differ i)
   where
@@ -53,11 +53,23 @@ takes_nothing (known.Sound r) j t x line at i h = absurd (differ i)
 takes_nothing (known.Stopped e) j t r line at i h = (h.1, ap (λ x. progress_in x at) h.0)
 
 -- and there is no further one
-pub no_fault_behind : (k j : KnownText) (t : Token) (e : GrammarError) (line : ℕ) → HasStopped (progress_in k line) → TakesToken k j t (Err e) → ⊥
+pub no_fault_behind : (k j : KnownText) (t : Token) (e : GrammarError) (line : ℕ) → IsTextStopped (progress_in k line) → TakesToken k j t (Err e) → ⊥
 no_fault_behind k j t e line i h = differ (takes_nothing k j t (Err e) line line i h).0
   where
     differ : ◌≡◌ {A = Result (Option Decl) GrammarError} (Err e) (Ok None) → ⊥
     differ i = cc
+
+-- where a reader has stopped behind a token that it took, the token completed nothing
+pub stops_empty : (k j : KnownText) (t : Token) (o : Option Decl) (line : ℕ) → TakesToken k j t (Ok o) → IsTextStopped (progress_in j line) → o ≡ None
+stops_empty (known.Sound r) (known.Sound s) t o line h i = absurd (differ i)
+  where
+    differ : false ≡ true → ⊥
+    differ i = cc
+stops_empty (known.Sound r) (known.Stopped e) t o line h i = absurd h
+stops_empty (known.Stopped e) j t o line h i = same h.1
+  where
+    same : ◌≡◌ {A = Result (Option Decl) GrammarError} (Ok o) (Ok None) → o ≡ None
+    same e = cc
 
 -- without memory nothing changes
 pub takes_no_memory : (k j : KnownText) (t : Token) (line : ℕ) → TakesToken k j t (Err error.NoMemory) → progress_in j line ≡ progress_in k line
@@ -68,7 +80,7 @@ takes_no_memory (known.Stopped e) j t line h = ap (λ x. progress_in x line) h.0
 -- ---- the tokens so far
 
 -- a further token is read
-pub one_more_read : (ts : List Token) (ds es : List Declaration) (p q : TextProgress) (t : Token) → GoesOn p t q es → IsTextRead ts ds p
+pub one_more_read : (ts : List Token) (ds es : List Declaration) (p q : TextProgress) (t : Token) → TakesTextOn p t q es → IsTextRead ts ds p
     → IsTextRead (ts ++ t ∷ []) (ds ++ es) q
 one_more_read ts ds es p q t g h us = g ds us ∙ h (t ∷ us) ∙ ap file_of (sym (append_assoc ts (t ∷ []) us))
 

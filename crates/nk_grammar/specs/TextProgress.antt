@@ -18,14 +18,14 @@ rest_by (Going p line) ds ts = rest_of_file ts (reading p ds) line
 rest_by (Stopped e) ds ts = Err e
 
 -- of these tokens this is known, and they completed these declarations: whatever tokens come behind them, the declarations of the whole
--- text, or its first fault, are what is left to be read of it behind these
+-- text, or its first fault, are what is left to be read of it behind these; behind a fault nothing is said of these declarations
 abbrev pub IsTextRead : List Token → List Declaration → TextProgress → Type 0
 IsTextRead ts ds p = (us : List Token) → rest_by p ds us ≡ file_of (ts ++ us)
 
 -- there is a fault
-abbrev pub has_stopped : TextProgress → Bool
-has_stopped (Going p line) = false
-has_stopped (Stopped e) = true
+abbrev pub is_text_stopped : TextProgress → Bool
+is_text_stopped (Going p line) = false
+is_text_stopped (Stopped e) = true
 
-abbrev pub HasStopped : TextProgress → Type 0
-HasStopped p = has_stopped p ≡ true
+abbrev pub IsTextStopped : TextProgress → Type 0
+IsTextStopped p = is_text_stopped p ≡ true

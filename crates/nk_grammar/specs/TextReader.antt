@@ -26,5 +26,5 @@ TakesToken (known.Sound r) (known.Stopped e) t result = ⊥
 TakesToken (known.Stopped e) k t result = (k ≡ known.Stopped e) × (result ≡ Ok None)
 
 -- behind any declarations, the token leads from the one to the other, and completes these
-abbrev pub GoesOn : TextProgress → Token → TextProgress → List Declaration → Type 0
-GoesOn old t new es = (ds : List Declaration) (us : List Token) → rest_by new (ds ++ es) us ≡ rest_by old ds (t ∷ us)
+abbrev pub TakesTextOn : TextProgress → Token → TextProgress → List Declaration → Type 0
+TakesTextOn old t new es = (ds : List Declaration) (us : List Token) → rest_by new (ds ++ es) us ≡ rest_by old ds (t ∷ us)

@@ -5,8 +5,8 @@ ghost use Rattle.nk_lex.specs.Lex.{largest};
 ghost use Rattle.nk_grammar.specs.File.{Declaration, IsWritten, declaration_of};
 ghost use Rattle.nk_grammar.specs.FileMachine.{Returns, file_of};
 ghost use Rattle.nk_grammar.specs.FileReader.{declaration_done};
-ghost use Rattle.nk_grammar.specs.TextProgress.{HasStopped, IsTextRead, has_stopped, rest_by};
-ghost use Rattle.nk_grammar.specs.TextReader.{GoesOn, TakesToken, progress_in};
+ghost use Rattle.nk_grammar.specs.TextProgress.{IsTextStopped, IsTextRead, is_text_stopped, rest_by};
+ghost use Rattle.nk_grammar.specs.TextReader.{TakesTextOn, TakesToken, progress_in};
 
 use crate::decl::{Decl, File, GrammarError};
 use crate::text::Reader;
@@ -77,10 +77,11 @@ impl TextReader {
     }
 
     /// One more token, and what it completes.
-    #[tactic(auto, using(crate::proofs::TextReading::takes_on, crate::proofs::TextReading::takes_fault, crate::proofs::TextReading::takes_nothing, crate::proofs::TextReading::takes_no_memory, crate::proofs::TextReading::no_fault_behind))]
+    #[tactic(auto, using(crate::proofs::TextReading::takes_on, crate::proofs::TextReading::takes_fault, crate::proofs::TextReading::takes_nothing, crate::proofs::TextReading::takes_no_memory, crate::proofs::TextReading::no_fault_behind, crate::proofs::TextReading::stops_empty))]
     fn put(&mut self, alloc: Global, token: &Token) -> Result<Option<Decl>, AllocError>
-        ensures taken { IfOk result (λ o. GoesOn self.old token.now self.new (declaration_done o)) }
-        ensures stopped { HasStopped self.old → (result ≡ Ok None) × (self.new ≡ self.old) }
+        ensures taken { IfOk result (λ o. TakesTextOn self.old token.now self.new (declaration_done o)) }
+        ensures fault { IfOk result (λ o. IsTextStopped self.new → o ≡ None) }
+        ensures stopped { IsTextStopped self.old → (result ≡ Ok None) × (self.new ≡ self.old) }
         ensures err { OnErr result (self.new ≡ self.old) }
     {
         match self.known.take(alloc, token) {
@@ -109,7 +110,8 @@ impl TextReader {
     pub fn take(&mut self, alloc: Global, token: &Token) -> Result<Option<Decl>, AllocError>
         ensures tokens { (ts : List Token) (ds : List Declaration) → IsTextRead ts ds self.old
             → IfOk result (λ o. IsTextRead (ts ++ token.now ∷ []) (ds ++ declaration_done o) self.new) }
-        ensures stopped { HasStopped self.old → (result ≡ Ok None) × (self.new ≡ self.old) }
+        ensures fault { IfOk result (λ o. IsTextStopped self.new → o ≡ None) }
+        ensures stopped { IsTextStopped self.old → (result ≡ Ok None) × (self.new ≡ self.old) }
         ensures err { OnErr result (self.new ≡ self.old) }
     {
         self.put(alloc, token)

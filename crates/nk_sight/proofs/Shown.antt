@@ -7,7 +7,7 @@ use Rattle.nk_policy.specs.Leaves.{has_leaf, some_has_leaf, is_on_field, is_dup,
 use Rattle.nk_names.specs.Accepted.{is_link_outside}
 use Rattle.nk_sight.specs.declared.sight.Sight.TheVariants.{TagUsed, LooseDup, SwitchSet, NoSuchLink}
 use Rattle.nk_sight.specs.Seen.{seen_of}
-use Rattle.nk_sight.specs.Sought.{is_shown}
+use Rattle.nk_sight.specs.Sought.{shows_something}
 
 -- of two tests neither passes
 neither : (a b : Bool) → (a || b) ≡ false → (a ≡ false) × (b ≡ false)
@@ -35,7 +35,7 @@ mutual
       ap (λ b. b || some_has_leaf g ps) (none_narrower f g n p both.0) ∙ none_of_narrower f g n ps both.1
 
 -- each of what is told is shown
-field_shown : (tag : ℕ) (links : List Link) (q : Policy) → is_shown tag links q ≡ false → is_on_field tag q ≡ false
+field_shown : (tag : ℕ) (links : List Link) (q : Policy) → shows_something tag links q ≡ false → is_on_field tag q ≡ false
 field_shown tag links (test f n) h = h
 field_shown tag links (range f lo hi) h = h
 field_shown tag links (assign f n) h = (neither (f == 0) (tag == f) h).1
@@ -46,7 +46,7 @@ field_shown tag links (star_of p) h = refl
 field_shown tag links (dup l) h = refl
 field_shown tag links (link a m b n l) h = refl
 
-dup_shown : (tag : ℕ) (links : List Link) (q : Policy) → is_shown tag links q ≡ false → is_dup q ≡ false
+dup_shown : (tag : ℕ) (links : List Link) (q : Policy) → shows_something tag links q ≡ false → is_dup q ≡ false
 dup_shown tag links (test f n) h = refl
 dup_shown tag links (range f lo hi) h = refl
 dup_shown tag links (assign f n) h = refl
@@ -57,7 +57,7 @@ dup_shown tag links (star_of p) h = refl
 dup_shown tag links (dup l) h = h
 dup_shown tag links (link a m b n l) h = refl
 
-switch_shown : (tag : ℕ) (links : List Link) (q : Policy) → is_shown tag links q ≡ false → is_switch_assignment q ≡ false
+switch_shown : (tag : ℕ) (links : List Link) (q : Policy) → shows_something tag links q ≡ false → is_switch_assignment q ≡ false
 switch_shown tag links (test f n) h = refl
 switch_shown tag links (range f lo hi) h = refl
 switch_shown tag links (assign f n) h = (neither (f == 0) (tag == f) h).0
@@ -68,7 +68,7 @@ switch_shown tag links (star_of p) h = refl
 switch_shown tag links (dup l) h = refl
 switch_shown tag links (link a m b n l) h = refl
 
-link_shown : (tag : ℕ) (links : List Link) (q : Policy) → is_shown tag links q ≡ false → is_link_outside links q ≡ false
+link_shown : (tag : ℕ) (links : List Link) (q : Policy) → shows_something tag links q ≡ false → is_link_outside links q ≡ false
 link_shown tag links (test f n) h = refl
 link_shown tag links (range f lo hi) h = refl
 link_shown tag links (assign f n) h = refl
@@ -80,15 +80,15 @@ link_shown tag links (dup l) h = refl
 link_shown tag links (link a m b n l) h = h
 
 -- so nothing is seen
-pub nothing_shown : (tag : ℕ) (links : List Link) (p : Policy) → has_leaf (is_shown tag links) p ≡ false → seen_of tag links p ≡ None
+pub nothing_shown : (tag : ℕ) (links : List Link) (p : Policy) → has_leaf (shows_something tag links) p ≡ false → seen_of tag links p ≡ None
 nothing_shown tag links p h =
     ap (λ b. if b then Some TagUsed else if has_leaf is_dup p then Some LooseDup
     else if has_leaf is_switch_assignment p then Some SwitchSet else if has_leaf (is_link_outside links) p then Some NoSuchLink else None)
-    (none_narrower (is_shown tag links) (is_on_field tag) (field_shown tag links) p h)
+    (none_narrower (shows_something tag links) (is_on_field tag) (field_shown tag links) p h)
     ∙ ap (λ b. if b then Some LooseDup
     else if has_leaf is_switch_assignment p then Some SwitchSet else if has_leaf (is_link_outside links) p then Some NoSuchLink else None)
-    (none_narrower (is_shown tag links) is_dup (dup_shown tag links) p h)
+    (none_narrower (shows_something tag links) is_dup (dup_shown tag links) p h)
     ∙ ap (λ b. if b then Some SwitchSet else if has_leaf (is_link_outside links) p then Some NoSuchLink else None)
-    (none_narrower (is_shown tag links) is_switch_assignment (switch_shown tag links) p h)
+    (none_narrower (shows_something tag links) is_switch_assignment (switch_shown tag links) p h)
     ∙ ap (λ b. if b then Some NoSuchLink else None)
-    (none_narrower (is_shown tag links) (is_link_outside links) (link_shown tag links) p h)
+    (none_narrower (shows_something tag links) (is_link_outside links) (link_shown tag links) p h)

@@ -9,17 +9,17 @@ use Rattle.nk_sight.specs.declared.sought.Sought.TheVariants.{OnField, LooseDup,
 
 -- a leaf that shows something: it uses the tag, it is a dup or an assignment of the switch outside of a link literal, or a literal that
 -- is none of the links
-abbrev pub is_shown : (tag : ℕ) → List Link → Policy → Bool
-is_shown tag links (test f n) = tag == f
-is_shown tag links (range f lo hi) = tag == f
-is_shown tag links (assign f n) = (f == 0) || (tag == f)
-is_shown tag links (dup l) = true
-is_shown tag links (link a m b n l) = is_link_outside links (link a m b n l)
-is_shown tag links p = false
+abbrev pub shows_something : (tag : ℕ) → List Link → Policy → Bool
+shows_something tag links (test f n) = tag == f
+shows_something tag links (range f lo hi) = tag == f
+shows_something tag links (assign f n) = (f == 0) || (tag == f)
+shows_something tag links (dup l) = true
+shows_something tag links (link a m b n l) = is_link_outside links (link a m b n l)
+shows_something tag links p = false
 
 abbrev pub test_for : Sought → List Link → Policy → Bool
 test_for (OnField f) links = is_on_field f
 test_for LooseDup links = is_dup
 test_for SwitchAssignment links = is_switch_assignment
 test_for LinkOutside links = is_link_outside links
-test_for (AnyOf f) links = is_shown f links
+test_for (AnyOf f) links = shows_something f links
