@@ -1,5 +1,5 @@
 //! The program of a text, or the text's first fault.
-ghost use Rattle.std.specs.Prelude.{◌≡◌, ◌++◌, ◌≤◌, All, IfOk, List};
+ghost use Rattle.std.specs.Prelude.{◌++◌, ◌≤◌, All, IfOk, List};
 ghost use Rattle.nk_lex.specs.declared.token.Token.{Token};
 ghost use Rattle.nk_lex.specs.Lex.{largest};
 ghost use Rattle.nk_grammar.specs.File.{Declaration, IsWritten};

@@ -1,5 +1,5 @@
 //! The program of a text whose tokens are taken one by one.
-ghost use Rattle.std.specs.Prelude.{◌≡◌, ◌++◌, ◌∷◌, [], List, IfOk, OnOk};
+ghost use Rattle.std.specs.Prelude.{◌++◌, ◌∷◌, [], List, IfOk, OnOk};
 ghost use Rattle.nk_lex.specs.declared.token.Token.{Token};
 ghost use Rattle.nk_grammar.specs.File.{Declaration};
 ghost use Rattle.nk_grammar.specs.FileReader.{declaration_done};

@@ -1,5 +1,5 @@
 //! Targets, and assignments.
-ghost use Rattle.std.specs.Prelude.{◌≡◌, ℕ, ◌<◌, ◌≤◌, [], ◌∷◌, map, IfOk, slice_index};
+ghost use Rattle.std.specs.Prelude.{◌≡◌, ◌<◌, ◌≤◌, [], ◌∷◌, map, IfOk, slice_index};
 ghost use Rattle.nk_store.specs.Held.{IsId, look, top, Grows, HasLeaves};
 ghost use Rattle.nk_algebra.specs.Leaves.{out_to, aimed};
 ghost use Rattle.nk_algebra.specs.Predicates.{Ends};

@@ -1,5 +1,5 @@
 //! Operations leaf by leaf.
-ghost use Rattle.std.specs.Prelude.{◌≡◌, ℕ, ◌≤◌, min, [], ◌++◌, Some, IfOk, IfSome, OnOk, drop, length};
+ghost use Rattle.std.specs.Prelude.{◌≡◌, ◌≤◌, min, ◌++◌, Some, IfOk, IfSome, OnOk, drop, length};
 ghost use Rattle.nk_store.specs.Held.{IsId, look, top, recalled, Grows, HasLeaves};
 ghost use Rattle.nk_store.specs.KeptAnswers.{GivesKept};
 ghost use Rattle.nk_store.specs.declared.operation.Operation.TheVariants as operations;

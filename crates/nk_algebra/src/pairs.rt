@@ -1,5 +1,5 @@
 //! Two diagrams put together leaf by leaf.
-ghost use Rattle.std.specs.Prelude.{◌≡◌, ℕ, ◌≤◌, min, IfOk, IfSome, MatchOption, List as Items, slice_index};
+ghost use Rattle.std.specs.Prelude.{◌≡◌, ℕ, ◌≤◌, min, IfOk, IfSome, MatchOption, List as Items};
 ghost use Rattle.nk_store.specs.declared.node.Out.{Out};
 ghost use Rattle.nk_store.specs.Nodes.{child_at};
 ghost use Rattle.nk_store.specs.Leaves.{Strict, Every, Suits};

@@ -1,5 +1,5 @@
 //! One diagram, then another one.
-ghost use Rattle.std.specs.Prelude.{◌≡◌, ℕ, ◌≤◌, ◌<◌, List as Items, [], ◌∷◌, ◌++◌, Some, IfOk, OnOk, MatchOption, ◌-◌, min, cond, ltb, map, slice_index, slice_index_or, drop, length};
+ghost use Rattle.std.specs.Prelude.{◌≡◌, ℕ, ◌≤◌, ◌<◌, List as Items, Some, IfOk, ◌-◌, map, slice_index_or, length};
 ghost use Rattle.nk_field.specs.Act.{applied};
 ghost use Rattle.nk_store.specs.Leaves.{IsActFrom};
 ghost use Rattle.nk_store.specs.Nodes.{child_at};

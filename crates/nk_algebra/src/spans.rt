@@ -1,6 +1,6 @@
 //! Diagrams that test an interval of one field.
-ghost use Rattle.std.specs.Prelude.{◌≡◌, ℕ, ◌<◌, ◌≤◌, [], ◌∷◌, cond, eqb, min, IfOk, slice_index};
-ghost use Rattle.nk_store.specs.Held.{IsId, IsChild, look, top, Grows, HasLeaves};
+ghost use Rattle.std.specs.Prelude.{◌≡◌, ◌<◌, ◌≤◌, [], ◌∷◌, cond, eqb, min, IfOk, slice_index};
+ghost use Rattle.nk_store.specs.Held.{IsChild, look, top, Grows, HasLeaves};
 ghost use Rattle.nk_algebra.specs.Spans.{spanned, span_list};
 ghost use Rattle.nk_algebra.specs.Seqs.{no_out, in_span};
 ghost use Rattle.nk_algebra.specs.Predicates.{IsPredicate};

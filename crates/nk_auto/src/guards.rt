@@ -1,5 +1,5 @@
 //! Predicates side by side in a sequence, as one guard before what the sequence does behind them.
-ghost use Rattle.std.specs.Prelude.{◌≡◌, ℕ, true, IfOk, IfSome};
+ghost use Rattle.std.specs.Prelude.{ℕ, IfOk, IfSome};
 ghost use Rattle.nk_policy.specs.Policy.{Policy, Policies, seq_of, part};
 ghost use Rattle.nk_policy.specs.Tree.{tree_of};
 ghost use Rattle.nk_store.specs.Held.{IsId, Grows};

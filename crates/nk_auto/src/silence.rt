@@ -1,5 +1,5 @@
 //! What a policy does without a record.
-ghost use Rattle.std.specs.Prelude.{◌≡◌, ℕ, ◌∷◌, [], true, IfOk};
+ghost use Rattle.std.specs.Prelude.{◌≡◌, ℕ, true, IfOk};
 ghost use Rattle.nk_policy.specs.Policy.{test, range, assign, sum_of, seq_of, not_of, star_of, dup, link, is_predicate};
 ghost use Rattle.nk_policy.specs.Tree.{tree_of, trees_of};
 ghost use Rattle.nk_store.specs.Held.{IsId, look, Grows, HasLeaves};

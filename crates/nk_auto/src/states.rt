@@ -1,5 +1,5 @@
 //! The automaton of a policy.
-ghost use Rattle.std.specs.Prelude.{◌≡◌, ℕ, ◌+◌, ◌≤◌, ◌^◌, IfOk, length};
+ghost use Rattle.std.specs.Prelude.{◌≡◌, ◌+◌, ◌≤◌, ◌^◌, IfOk, length};
 ghost use Rattle.nk_policy.specs.Policy.{marked_from, dups_of};
 ghost use Rattle.nk_policy.specs.Tree.{tree_of};
 ghost use Rattle.nk_store.specs.Held.{Grows};

@@ -1,5 +1,5 @@
 //! A sum of tests and ranges of one field, as one node.
-ghost use Rattle.std.specs.Prelude.{◌≡◌, ◌<◌, ◌≤◌, ◌++◌, [], ◌∷◌, min, slice_index, IfOk, IfSome, OnOk};
+ghost use Rattle.std.specs.Prelude.{◌≡◌, ◌<◌, ◌++◌, [], ◌∷◌, min, slice_index, IfOk, IfSome, OnOk};
 ghost use Rattle.nk_policy.specs.Policy.{sum_of};
 ghost use Rattle.nk_policy.specs.Tree.{tree_of, trees_of};
 ghost use Rattle.nk_store.specs.Held.{Grows, HasLeaves};

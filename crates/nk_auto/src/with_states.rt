@@ -1,5 +1,5 @@
 //! The states of a policy's dups: what is left after each of them, continued by a diagram.
-ghost use Rattle.std.specs.Prelude.{◌≡◌, ℕ, ◌+◌, ◌-◌, ◌<◌, ◌≤◌, ◌∷◌, [], List as Items, IfOk, OnOk, length, slice_set};
+ghost use Rattle.std.specs.Prelude.{ℕ, ◌+◌, ◌-◌, ◌<◌, List as Items, IfOk, OnOk};
 ghost use Rattle.nk_policy.specs.Policy.{Policies, sum_of, seq_of, star_of, dup, link, part};
 ghost use Rattle.nk_policy.specs.Tree.{tree_of, trees_of};
 ghost use Rattle.nk_store.specs.Held.{IsId, Grows};

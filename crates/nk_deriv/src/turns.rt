@@ -1,6 +1,6 @@
 //! Policies without dups, and parts, one after another.
 ghost use Rattle.std.specs.Prelude.{◌≡◌, ◌++◌, List as Items, IfOk, OnOk};
-ghost use Rattle.nk_policy.specs.Policy.{seq_of, sum_of, no_part, part, star_of};
+ghost use Rattle.nk_policy.specs.Policy.{star_of};
 ghost use Rattle.nk_policy.specs.After.{id_policy, drop_policy};
 ghost use Rattle.nk_policy.specs.Tree.{tree_of, trees_of};
 ghost use Rattle.nk_policy.specs.declared.policy.Pol.{Pol as PolValue};

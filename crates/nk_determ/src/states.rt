@@ -4,7 +4,7 @@ ghost use Rattle.std.specs.List.{Contains};
 ghost use Rattle.std.specs.List.Sorted.{IsStrictlyIncreasing};
 ghost use Rattle.nk_store.specs.Leaves.{Strict};
 ghost use Rattle.nk_store.specs.Nodes.{child_at};
-ghost use Rattle.nk_store.specs.Held.{Held, IsId, IsWhole, IsPacket, look, top, Grows, HasLeaves, AreParts};
+ghost use Rattle.nk_store.specs.Held.{Held, IsId, IsWhole, IsPacket, look, top, Grows, AreParts};
 ghost use Rattle.nk_algebra.specs.Subs.{sub, IsSplit};
 ghost use Rattle.nk_algebra.specs.Unions.{AreIds};
 ghost use Rattle.nk_determ.specs.Exact.{split_leaf, AreExact, Sends};

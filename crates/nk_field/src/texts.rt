@@ -1,5 +1,5 @@
 //! The texts of packets and histories.
-ghost use Rattle.std.specs.Prelude.{◌≡◌, ◌<◌, ◌++◌, [], length, codes, if◌then◌else◌, IfOk, OnOk};
+ghost use Rattle.std.specs.Prelude.{◌≡◌, ◌<◌, ◌++◌, [], codes, if◌then◌else◌, IfOk, OnOk};
 ghost use Rattle.nk_field.specs.Texts.{packet_bytes, history_bytes, item_text, is_tag, is_shown};
 
 use crate::fields::Fields;

@@ -1,6 +1,6 @@
 //! Hops of copies: a copy is held by the place of its last hop, and each hop by that of the one before it. So copies that
 //! came the same way share what they have recorded, and records are written out only where a copy leaves.
-ghost use Rattle.std.specs.Prelude.{◌≡◌, ◌<◌, ◌≤◌, ◌++◌, ◌∷◌, [], suc, length, IfOk, OnOk, All};
+ghost use Rattle.std.specs.Prelude.{◌≡◌, ◌<◌, ◌≤◌, ◌++◌, ◌∷◌, [], length, IfOk, OnOk, All};
 ghost use Rattle.std.specs.List.{flat_map};
 ghost use Rattle.nk_field.specs.Packet.{erased};
 ghost use Rattle.nk_table.specs.Hops as tables;

@@ -1,5 +1,5 @@
 //! The tables by which switches go while plan steps are done.
-ghost use Rattle.std.specs.Prelude.{◌≡◌, ◌<◌, ◌≤◌, length, map, IfOk};
+ghost use Rattle.std.specs.Prelude.{◌≡◌, ◌<◌, length, map, IfOk};
 ghost use Rattle.std.specs.List.{flat_map};
 ghost use Rattle.nk_topo.specs.Topology as declared;
 ghost use Rattle.nk_table.specs.Rules.{sent_for};

@@ -1,5 +1,5 @@
 //! The homes and the links of a generated network.
-ghost use Rattle.std.specs.Prelude.{◌≡◌, ◌≤◌, ◌<◌, ◌+◌, ◌*◌, ◌++◌, ◌==◌, ◌||◌, not, true, false, ℕ, length, slice_index_or, slice_set, IfOk, OnOk};
+ghost use Rattle.std.specs.Prelude.{◌≡◌, ◌≤◌, ◌<◌, ◌+◌, ◌*◌, ◌++◌, ◌==◌, ◌||◌, not, true, false, length, slice_index_or, slice_set, IfOk, OnOk};
 ghost use Rattle.nk_gen.specs.Network as specs;
 ghost use Rattle.nk_gen.specs.Flags.{AreEnds};
 

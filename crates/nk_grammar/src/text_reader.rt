@@ -5,7 +5,7 @@ ghost use Rattle.nk_lex.specs.Lex.{largest};
 ghost use Rattle.nk_grammar.specs.File.{Declaration, IsWritten, declaration_of};
 ghost use Rattle.nk_grammar.specs.FileMachine.{Returns, file_of};
 ghost use Rattle.nk_grammar.specs.FileReader.{declaration_done};
-ghost use Rattle.nk_grammar.specs.TextProgress.{IsTextStopped, IsTextRead, is_text_stopped, rest_by};
+ghost use Rattle.nk_grammar.specs.TextProgress.{IsTextStopped, IsTextRead, rest_by};
 ghost use Rattle.nk_grammar.specs.TextReader.{TakesTextOn, TakesToken, progress_in};
 
 use crate::decl::{Decl, File, GrammarError};

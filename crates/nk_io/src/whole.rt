@@ -1,5 +1,5 @@
 //! All that a source has left, and all of a piece.
-ghost use Rattle.std.specs.Prelude.{◌≡◌, ◌≤◌, ℕ, length, IfOk, OnOk, OnErr, MatchResult};
+ghost use Rattle.std.specs.Prelude.{◌≡◌, ◌≤◌, length, IfOk, OnOk, OnErr, MatchResult};
 ghost use Rattle.std.specs.Io.KnownBytes.{Appends, Consumes, IsAtEnd};
 ghost use Rattle.nk_io.specs.Faults.{AppendsProperPrefix, HasCause};
 ghost use Rattle.nk_io.specs.Reading.{IsAllOf, IsCause, IsLonger};

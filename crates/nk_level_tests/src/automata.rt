@@ -1,8 +1,8 @@
 //! The automata of policies, and their levels from the start.
-ghost use Rattle.std.specs.Prelude.{◌≡◌, ◌≤◌, ◌<◌, ◌+◌, ◌^◌, [], ◌∷◌, true, refl, IfOk, IfSome, OnOk, length};
+ghost use Rattle.std.specs.Prelude.{◌≡◌, ◌≤◌, ◌<◌, ◌+◌, ◌^◌, [], ◌∷◌, true, refl, IfOk, IfSome, length};
 ghost use Rattle.nk_policy.specs.Policy.{marked_from, dups_of};
 ghost use Rattle.nk_policy.specs.Tree.{tree_of, trees_of};
-ghost use Rattle.nk_store.specs.Held.{Held, Grows};
+ghost use Rattle.nk_store.specs.Held.{Grows};
 ghost use Rattle.nk_algebra.proofs.Members.{contains_has};
 ghost use Rattle.nk_sets.specs.PacketSets.{IsSet};
 ghost use Rattle.nk_auto.specs.Continued.{IsFit, AreFit};

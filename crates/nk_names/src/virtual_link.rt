@@ -19,7 +19,6 @@ pub struct VirtualLink {
 
 impl Model for VirtualLink {
     ghost use Rattle.std.specs.Coded.{codes};
-    ghost use Rattle.nk_topo.specs.Topology.{Link};
     ghost use Rattle.nk_names.specs.CodedPolicy.{coded_policy};
     ghost use Rattle.nk_names.specs.ProgramValue.{VirtualLink as Value'};
     ghost use Rattle.nk_names.specs.Virtual.{virtual_from};

@@ -1,5 +1,5 @@
 //! Where packets start and where they may leave, as sets of packets.
-ghost use Rattle.std.specs.Prelude.{◌≡◌, ◌≤◌, is_some, slice_index, IfOk};
+ghost use Rattle.std.specs.Prelude.{◌≤◌, is_some, slice_index, IfOk};
 ghost use Rattle.nk_topo.specs.Topology.{is_port, link_from};
 ghost use Rattle.nk_store.specs.Held.{Grows};
 ghost use Rattle.nk_algebra.specs.Predicates.{IsPredicate};

@@ -7,7 +7,7 @@ ghost use Rattle.std.specs.Prelude.{◌≡◌, ◌≤◌, ◌+◌, ◌*◌, true
 ghost use Rattle.std.specs.List.{range_with_len};
 ghost use Rattle.nk_field.specs.declared.packet.Packet.{Packet};
 ghost use Rattle.nk_field.specs.Packet.{FieldTable, IsPacket};
-ghost use Rattle.nk_policy.specs.Policy.{Policy, test, range, assign, sum_of, seq_of, not_of, dup, link, no_part, part, marked_from, without_links, depth_of, size_of, dups_of, numbers_of, is_predicate};
+ghost use Rattle.nk_policy.specs.Policy.{Policy, test, range, assign, sum_of, seq_of, not_of, dup, link, no_part, marked_from, without_links, depth_of, size_of, dups_of, numbers_of, is_predicate};
 ghost use Rattle.nk_policy.specs.Meaning.{Gives, Runs};
 ghost use Rattle.nk_policy.specs.Progress.{Marked, RecordsAt};
 ghost use Rattle.nk_policy.specs.After.{after, has_dup};

@@ -1,6 +1,6 @@
 //! The text of a policy.
-ghost use Rattle.std.specs.Prelude.{◌≡◌, ◌||◌, ◌++◌, [], IfOk, OnOk, codes, decimal, length};
-ghost use Rattle.nk_policy.specs.Text.{pol_bytes, sum_bytes, seq_bytes, enclosed, name_of, has_part, is_sum as is_sum_tree, is_seq as is_seq_tree, is_star as is_star_tree};
+ghost use Rattle.std.specs.Prelude.{◌≡◌, ◌||◌, ◌++◌, IfOk, OnOk, codes, decimal};
+ghost use Rattle.nk_policy.specs.Text.{pol_bytes, enclosed, name_of, is_sum as is_sum_tree, is_seq as is_seq_tree, is_star as is_star_tree};
 ghost use Rattle.nk_policy.specs.Policy.{sum_of, seq_of};
 ghost use Rattle.nk_policy.specs.Tree.{tree_of, trees_of};
 

@@ -1,5 +1,5 @@
 //! The packets of each level from where something bad is met.
-ghost use Rattle.std.specs.Prelude.{◌≡◌, ℕ, IfOk, OnOk, length, List as Items};
+ghost use Rattle.std.specs.Prelude.{◌≡◌, ℕ, IfOk, OnOk, List as Items};
 ghost use Rattle.nk_store.specs.Held.{Held, Grows};
 ghost use Rattle.nk_reach.specs.Pairs.{ArePairs};
 ghost use Rattle.nk_reach.specs.Backs.{IsBadSoFar};

@@ -1,5 +1,5 @@
 //! Forward by least packets.
-ghost use Rattle.std.specs.Prelude.{◌≡◌, ℕ, ◌<◌, [], eqb, true, Some, IfOk, OnOk, length, slice_index_or, List as Items};
+ghost use Rattle.std.specs.Prelude.{◌≡◌, ℕ, ◌<◌, [], eqb, Some, IfOk, OnOk, length, slice_index_or, List as Items};
 ghost use Rattle.std.specs.Map.{lookup};
 ghost use Rattle.nk_store.specs.Held.{Held, IsPacket, Grows};
 ghost use Rattle.nk_sets.specs.PacketSets.{IsLeast};
@@ -14,7 +14,7 @@ use crate::goal::Goal;
 use crate::local::state_at;
 use crate::standing::Entries;
 use nk_determ::{SetId, Sets};
-use nk_field::{List, Packet};
+use nk_field::Packet;
 use nk_sets::least;
 use nk_store::{Id, Store};
 use std::alloc::AllocError;

@@ -1,6 +1,6 @@
 //! Outs by the values of a field, those of one out put together.
-ghost use Rattle.std.specs.Prelude.{◌≡◌, ℕ, ◌<◌, ◌≤◌, IfOk, OnOk, true, [], length, slice_index, IsPermutation};
-ghost use Rattle.nk_store.specs.Held.{IsId, Grows, HasLeaves, top};
+ghost use Rattle.std.specs.Prelude.{◌≡◌, ◌<◌, ◌≤◌, IfOk, OnOk, true, length, IsPermutation};
+ghost use Rattle.nk_store.specs.Held.{Grows};
 ghost use Rattle.nk_reach.specs.Outs.{IsByOut, AreStretches, AreOfDiagram, AreUnited, IsRunOf, HaveRun, IsNone, piece, with_stretch};
 
 use crate::outs::Given;

@@ -1,5 +1,5 @@
 //! The least history.
-ghost use Rattle.std.specs.Prelude.{◌≡◌, ℕ, ◌+◌, ◌-◌, ◌<◌, ◌≤◌, [], true, IfOk, OnOk, length, slice_index_or, List as Items};
+ghost use Rattle.std.specs.Prelude.{◌≡◌, ℕ, ◌-◌, ◌<◌, ◌≤◌, [], true, IfOk, OnOk, length, slice_index_or, List as Items};
 ghost use Rattle.nk_field.specs.Order.{IsLeast};
 ghost use Rattle.nk_store.specs.Held.{Held, IsPacket, Grows};
 ghost use Rattle.nk_determ.specs.Sets.{SetsGrow, Differ};

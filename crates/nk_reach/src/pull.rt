@@ -1,5 +1,5 @@
 //! Which packets lead to given ones.
-ghost use Rattle.std.specs.Prelude.{◌≡◌, ◌<◌, [], IfOk, length, slice_index_or};
+ghost use Rattle.std.specs.Prelude.{◌<◌, [], IfOk, length, slice_index_or};
 ghost use Rattle.nk_store.specs.Held.{Grows};
 ghost use Rattle.nk_sets.specs.PacketSets.{IsSet};
 ghost use Rattle.nk_determ.specs.Sets.{SetsGrow};

@@ -1,5 +1,5 @@
 //! What a diagram does at the packets of a set.
-ghost use Rattle.std.specs.Prelude.{◌≡◌, ℕ, ◌≤◌, ◌⊎◌, min, IfOk, IfSome, List as Items};
+ghost use Rattle.std.specs.Prelude.{◌≡◌, ℕ, ◌≤◌, min, IfOk, IfSome, List as Items};
 ghost use Rattle.nk_store.specs.Nodes.{child_at};
 ghost use Rattle.nk_store.specs.Held.{IsId, IsWhole, look, top, Grows, HasLeaves, AreParts};
 ghost use Rattle.nk_algebra.specs.Leaves.{guarded};

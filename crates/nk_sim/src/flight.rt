@@ -1,6 +1,6 @@
 //! Copies in flight. Copies that came the same way share what they have recorded: each copy is held by its last
 //! crossing, and each crossing by the one before it.
-ghost use Rattle.std.specs.Prelude.{◌≡◌, ◌<◌, ◌++◌, ℕ, ◌∷◌, [], map, length, IfOk, OnOk};
+ghost use Rattle.std.specs.Prelude.{◌≡◌, ◌<◌, ◌++◌, ℕ, map, length, IfOk, OnOk};
 ghost use Rattle.std.specs.List.{flat_map};
 ghost use Rattle.nk_table.specs.Hops as hops;
 ghost use Rattle.nk_field.specs.Packet.{erased};

@@ -1,5 +1,5 @@
 //! The star of a diagram.
-ghost use Rattle.std.specs.Prelude.{◌≡◌, ℕ, ◌≤◌, ◌↔◌, [], ◌∷◌, IfOk, List as Items, length, Contains};
+ghost use Rattle.std.specs.Prelude.{ℕ, ◌≤◌, ◌↔◌, [], ◌∷◌, IfOk, List as Items, length, Contains};
 ghost use Rattle.nk_store.specs.Held.{IsId, IsWhole, IsPacket, look, top, Grows, HasLeaves};
 ghost use Rattle.nk_store.specs.Operations.{lacking};
 ghost use Rattle.nk_algebra.specs.Leaves.{merged};

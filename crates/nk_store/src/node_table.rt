@@ -14,7 +14,7 @@ use crate::node::{Id, Node, Out};
 use crate::operation::Operation;
 use crate::parts::{in_whole, part_child};
 use indexmap::IndexSet;
-use nk_field::{Fid, Fields, List, PLACES, Packet};
+use nk_field::{Fid, Fields, List, Packet};
 use std::alloc::{AllocError, Global};
 use std::hash::BuildHasherDefault;
 use std::marker::Model;

@@ -1,5 +1,5 @@
 //! Places in ascending lists.
-ghost use Rattle.std.specs.Prelude.{◌≡◌, ℕ, ◌==◌, ◌<◌, ◌≤◌, false, nat_lt, length, position, map, AllPairs, IfSome, IfOk, IsTrue};
+ghost use Rattle.std.specs.Prelude.{◌≡◌, ◌==◌, ◌<◌, ◌≤◌, false, nat_lt, length, position, map, AllPairs, IfSome, IfOk, IsTrue};
 ghost use Rattle.std.specs.List.{prefix_len};
 ghost use Rattle.nk_topo.specs.Topology.{starts_below, ascending, has_double};
 ghost use Rattle.nk_topo.specs.Inside.{link_of};

@@ -1,7 +1,7 @@
 //! Topologies.
-ghost use Rattle.std.specs.Prelude.{◌≡◌, ℕ, ◌<◌, ◌==◌, ◌↔◌, Bool, true, false, [], map, AllPairs, IfOk, OnOk, OnErr, IsSome, IsNone};
+ghost use Rattle.std.specs.Prelude.{◌≡◌, ℕ, ◌<◌, ◌==◌, true, false, [], map, AllPairs, IfOk, OnOk, OnErr, IsNone};
 ghost use Rattle.std.specs.List.{list_any};
-ghost use Rattle.nk_topo.specs.Topology.{Link, IsTopology, no_topology, numbers_of, ports_of, with_sorted, with_switch, with_link, has_double};
+ghost use Rattle.nk_topo.specs.Topology.{IsTopology, no_topology, numbers_of, ports_of, with_sorted, with_switch, with_link};
 ghost use Rattle.nk_topo.specs.Topology as declared;
 ghost use Rattle.nk_topo.specs.Inside.{link_of};
 ghost use Rattle.nk_topo.specs.Answers.{Returns, switch_answer, link_answer};

@@ -1,5 +1,5 @@
 //! The rows of a switch while plan steps are done.
-ghost use Rattle.std.specs.Prelude.{◌≡◌, ◌==◌, ◌&&◌, ◌+◌, ◌++◌, ◌≤◌, nat_le, [], ◌∷◌, if◌then◌else◌, filter, length, map, All, IfOk, OnOk};
+ghost use Rattle.std.specs.Prelude.{◌≡◌, ◌==◌, ◌&&◌, ◌+◌, ◌++◌, ◌≤◌, nat_le, [], ◌∷◌, if◌then◌else◌, filter, map, All, IfOk, OnOk};
 ghost use Rattle.nk_update.specs.Plans as plans;
 
 use nk_field::{Fid, List};
