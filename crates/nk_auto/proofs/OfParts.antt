@@ -12,7 +12,7 @@ use Rattle.nk_policy.specs.Policy.{Policy, Policies, test, range, assign, sum_of
 use Rattle.nk_policy.specs.Tree.{tree_of}
 use Rattle.nk_policy.specs.Progress.{RecordsAt}
 use Rattle.nk_policy.specs.After.{has_dup, after}
-use Rattle.nk_policy.specs.Ranges.{IsOver}
+use Rattle.nk_policy.specs.Ranges.{IsOverFields}
 use Rattle.nk_policy.proofs.DupsOfRuns.{rest_dups}
 use Rattle.nk_policy.proofs.Remade.{marked_numbers}
 use Rattle.nk_policy.proofs.Splitting.{holds_dup}
@@ -24,11 +24,11 @@ use Rattle.nk_algebra.specs.Unions.{AreIds}
 use Rattle.nk_algebra.proofs.Members.{Has, contains_has, has_contains, gathered_has, has_gathered}
 use Rattle.nk_deriv.specs.declared.values.Part.{Part}
 use Rattle.nk_deriv.specs.declared.values.Parts.{Parts}
-use Rattle.nk_deriv.specs.Part.{IsDupFree, AllDupFree, IsMadeOf, IsLegOf, IsWithin, IsPart}
+use Rattle.nk_deriv.specs.Part.{IsDupFree, AllDupFree, IsBuiltOf, IsLegOf, IsWithin, IsPartOfDerivative}
 use Rattle.nk_auto.specs.Automaton.{IsState, IsAutomaton}
 use Rattle.nk_auto.specs.Complements.{NegatesPredicates, AllNegatePredicates}
 use Rattle.nk_auto.specs.Continued.{IsFit, IsSilent}
-use Rattle.nk_auto.specs.OfParts.{IsAimed, IsFitLeg, IsOfPart, AreOfParts, AreParts, IsDrawable}
+use Rattle.nk_auto.specs.OfParts.{IsAimed, IsFitLeg, IsOfPart, AreOfParts, ArePolicyParts, IsDrawable}
 use Rattle.nk_auto.specs.Plain.{Sends}
 use Rattle.nk_auto.proofs.Sending.{out_of, sends_on, sends_back, union_sends, sends_left, sends_right}
 use Rattle.nk_auto.proofs.Silences.{fit_before, packet_before}
@@ -121,7 +121,7 @@ legs_from legs i leg some within is =
     drop-cons legs (i - 1) leg lt ∙ ap (λ x. x ∷ drop (suc (i - 1)) legs) (sym is) ∙ ap (λ n. leg ∷ drop n legs) back
 
 -- the diagram of a part is that of the state whose part it is
-pub part_state : (st : Held) (d : ℕ) (made : Part) (s : Policy) → IsOfPart st d (tree_of made.free) made.legs → IsPart made s →
+pub part_state : (st : Held) (d : ℕ) (made : Part) (s : Policy) → IsOfPart st d (tree_of made.free) made.legs → IsPartOfDerivative made s →
     IsFit st.maxes (tree_of made.free) → All (IsFitLeg st.maxes) made.legs → has_dup s 0 ≡ false → IsState st d s
 part_state st d made s h is fit fits none = record {
   id = h.id;
@@ -166,7 +166,7 @@ value_in st fields f n over v =
     subst (λ m. n ≤ m) (sym same) v.1
 
 -- what is made of a policy over the store's fields is fit
-made_fit : (st : Held) (fields : FieldTable) (p q : Policy) → IsStoreOver fields st → IsOver fields p → IsMadeOf p q →
+made_fit : (st : Held) (fields : FieldTable) (p q : Policy) → IsStoreOver fields st → IsOverFields fields p → IsBuiltOf p q →
     IsFit st.maxes q
 made_fit st fields p q store over m = (
   dup_free_negates q m.dup_free,
@@ -174,7 +174,7 @@ made_fit st fields p q store over m = (
 )
 
 -- so are legs
-legs_fit : (st : Held) (fields : FieldTable) (p : Policy) (legs : List (Pol × ℕ)) → IsStoreOver fields st → IsOver fields p →
+legs_fit : (st : Held) (fields : FieldTable) (p : Policy) (legs : List (Pol × ℕ)) → IsStoreOver fields st → IsOverFields fields p →
     All (IsLegOf p) legs → All (IsFitLeg st.maxes) legs
 legs_fit st fields p [] store over h = All-nil (IsFitLeg st.maxes)
 legs_fit st fields p (leg ∷ legs) store over h =
@@ -183,8 +183,8 @@ legs_fit st fields p (leg ∷ legs) store over h =
     (legs_fit st fields p legs store over (All-tail (IsLegOf p) leg legs h))
 
 -- a part of what is made of the policy is that of a state
-one_state : (st : Held) (fields : FieldTable) (d : ℕ) (made : Part) (p s : Policy) → IsStoreOver fields st → IsOver fields p →
-    IsOfPart st d (tree_of made.free) made.legs → IsPart made s → IsWithin p made → has_dup s 0 ≡ false → IsState st d s
+one_state : (st : Held) (fields : FieldTable) (d : ℕ) (made : Part) (p s : Policy) → IsStoreOver fields st → IsOverFields fields p →
+    IsOfPart st d (tree_of made.free) made.legs → IsPartOfDerivative made s → IsWithin p made → has_dup s 0 ≡ false → IsState st d s
 one_state st fields d made p s store over h is within none =
     part_state st d made s h is
     (made_fit st fields p (tree_of made.free) store over within.free)
@@ -209,9 +209,9 @@ many_states st (m ∷ made) [] ls a is = absurd a
 many_states st (m ∷ made) (x ∷ es) ls a is = ap suc (many_states st made es (map (λ e. e.0) es) a.1 refl) ∙ ap length is
 
 -- what is left after each dup is the state of its part
-each_state : (st : Held) (fields : FieldTable) (p : Policy) → IsStoreOver fields st → IsOver fields p →
+each_state : (st : Held) (fields : FieldTable) (p : Policy) → IsStoreOver fields st → IsOverFields fields p →
     ((l : ℕ) → has_dup (after p l) 0 ≡ false) → (made : List ℕ) (es : List (ℕ × Part)) (from n : ℕ) →
-    map (λ e. e.0) es ≡ range_with_len from n → AreOfParts st made es → All (λ e. IsPart e.1 (after p e.0)) es →
+    map (λ e. e.0) es ≡ range_with_len from n → AreOfParts st made es → All (λ e. IsPartOfDerivative e.1 (after p e.0)) es →
     All (λ e. IsWithin p e.1) es → (i : ℕ) → i < n → IsState st (slice_index made i) (after p (from + i))
 each_state st fields p store over none made es from zero is a parts within i lt = absurd (omega (arith, lt))
 each_state st fields p store over none made [] from (suc n) is a parts within i lt =
@@ -220,17 +220,17 @@ each_state st fields p store over none [] (e ∷ es) from (suc n) is a parts wit
 each_state st fields p store over none (m ∷ made) (e ∷ es) from (suc n) is a parts within zero lt =
     let label : e.0 ≡ from + 0 = ap (λ l. get_or l 0 0) is ∙ omega arith in
     subst (λ l. IsState st m (after p l)) label
-    (one_state st fields m e.1 p (after p e.0) store over a.0 (All-head (λ x. IsPart x.1 (after p x.0)) e es parts) (All-head (λ x. IsWithin p x.1) e es within) (none e.0))
+    (one_state st fields m e.1 p (after p e.0) store over a.0 (All-head (λ x. IsPartOfDerivative x.1 (after p x.0)) e es parts) (All-head (λ x. IsWithin p x.1) e es within) (none e.0))
 each_state st fields p store over none (m ∷ made) (e ∷ es) from (suc n) is a parts within (suc i) lt =
     let next : (from + 1) + i ≡ from + suc i = omega arith in
     subst (λ l. IsState st (slice_index made i) (after p l)) next
     (each_state st fields p store over none made es (from + 1) n (ap (λ l. drop 1 l) is) a.1
-    (All-tail (λ x. IsPart x.1 (after p x.0)) e es parts) (All-tail (λ x. IsWithin p x.1) e es within) i (omega (arith, lt)))
+    (All-tail (λ x. IsPartOfDerivative x.1 (after p x.0)) e es parts) (All-tail (λ x. IsWithin p x.1) e es within) i (omega (arith, lt)))
 
 -- the diagrams of the parts are the automaton
 pub parts_automaton : (old st : Held) (start : ℕ) (made all : List ℕ) (parts : Parts) (p : Policy) (first : ℕ) → Grows old st →
     all ≡ start ∷ made → IsOfPart st start (tree_of parts.first.free) parts.first.legs → AreOfParts st made parts.after →
-    AreParts parts p → IsDrawable old p first → IsAutomaton st all first p
+    ArePolicyParts parts p → IsDrawable old p first → IsAutomaton st all first p
 parts_automaton old st start made all parts p first g same begun rest are draw =
     subst (λ states. IsAutomaton st states first p) (sym same)
     (states_are st (start ∷ made) first p draw.numbered many

@@ -13,7 +13,7 @@ use Rattle.nk_policy.proofs.Marks.{ways_agree}
 use Rattle.nk_policy.proofs.Tests.{false_true, both_true, or_cases}
 use Rattle.nk_store.specs.Nodes.{InRange}
 use Rattle.nk_store.proofs.Same.{set_in_range}
-use Rattle.nk_auto.specs.Plain.{IsWithin}
+use Rattle.nk_auto.specs.Plain.{AssignsWithin}
 
 -- a packet that a run records, without its number
 abbrev plain : List ℕ × ℕ → List ℕ
@@ -30,13 +30,13 @@ pub run_gives : (p : Policy) (pk y : List ℕ) → way_of p numbered pk [] y →
 run_gives p pk y r = (ways_agree plain numbered p pk y).0 [] r
 
 -- a run of a policy in range ends in range
-pub run_in_range : (maxes : List ℕ) (p : Policy) → IsWithin maxes p → (pk : List ℕ) (w : Marked) (y : List ℕ) →
+pub run_in_range : (maxes : List ℕ) (p : Policy) → AssignsWithin maxes p → (pk : List ℕ) (w : Marked) (y : List ℕ) →
     way_of p numbered pk w y → InRange maxes pk → InRange maxes y
 run_in_range maxes p within =
     Kept.ways_keep (λ f n. n ≤ slice_index maxes f) (λ x. InRange maxes x) (λ x f n le r. set_in_range maxes x f n r le) p within
 
 -- and so does one without a record
-pub gives_in_range : (maxes : List ℕ) (p : Policy) → IsWithin maxes p → (pk y : List ℕ) → Gives p pk [] y →
+pub gives_in_range : (maxes : List ℕ) (p : Policy) → AssignsWithin maxes p → (pk y : List ℕ) → Gives p pk [] y →
     InRange maxes pk → InRange maxes y
 gives_in_range maxes p within pk y g = run_in_range maxes p within pk [] y (gives_run p pk y g)
 

@@ -7,13 +7,13 @@ use Rattle.nk_policy.specs.After.{id_policy, drop_policy, has_dup, some_has_dup,
 use Rattle.nk_policy.proofs.Tests.{false_true, or_cases, both_false, same_number, same_from, next_number}
 use Rattle.nk_store.specs.Held.{Held, IsId, Grows}
 use Rattle.nk_auto.specs.Complements.{NegatesPredicates, AllNegatePredicates}
-use Rattle.nk_auto.specs.Continued.{IsContinued, AreStates, AreWritten, IsPut}
+use Rattle.nk_auto.specs.Continued.{IsContinued, AreStatesOfDups, AreWritten, IsPut}
 use Rattle.nk_auto.proofs.Going.{continued_grow, unit_continued, cons_continued}
 use Rattle.nk_auto.proofs.Ways.{predicate_holds_none, no_dup}
 
 -- states stay states in a store that grew
 pub states_grow : (old new : Held) (states : List ℕ) (base : ℕ) (p : Policy) (k : ℕ) → Grows old new →
-    AreStates old states base p k → AreStates new states base p k
+    AreStatesOfDups old states base p k → AreStatesOfDups new states base p k
 states_grow old new states base p k g h fit l from place has = continued_grow old new (slice_index states (l - base)) (after p l) k g (h fit l from place has)
 
 -- so do states that were written

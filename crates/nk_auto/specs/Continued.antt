@@ -9,11 +9,11 @@ use Rattle.nk_policy.specs.Ranges.{AllAssignOnly}
 use Rattle.nk_store.specs.Held.{Held, IsId, IsPacket, look}
 use Rattle.nk_algebra.specs.Predicates.{Ends}
 use Rattle.nk_auto.specs.Complements.{NegatesPredicates, AllNegatePredicates}
-use Rattle.nk_auto.specs.Plain.{IsWithin, Sends}
+use Rattle.nk_auto.specs.Plain.{AssignsWithin, Sends}
 
 -- each complement is over a predicate, and each assignment outside complements is to a value in range
 abbrev pub IsFit : List ℕ → Policy → Type 0
-IsFit maxes p = NegatesPredicates p × IsWithin maxes p
+IsFit maxes p = NegatesPredicates p × AssignsWithin maxes p
 
 -- the same of each part
 abbrev pub AreFit : List ℕ → Policies → Type 0
@@ -40,15 +40,15 @@ pub record IsContinued (st : Held) (d : ℕ) (p : Policy) (k : ℕ) : Type 0 whe
 
 -- the state of each dup that has a place is the diagram of what is left after it, continued by k; the state of the dup l stands
 -- at the place l - base
-abbrev pub AreStates : Held → List ℕ → ℕ → Policy → ℕ → Type 0
-AreStates st states base p k =
+abbrev pub AreStatesOfDups : Held → List ℕ → ℕ → Policy → ℕ → Type 0
+AreStatesOfDups st states base p k =
     NegatesPredicates p → (l : ℕ) → base ≤ l → l < base + length states → has_dup p l ≡ true →
     IsContinued st (slice_index states (l - base)) (after p l) k
 
 -- the states of the policy's dups were written, and the others stayed
 pub record AreWritten (st : Held) (old new : List ℕ) (base : ℕ) (p : Policy) (k : ℕ) : Type 0 where
   pub count : length new ≡ length old
-  pub states : AreStates st new base p k
+  pub states : AreStatesOfDups st new base p k
   pub others : (l : ℕ) → base ≤ l → has_dup p l ≡ false → slice_index new (l - base) ≡ slice_index old (l - base)
 
 -- d was written at the place of the label l, if it has one

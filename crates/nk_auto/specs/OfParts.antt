@@ -6,12 +6,12 @@ use Rattle.nk_policy.specs.Policy.{Policy, numbers_of, marked_from}
 use Rattle.nk_policy.specs.Tree.{tree_of}
 use Rattle.nk_policy.specs.Meaning.{Gives}
 use Rattle.nk_policy.specs.After.{after}
-use Rattle.nk_policy.specs.Ranges.{IsOver}
+use Rattle.nk_policy.specs.Ranges.{IsOverFields}
 use Rattle.nk_store.specs.Held.{Held, IsId, IsPacket}
 use Rattle.nk_store.specs.Held.{IsOver as IsStoreOver}
 use Rattle.nk_deriv.specs.declared.values.Part.{Part}
 use Rattle.nk_deriv.specs.declared.values.Parts.{Parts}
-use Rattle.nk_deriv.specs.Part.{LegsGive, IsPart, IsWithin}
+use Rattle.nk_deriv.specs.Part.{LegsGive, IsPartOfDerivative, IsWithin}
 use Rattle.nk_auto.specs.Plain.{Sends}
 use Rattle.nk_auto.specs.Continued.{IsFit}
 
@@ -40,10 +40,10 @@ AreOfParts st (d ∷ ds) [] = ⊥
 AreOfParts st (d ∷ ds) (e ∷ es) = IsOfPart st d (tree_of e.1.free) e.1.legs × AreOfParts st ds es
 
 -- the parts are those of the policy: what is answered for it by `nk_deriv::derivatives::parts`
-pub record AreParts (parts : Parts) (p : Policy) : Type 0 where
-  pub first : IsPart parts.first p
+pub record ArePolicyParts (parts : Parts) (p : Policy) : Type 0 where
+  pub first : IsPartOfDerivative parts.first p
   pub labels : map (λ e. e.0) parts.after ≡ numbers_of p
-  pub after : All (λ e. IsPart e.1 (after p e.0)) parts.after
+  pub after : All (λ e. IsPartOfDerivative e.1 (after p e.0)) parts.after
   pub within : All (λ e. IsWithin p e.1) parts.after
 
 -- the dups of the policy are numbered from first on, and its tests, ranges and assignments are of the store's fields, to values
@@ -53,4 +53,4 @@ pub record IsDrawable (st : Held) (p : Policy) (first : ℕ) : Type 0 where
   pub numbered : marked_from p first ≡ p
   pub fields : FieldTable
   pub store_over : IsStoreOver fields st
-  pub over : IsOver fields p
+  pub over : IsOverFields fields p

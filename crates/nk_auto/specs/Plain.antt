@@ -5,5 +5,5 @@ use Rattle.nk_policy.specs.Ranges.{AssignsOnly}
 pub use Rattle.nk_store.specs.Sends.{Sends}
 
 -- each assignment outside complements sets a field to at most its highest value
-abbrev pub IsWithin : List ℕ → Policy → Type 0
-IsWithin maxes p = AssignsOnly (λ f n. n ≤ slice_index maxes f) p
+abbrev pub AssignsWithin : List ℕ → Policy → Type 0
+AssignsWithin maxes p = AssignsOnly (λ f n. n ≤ slice_index maxes f) p

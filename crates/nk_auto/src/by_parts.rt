@@ -5,7 +5,7 @@ ghost use Rattle.nk_policy.specs.Tree.{tree_of};
 ghost use Rattle.nk_store.specs.Held.{Grows};
 ghost use Rattle.nk_algebra.specs.Unions.{AreIds};
 ghost use Rattle.nk_auto.specs.Automaton.{IsAutomaton};
-ghost use Rattle.nk_auto.specs.OfParts.{IsAimed, IsOfPart, AreOfParts, AreParts, IsDrawable};
+ghost use Rattle.nk_auto.specs.OfParts.{IsAimed, IsOfPart, AreOfParts, ArePolicyParts, IsDrawable};
 
 use crate::silence::silent;
 use nk_algebra::{aim, union};
@@ -21,7 +21,7 @@ use std::alloc::AllocError;
 /// error is that memory ran out.
 pub fn automaton(st: &mut Store, parts: &Parts) -> Result<List<Id>, AllocError>
     ensures grows { Grows st.old st.new }
-    ensures ok { IfOk result (λ states. (p : Policy) (first : ℕ) → AreParts parts.now p → IsDrawable st.old p first →
+    ensures ok { IfOk result (λ states. (p : Policy) (first : ℕ) → ArePolicyParts parts.now p → IsDrawable st.old p first →
         IsAutomaton st.new states first p) }
     ensures ids { IfOk result (λ states. AreIds st.new states) }
 {

@@ -7,7 +7,7 @@ use Rattle.nk_field.specs.Order.{Found, IsLeast}
 use Rattle.nk_policy.specs.Policy.{Policy, dups_of}
 use Rattle.nk_policy.specs.Meaning.{Gives}
 use Rattle.nk_policy.specs.Distinct.{HasDistinct}
-use Rattle.nk_policy.specs.Labels.{IsAt, HasExactly}
+use Rattle.nk_policy.specs.Labels.{HasRecorded, HasExactly}
 use Rattle.nk_policy.specs.PositionSets.{IsPosition, last_from, IsPositionOfEither, AreSides}
 use Rattle.nk_policy.proofs.PositionSteps.{left_gives, right_gives}
 use Rattle.nk_store.specs.declared.node.Out.{Out}
@@ -30,7 +30,7 @@ positions_either : (p q : Policy) (pk : Packet) (u : List Packet) (s : List ℕ)
 positions_either p q pk [] s h =
     exact_for (λ l. l ≡ 0) (IsPositionOfEither p q pk []) s (λ l. (λ e. inl e, λ i. ⊎_elim (λ e. e) (λ e. e) i)) h
 positions_either p q pk (y ∷ u) s h =
-    exact_for (IsAt (either_of p q) pk (y ∷ u)) (IsAtEither p q pk (y ∷ u)) s (either_at p q pk (y ∷ u)) h
+    exact_for (HasRecorded (either_of p q) pk (y ∷ u)) (IsAtEither p q pk (y ∷ u)) s (either_at p q pk (y ∷ u)) h
 
 -- the set where a history's records end
 record IsEnd (st : Held) (states : List ℕ) (p q : Policy) (f : Found) (n : Node) : Type 0 where

@@ -21,7 +21,7 @@ use Rattle.nk_determ.specs.Exact.{Sends}
 use Rattle.nk_determ.specs.States.{StateLeads}
 use Rattle.nk_auto.proofs.Stating.{label_within}
 use Rattle.nk_reach.specs.Pairs.{HavePlaces, IsStep}
-use Rattle.nk_reach.specs.Sides.{alone, alone_sided, ends_of, ends_same, Makes, AreOneSided}
+use Rattle.nk_reach.specs.Sides.{alone, alone_sided, ends_of, ends_same, MakesWithTarget, AreOneSided}
 use Rattle.nk_reach.specs.Sides.{EndsAt}
 use Rattle.nk_reach.proofs.Growing.{place_of}
 use Rattle.nk_runs.proofs.Numbers.{dup_within}
@@ -193,11 +193,11 @@ module _ (fields : FieldTable) (st : Held) (states : List ℕ) (left right : ℕ
             let y = applied o.0.act x in
             ⊎_elim
             (λ e.
-            let m : Makes (bad set x) x y 0 = (o.0.act, subst (λ t. Contains (bad set x) (record { act = o.0.act; target = t })) e o.1, refl) in
+            let m : MakesWithTarget (bad set x) x y 0 = (o.0.act, subst (λ t. Contains (bad set x) (record { act = o.0.act; target = t })) e o.1, refl) in
             let w = (sided.left_alone y).0 m in
             w.1 ((right_there x y range).1 ((h y).0 ((left_there x y range).0 w.0))))
             (λ e.
-            let m : Makes (bad set x) x y 1 = (o.0.act, subst (λ t. Contains (bad set x) (record { act = o.0.act; target = t })) e o.1, refl) in
+            let m : MakesWithTarget (bad set x) x y 1 = (o.0.act, subst (λ t. Contains (bad set x) (record { act = o.0.act; target = t })) e o.1, refl) in
             let w = (sided.right_alone y).0 m in
             w.1 ((left_there x y range).1 ((h y).1 ((right_there x y range).0 w.0))))
             (goal.targets set x o.0 o.1))

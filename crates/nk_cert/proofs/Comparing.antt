@@ -12,7 +12,7 @@ use Rattle.nk_store.specs.declared.node.Out.{Out}
 use Rattle.nk_store.specs.Held.{Held, Grows, AreTidy}
 use Rattle.nk_store.proofs.Stores.{grows_on}
 use Rattle.nk_sets.specs.PacketSets.{is_in}
-use Rattle.nk_determ.specs.Sets.{Differ}
+use Rattle.nk_determ.specs.Sets.{HasEachSetOnce}
 use Rattle.nk_reach.specs.Pairs.{AreStates, EachPair, IsPair}
 use Rattle.nk_reach.specs.Rounds.{HaveSets}
 use Rattle.nk_reach.specs.Levels.{AreLevels}
@@ -89,7 +89,7 @@ module _ (fields : FieldTable) (first : Held) (states : List ℕ) (left right bo
     (new : Held) (ss : List (List ℕ)) (ends : List ℕ) (ls : List (List (ℕ × ℕ))) (broken : Bool) (lv : AreSideLevels first states left right bound new ss ends ls broken) where
   -- without an end of one side alone both do the same, and what is made of the levels is the printed certificate
   pub related_is :
-      broken ≡ false → Differ ss → IsInRange p fields → IsInRange q fields → (final : Held) → Grows new final
+      broken ≡ false → HasEachSetOnce ss → IsInRange p fields → IsInRange q fields → (final : Held) → Grows new final
       → (c : CertificateValue) → IsCertificateOf new final ss ls c → IsRelated fields p q c
   related_is e differ rp rq final grew c made =
       let levels = levels_of_policies fields first states left right bound p q a is new ss ends ls broken lv in

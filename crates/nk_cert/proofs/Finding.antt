@@ -9,7 +9,7 @@ use Rattle.nk_policy.specs.Policy.{Policy, dups_of}
 use Rattle.nk_store.specs.declared.node.Out.{Out}
 use Rattle.nk_store.specs.Held.{Held, IsPacket}
 use Rattle.nk_store.proofs.InRange.{packet_in_range, packet_of_fields}
-use Rattle.nk_determ.specs.Sets.{Ascend}
+use Rattle.nk_determ.specs.Sets.{HasAscendingSets}
 use Rattle.nk_sets.specs.PacketSets.{is_in}
 use Rattle.nk_reach.specs.Pairs.{HavePlaces}
 use Rattle.nk_reach.specs.Goals.{PairBad, PairNone}
@@ -87,7 +87,7 @@ count_before rows zero lt = refl
 count_before [] (suc k) lt = absurd (omega (arith, lt))
 count_before (r ∷ rs) (suc k) lt = ap suc (count_before rs k (omega (arith, lt)))
 
-module _ (fields : FieldTable) (st : Held) (states : List ℕ) (left right : ℕ) (p q : Policy) (a : IsAutomatonOfBoth fields st states left right p q) (bad : List ℕ → List ℕ → List Out) (goal : IsOneSided st states left right (1 + dups_of p) bad) (ss : List (List ℕ)) (ascend : Ascend ss) (c : CertificateValue) (start : ℕ × ℕ) (entries told : List (ℕ × ℕ)) (s : IsStartEntryOf st ss (length states) c.start start) (es : AreEntriesOf st ss (length states) c.rows entries) (t : AreTold st ss (length states) entries told) where
+module _ (fields : FieldTable) (st : Held) (states : List ℕ) (left right : ℕ) (p q : Policy) (a : IsAutomatonOfBoth fields st states left right p q) (bad : List ℕ → List ℕ → List Out) (goal : IsOneSided st states left right (1 + dups_of p) bad) (ss : List (List ℕ)) (ascend : HasAscendingSets ss) (c : CertificateValue) (start : ℕ × ℕ) (entries told : List (ℕ × ℕ)) (s : IsStartEntryOf st ss (length states) c.start start) (es : AreEntriesOf st ss (length states) c.rows entries) (t : AreTold st ss (length states) entries told) where
   -- all dups have labels
   label_is : (positions : List ℕ) → AreLabels (length states) positions ↔ IsPlaceOf p q (behind positions)
   label_is positions =

@@ -10,7 +10,7 @@ use Rattle.nk_policy.specs.Policy.{Policy, dups_of}
 use Rattle.nk_policy.specs.Meaning.{Gives}
 use Rattle.nk_policy.specs.After.{has_dup, after}
 use Rattle.nk_policy.specs.Distinct.{HasDistinct}
-use Rattle.nk_policy.specs.Labels.{IsAt, HasExactly}
+use Rattle.nk_policy.specs.Labels.{HasRecorded, HasExactly}
 use Rattle.nk_policy.specs.PositionSets.{at_position, last_from, IsPositionOfEither}
 use Rattle.nk_policy.proofs.PositionSteps.{one_set, start_of_two, left_gives, right_gives}
 use Rattle.nk_policy.proofs.ListParts.{last_of_list}
@@ -23,7 +23,7 @@ use Rattle.nk_auto.specs.Automaton.{IsState, IsAutomaton}
 use Rattle.nk_auto.proofs.Stating.{label_within}
 use Rattle.nk_reach.specs.Pairs.{Node, HavePlaces}
 use Rattle.nk_reach.specs.Levels.{At, AreLevels}
-use Rattle.nk_reach.specs.Sides.{mark_of, Makes, EndsAt}
+use Rattle.nk_reach.specs.Sides.{mark_of, MakesWithTarget, EndsAt}
 use Rattle.nk_runs.proofs.Listings.{some_decided, sends_decided}
 use Rattle.nk_runs.proofs.Stands.{stands, packet_back}
 use Rattle.nk_runs.proofs.Labelled.{met_in_range, met_labels, labels_met}
@@ -214,7 +214,7 @@ module _ (fields : FieldTable) (p q : Policy) (states : List ℕ) (left right : 
         records = l.1 ++ n.1 ∷ [];
         in_range = to_first l.0 l.2.0;
         last = last_is_last l.0 l.1 n.1;
-        exactly = exact_for (IsAt (either_of p q) l.0 (l.1 ++ n.1 ∷ [])) (IsPositionOfEither p q l.0 (l.1 ++ n.1 ∷ [])) n.0 (either_position p q l.0 l.1 n.1) l.4.1;
+        exactly = exact_for (HasRecorded (either_of p q) l.0 (l.1 ++ n.1 ∷ [])) (IsPositionOfEither p q l.0 (l.1 ++ n.1 ∷ [])) n.0 (either_position p q l.0 l.1 n.1) l.4.1;
         range = to_first n.1 (met_in_range old states start (either_of p q) auto distinct lv.tidy (suc i) n h);
       }
 
@@ -227,7 +227,7 @@ module _ (fields : FieldTable) (p q : Policy) (states : List ℕ) (left right : 
       let c = last_of_list y u in
       let h' : HasExactly (IsAtEither p q pk (c.0 ++ c.1 ∷ [])) s = subst (λ w. HasExactly (IsAtEither p q pk w) s) c.2 h in
       let e = either_at p q pk (c.0 ++ c.1 ∷ []) in
-      let exactly = exact_for (IsAtEither p q pk (c.0 ++ c.1 ∷ [])) (IsAt (either_of p q) pk (c.0 ++ c.1 ∷ [])) s (λ l. ((e l).1, (e l).0)) h' in
+      let exactly = exact_for (IsAtEither p q pk (c.0 ++ c.1 ∷ [])) (HasRecorded (either_of p q) pk (c.0 ++ c.1 ∷ [])) s (λ l. ((e l).1, (e l).0)) h' in
       let at : At old states (0 ∷ []) start (suc (length c.0)) (s, c.1) =
       labels_met old states start (either_of p q) auto distinct lv.tidy (suc (length c.0)) (s, c.1) (pk, c.0, (ok, lv.start_is pk ok), refl, (some, exactly)) in
       let last : last_from pk (y ∷ u) ≡ c.1 = ap (λ w. last_from pk w) c.2 ∙ last_is_last pk c.0 c.1 in
@@ -307,7 +307,7 @@ module _ (fields : FieldTable) (p q : Policy) (states : List ℕ) (left right : 
       let g = right_gives p q (sides_of p q lv.automaton.numbered) r.start r.records y n.0 r.exactly in
       ⊎_elim
       (λ e.
-      let m : Makes (bad n.0 n.1) n.1 y 0 = (o.0.act, subst (λ t. Contains (bad n.0 n.1) (record { act = o.0.act; target = t })) e o.1, refl) in
+      let m : MakesWithTarget (bad n.0 n.1) n.1 y 0 = (o.0.act, subst (λ t. Contains (bad n.0 n.1) (record { act = o.0.act; target = t })) e o.1, refl) in
       let w = (sided.left_alone y).0 m in (
         on_left,
         record { start = r.start; records = r.records; last = y },
@@ -318,7 +318,7 @@ module _ (fields : FieldTable) (p q : Policy) (states : List ℕ) (left right : 
         ),
       ))
       (λ e.
-      let m : Makes (bad n.0 n.1) n.1 y 1 = (o.0.act, subst (λ t. Contains (bad n.0 n.1) (record { act = o.0.act; target = t })) e o.1, refl) in
+      let m : MakesWithTarget (bad n.0 n.1) n.1 y 1 = (o.0.act, subst (λ t. Contains (bad n.0 n.1) (record { act = o.0.act; target = t })) e o.1, refl) in
       let w = (sided.right_alone y).0 m in (
         on_right,
         record { start = r.start; records = r.records; last = y },

@@ -5,7 +5,7 @@ use Rattle.nk_policy.specs.Policy.{Policy, dups_of}
 use Rattle.nk_store.specs.Held.{Held, IsPacket, Grows, AreTidy}
 use Rattle.nk_store.proofs.Stores.{grows_on}
 use Rattle.nk_algebra.specs.Unions.{AreIds}
-use Rattle.nk_determ.specs.Sets.{Ascend}
+use Rattle.nk_determ.specs.Sets.{HasAscendingSets}
 use Rattle.nk_reach.specs.Pairs.{HavePlaces, ArePairs}
 use Rattle.nk_reach.specs.Sides.{alone, ends_of, AreMarked, AreOneSided, IsGoalOf, goal_on}
 use Rattle.nk_reach.proofs.Growing.{states_grow}
@@ -36,7 +36,7 @@ module _ (fields : FieldTable) (first made now : Held) (states : List ℕ) (left
 
   -- what is judged of all rows is what is found of the certificate
   pub found_by : ((set pk : List ℕ) → HavePlaces (length states) set → IsPacket first pk → AreOneSided first states left right bound set pk (alone (ends_of made ends set pk)))
-      → AreTidy now → (ss : List (List ℕ)) → Ascend ss → (c : CertificateValue) (start : ℕ × ℕ) (entries told : List (ℕ × ℕ)) → IsJudge now ss (length states) c start entries told
+      → AreTidy now → (ss : List (List ℕ)) → HasAscendingSets ss → (c : CertificateValue) (start : ℕ × ℕ) (entries told : List (ℕ × ℕ)) → IsJudge now ss (length states) c start entries told
       → (v : Verdict) → IsJudged now ss states (λ set pk. alone (ends_of now ends set pk)) told start c.rows entries v → IsFinding fields p q c (finding_of v)
   found_by sided tidy ss ascend c start entries told j v judged =
       let g = grows_on first made now g1 g2 in

@@ -3,7 +3,7 @@ ghost use Rattle.std.specs.Prelude.{◌≡◌, ◌+◌, ◌<◌, ◌^◌, IfOk};
 ghost use Rattle.nk_field.specs.Packet.{FieldTable};
 ghost use Rattle.nk_policy.specs.Policy.{Policy, marked_from, dups_of};
 ghost use Rattle.nk_policy.specs.Tree.{tree_of};
-ghost use Rattle.nk_policy.specs.Ranges.{IsInRange, IsOver};
+ghost use Rattle.nk_policy.specs.Ranges.{IsInRange, IsOverFields};
 ghost use Rattle.nk_names.specs.Complements.{NegatesPredicates};
 ghost use Rattle.nk_cert.specs.Levelled.{IsAutomatonOfBoth};
 ghost use Rattle.nk_cert.specs.Comparison.{IsComparison};
@@ -35,8 +35,8 @@ pub fn compare_policies(
     requires few { 1 + dups_of (tree_of p.now) + dups_of (tree_of q.now) < 2 ^ 32 }
     requires left_complements { NegatesPredicates (tree_of p.now) }
     requires right_complements { NegatesPredicates (tree_of q.now) }
-    requires left_over { IsOver fields.now (tree_of p.now) }
-    requires right_over { IsOver fields.now (tree_of q.now) }
+    requires left_over { IsOverFields fields.now (tree_of p.now) }
+    requires right_over { IsOverFields fields.now (tree_of q.now) }
     ensures { IfOk result (IsComparison fields.now (tree_of p.now) (tree_of q.now)) }
 {
     let bound = number_behind(p);

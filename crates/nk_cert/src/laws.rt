@@ -15,7 +15,7 @@ ghost use Rattle.nk_store.specs.Held.{Held, IsId, IsPacket, Grows, AreTidy};
 ghost use Rattle.nk_auto.specs.Plain.{Sends};
 ghost use Rattle.nk_auto.specs.Automaton.{IsState, IsAutomaton};
 ghost use Rattle.nk_algebra.specs.Unions.{AreIds};
-ghost use Rattle.nk_determ.specs.Sets.{Differ};
+ghost use Rattle.nk_determ.specs.Sets.{HasEachSetOnce};
 ghost use Rattle.nk_reach.specs.Pairs.{HavePlaces};
 ghost use Rattle.nk_reach.specs.Sides.{alone, ends_of, AreOneSided};
 ghost use Rattle.nk_reach.specs.Breaks.{IsBreak, Breaks};
@@ -158,12 +158,12 @@ pub fn levels_give_the_printed_certificate()
     ensures printed { (fields : FieldTable) (p q : Policy) (states : List ℕ) (left right : ℕ) (first old new final : Held)
         (ss : List (List ℕ)) (set start : ℕ) (bad : List ℕ → List ℕ → List Out) (ls : List (List (ℕ × ℕ)))
         → AreLevelsOfBoth fields p q states left right first old new ss set start bad ls false
-        → Differ ss → Grows old new → Grows new final
+        → HasEachSetOnce ss → Grows old new → Grows new final
         → (c : CertificateValue) → IsCertificateOf new final ss ls c → IsPrinted fields p q c }
     ensures is_one { (fields : FieldTable) (p q : Policy) (states : List ℕ) (left right : ℕ) (first old new final : Held)
         (ss : List (List ℕ)) (set start : ℕ) (bad : List ℕ → List ℕ → List Out) (ls : List (List (ℕ × ℕ)))
         → AreLevelsOfBoth fields p q states left right first old new ss set start bad ls false
-        → Differ ss → Grows old new → Grows new final → IsInRange p fields → IsInRange q fields
+        → HasEachSetOnce ss → Grows old new → Grows new final → IsInRange p fields → IsInRange q fields
         → (c : CertificateValue) → IsCertificateOf new final ss ls c → IsCertificate fields p q c }
 {}
 

@@ -2,7 +2,7 @@
 ghost use Rattle.std.specs.Prelude.{◌≡◌, ◌+◌, ◌<◌, ◌^◌, IfOk};
 ghost use Rattle.nk_policy.specs.Policy.{marked_from, dups_of};
 ghost use Rattle.nk_policy.specs.Tree.{tree_of};
-ghost use Rattle.nk_policy.specs.Ranges.{IsOver};
+ghost use Rattle.nk_policy.specs.Ranges.{IsOverFields};
 ghost use Rattle.nk_names.specs.Complements.{NegatesPredicates};
 ghost use Rattle.nk_cert.specs.Verdicts.{HasPredicates, IsFinding};
 ghost use Rattle.nk_cert.specs.Values.{certificate_value, finding_of};
@@ -52,9 +52,9 @@ fn check_both(
     requires numbered { marked_from (tree_of p.now) 1 ≡ tree_of p.now }
     requires few { 1 + dups_of (tree_of p.now) + dups_of (tree_of q.now) < 2 ^ 32 }
     requires left_complements { NegatesPredicates (tree_of p.now) }
-    requires left_over { IsOver fields.now (tree_of p.now) }
+    requires left_over { IsOverFields fields.now (tree_of p.now) }
     requires right_complements { NegatesPredicates (tree_of q.now) }
-    requires right_over { IsOver fields.now (tree_of q.now) }
+    requires right_over { IsOverFields fields.now (tree_of q.now) }
     requires predicates { HasPredicates (certificate_value certificate.now) }
     ensures { IfOk result (λ v. IsFinding fields.now (tree_of p.now) (marked_from (tree_of q.now) (1 + dups_of (tree_of p.now))) (certificate_value certificate.now) (finding_of v)) }
 {

@@ -8,7 +8,7 @@ use Rattle.nk_field.proofs.Lists.{in_from_contains}
 use Rattle.nk_field.proofs.Ascending.{members_from_all}
 use Rattle.nk_policy.specs.Policy.{Policy, dups_of, is_predicate, marked_from}
 use Rattle.nk_policy.specs.After.{id_policy, has_dup}
-use Rattle.nk_policy.specs.Labels.{IsAt}
+use Rattle.nk_policy.specs.Labels.{HasRecorded}
 use Rattle.nk_policy.proofs.Numbering.{number_within}
 use Rattle.nk_policy.proofs.Splitting.{holds_dup}
 use Rattle.nk_names.specs.ReadBack.{IsReadablePredicate, DeclaresWritable}
@@ -21,7 +21,7 @@ use Rattle.nk_certtext.specs.Printed.{AreCompared, PrintsPrintable, PrintsPredic
 use Rattle.nk_certtext.proofs.PrintedSets.{printed_is_readable}
 
 -- where a run is is one of the policy's dups, which are numbered from n on
-at_within : (p : Policy) (n : ℕ) (pk : Packet) (u : List Packet) (l : ℕ) → marked_from p n ≡ p → IsAt p pk u l
+at_within : (p : Policy) (n : ℕ) (pk : Packet) (u : List Packet) (l : ℕ) → marked_from p n ≡ p → HasRecorded p pk u l
     → l < n + dups_of p
 at_within p n pk u l e a = (number_within p n l (ap (λ r. has_dup r l) e ∙ holds_dup p pk a.0 a.1 l a.3)).1
 

@@ -6,7 +6,7 @@ use Rattle.std.proofs.lemmas.List.{get_or_past}
 use Rattle.std.proofs.lemmas.Bool.Decides.{leb_tells}
 use Rattle.nk_field.specs.Packet.{FieldTable, IsFieldTable, IsValue}
 use Rattle.nk_policy.specs.Policy.{Policy, test, range, seq_of, not_of, no_part, part, depth_of, depths_of, is_predicate, are_predicates}
-use Rattle.nk_policy.specs.Ranges.{IsOver, AllUseOnly}
+use Rattle.nk_policy.specs.Ranges.{IsOverFields, AllUseOnly}
 use Rattle.nk_store.specs.declared.node.Out.{Out}
 use Rattle.nk_store.specs.Diagram.{Branches, leaf, case, no_branch, branch, IsReduced, AreReduced}
 use Rattle.nk_store.specs.Intervals.{same_tree, with_most, values_with}
@@ -16,7 +16,7 @@ use Rattle.nk_sets.specs.Predicate.{SetTree, SetInterval, same_outs, is_empty_se
 -- a predicate over the fields, at most so deep, with no sum or sequence of one part
 record IsGood (fields : FieldTable) (most : ℕ) (p : Policy) : Type 0 where
   predicate : is_predicate p ≡ true
-  over : IsOver fields p
+  over : IsOverFields fields p
   shallow : depth_of p ≤ most
   no_lone_part : HasNoLonePart p
 

@@ -27,7 +27,7 @@ use Rattle.nk_determ.specs.Automaton.{IsAutomaton}
 use Rattle.nk_determ.specs.InOrder.{AreNumbers}
 use Rattle.nk_determ.specs.Levels.{AreLevels, InLevel}
 use Rattle.nk_determ.specs.Pairs.{AreStates, EachPair, HavePlaces, IsPair, Named, Under}
-use Rattle.nk_determ.specs.Sets.{SetsGrow, Ascend}
+use Rattle.nk_determ.specs.Sets.{SetsGrow, HasAscendingSets}
 use Rattle.nk_determ.proofs.Naming.{named_within}
 use Rattle.nk_runs.specs.Labels.{IsAmong}
 use Rattle.nk_runs.proofs.Stands.{stands, are_states}
@@ -199,7 +199,7 @@ module _ (fields : FieldTable) (topo : Topology) (tag : ℕ) (p : Policy) (b : P
         omega (arith, lt', n)))
 
     -- all that tables are made of
-    pub ready_there : Ascend ss → HasFields st → IsReady 0 fields topo p st ss b.states tags
+    pub ready_there : HasAscendingSets ss → HasFields st → IsReady 0 fields topo p st ss b.states tags
     ready_there ascend has = record {
       over = over_there;
       has = has;
@@ -243,7 +243,7 @@ module _ (fields : FieldTable) (topo : Topology) (tag : ℕ) (p : Policy) (b : P
     }
 
     -- so the merged tables can be made
-    pub mergeable_there : IsInRange p fields → Ascend ss → HasFields st → (classes firsts met : List ℕ) → AreTagClasses fields p (sets_of b.sets tags) classes → AreFirsts classes firsts → length met ≡ length tags →
+    pub mergeable_there : IsInRange p fields → HasAscendingSets ss → HasFields st → (classes firsts met : List ℕ) → AreTagClasses fields p (sets_of b.sets tags) classes → AreFirsts classes firsts → length met ≡ length tags →
         ((i : ℕ) → i < length tags → IsMetPackets fields topo p (set_of_tag ss tags i) st (slice_index met i)) → IsMergeable fields topo tag p st ss b.states tags classes firsts met
     mergeable_there in_range ascend has classes firsts met are fm count each = record {
       clear = k.begun.clear;

@@ -20,7 +20,7 @@ use Rattle.nk_store.specs.declared.node.Out.{Out}
 use Rattle.nk_store.specs.Held.{Held, Grows, IsOver, HasFields, IsPacket}
 use Rattle.nk_store.proofs.Stores.{grows_on}
 use Rattle.nk_store.proofs.InRange.{packet_in_range, over_grown}
-use Rattle.nk_determ.specs.Sets.{Differ, Ascend}
+use Rattle.nk_determ.specs.Sets.{HasEachSetOnce, HasAscendingSets}
 use Rattle.nk_auto.specs.Automaton.{IsAutomaton}
 use Rattle.nk_tag.specs.Numbers.{IsAtOdd, AreEntries, AreNumbers}
 use Rattle.nk_runs.specs.Labels.{IsAmong}
@@ -147,13 +147,13 @@ module _ (fields : FieldTable) (topo : Topology) (tag : ℕ) (p : Policy) (old :
   distinct = numbered_distinct p 1 clear.numbered
 
   -- the sets at odd levels in order are the tag sets
-  pub numbers_are_tags : broken ≡ false → Differ ss → (r : List ℕ) → AreNumbers ss ls r → AreTags p (IsStartPacket fields topo) (sets_of ss r)
+  pub numbers_are_tags : broken ≡ false → HasEachSetOnce ss → (r : List ℕ) → AreNumbers ss ls r → AreTags p (IsStartPacket fields topo) (sets_of ss r)
   numbers_are_tags e differ r k =
       tags_too p (IsAmong lv.first lv.start) (IsStartPacket fields topo) among_start start_among (sets_of ss r)
       (are_tags lv.first new ss states lv.set lv.start lv.bad ls p auto_then distinct lv.tidy lv.set_is (subst (AreLevels lv.first new ss states lv.set lv.start lv.bad ls) e lv.are) clear.dups_in_links differ lv.grows r k)
 
   -- where there are so many of them, there are as many tag sets
-  pub many_are_tags : broken ≡ false → Differ ss → (least : ℕ) → AtLeast least (IsAtOdd ls) → AtLeast least (IsTagSet p (IsStartPacket fields topo))
+  pub many_are_tags : broken ≡ false → HasEachSetOnce ss → (least : ℕ) → AtLeast least (IsAtOdd ls) → AtLeast least (IsTagSet p (IsStartPacket fields topo))
   many_are_tags e differ least k =
       let h = many_tags lv.first new ss states lv.set lv.start lv.bad ls p auto_then distinct lv.tidy lv.set_is (subst (AreLevels lv.first new ss states lv.set lv.start lv.bad ls) e lv.are) differ lv.grows least k in
       (h.0, h.1, h.2, λ i d lt. tag_set_too p (IsAmong lv.first lv.start) (IsStartPacket fields topo) among_start start_among (get_or h.0 i d) (h.3 i d lt))
@@ -249,7 +249,7 @@ module _ (fields : FieldTable) (topo : Topology) (tag : ℕ) (p : Policy) (b : P
     prepared_known = let l = k.levelled in numbers_known l.first b.store b.sets b.states l.set l.start l.bad b.levels.levels b.levels.broken l.are r numbers
 
     -- all that the tables are made of is there, behind so many tags that stand for none
-    pub prepared_ready : (first : ℕ) (more : List (List ℕ)) (tags : List ℕ) → Ascend more → HasFields b.store → All (λ s. s < length more) tags →
+    pub prepared_ready : (first : ℕ) (more : List (List ℕ)) (tags : List ℕ) → HasAscendingSets more → HasFields b.store → All (λ s. s < length more) tags →
         sets_of more tags ≡ tags_behind first (sets_of b.sets r) → IsReady first fields topo p b.store more b.states tags
     prepared_ready first more tags ascend has known numbered =
         let grown = grows_on k.before k.levelled.first b.store k.levelled.grew k.levelled.grows in

@@ -10,7 +10,7 @@ use Rattle.nk_store.specs.Held.{Held, IsId, IsWhole, look, Grows, HasLeaves}
 use Rattle.nk_algebra.specs.Leaves.{merged}
 use Rattle.nk_algebra.specs.PacketSets.{has_out, is_in}
 use Rattle.nk_algebra.proofs.Members.{Has, merged_has, merged_left, merged_right}
-use Rattle.nk_determ.specs.Sets.{IsSetOf, SetsGrow, Differ}
+use Rattle.nk_determ.specs.Sets.{IsSetOf, SetsGrow, HasEachSetOnce}
 use Rattle.nk_determ.specs.Pairs.{Under, EachPair}
 use Rattle.nk_switches.specs.Tagged.{set_of_tag}
 use Rattle.nk_switches.proofs.Growing.{set_kept, sets_longer}
@@ -177,7 +177,7 @@ level_known st n levels j k x all u = by levels j (λ l i. members_from_all (λ 
     by (l ∷ ls) (suc j) h u = by ls j (λ q i. h q (inr i)) u
 
 -- the diagram by the number of a set has what some level has under a set with its members
-pub set_met : (base st : Held) (ss more : List (List ℕ)) (levels : List (List (ℕ × ℕ))) (by_set : List ℕ) (e : ℕ) (labels : List ℕ) → SetsGrow ss more → Differ more → length by_set ≡ length more →
+pub set_met : (base st : Held) (ss more : List (List ℕ)) (levels : List (List (ℕ × ℕ))) (by_set : List ℕ) (e : ℕ) (labels : List ℕ) → SetsGrow ss more → HasEachSetOnce more → length by_set ≡ length more →
     All (λ l. All (λ (e : ℕ × ℕ). e.0 < length ss) l) levels → IsSetOf more e labels → AreUnder base st (entries_of levels) by_set → AreMet base ss levels labels st (get_or by_set e 0)
 set_met base st ss more levels by_set e labels grew differ many known is k =
     let here : e < length by_set = subst (λ n. e < n) (sym many) is.within in

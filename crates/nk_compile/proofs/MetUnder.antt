@@ -11,7 +11,7 @@ use Rattle.nk_policy.specs.After.{after}
 use Rattle.nk_policy.specs.Distinct.{HasDistinct}
 use Rattle.nk_policy.specs.Leaves.{has_leaf, is_dup}
 use Rattle.nk_policy.specs.Literals.{Literal, HoldsLiteral, IsAtSource, moved_by}
-use Rattle.nk_policy.specs.Labels.{IsAt, HasExactly, IsLabelSet, IsTagSet}
+use Rattle.nk_policy.specs.Labels.{HasRecorded, HasExactly, IsLabelSet, IsTagSet}
 use Rattle.nk_policy.proofs.LabelSteps.{at_next}
 use Rattle.nk_policy.proofs.LinkStructure.{holds_first, on_link, off_link_at_sources}
 use Rattle.nk_policy.proofs.ListParts.{last_is, last_of_list}
@@ -68,7 +68,7 @@ module _ (topo : Topology) (links : AreLinks topo) (p : Policy) (distinct : HasD
 
   module _ (pk : Packet) (n : ℕ) (front : List Packet) (z : Packet) (odd : length (front ++ z ∷ []) ≡ 2 * n + 1) where
     -- where a run is after an odd list of records
-    source : (l : ℕ) → IsAt p pk (front ++ z ∷ []) l
+    source : (l : ℕ) → HasRecorded p pk (front ++ z ∷ []) l
         → (i : Literal) × HoldsLiteral p i × (i.mark ≡ l) × (link_from topo (slice_index z 0) (slice_index z 1) ≡ Some (i.to_switch, i.to_port))
     source l a =
         let q = odd_at p distinct no_dup n pk (front ++ z ∷ []) l odd a in
@@ -76,9 +76,9 @@ module _ (topo : Topology) (links : AreLinks topo) (p : Policy) (distinct : HasD
         let here = subst (λ y. IsAtSource q.0 y) (sym e) q.3.3 in
         (q.0, q.1, q.2, link_at_source topo links p declared q.0 q.1 z here)
 
-    module _ (x : Packet) (l0 : ℕ) (at : IsAt p pk ((front ++ z ∷ []) ++ x ∷ []) l0) where
+    module _ (x : Packet) (l0 : ℕ) (at : HasRecorded p pk ((front ++ z ∷ []) ++ x ∷ []) l0) where
       -- each label at which it is leads to x, at the label behind it
-      crossed : (l : ℕ) → IsAt p pk (front ++ z ∷ []) l → IsAt p pk ((front ++ z ∷ []) ++ x ∷ []) (l + 1)
+      crossed : (l : ℕ) → HasRecorded p pk (front ++ z ∷ []) l → HasRecorded p pk ((front ++ z ∷ []) ++ x ∷ []) (l + 1)
       crossed l a =
           let c = (at_next p distinct pk front z x l0).0 at in
           let k = source c.0 c.1 in
@@ -90,7 +90,7 @@ module _ (topo : Topology) (links : AreLinks topo) (p : Policy) (distinct : HasD
           (at_next p distinct pk front z x (l + 1)).1 (l, a, subst (λ j. RecordsAt (after p j) z [] x (j + 1)) i.2 there)
 
       -- and it is at no other label there
-      came : (l' : ℕ) → IsAt p pk ((front ++ z ∷ []) ++ x ∷ []) l' → (l : ℕ) × IsAt p pk (front ++ z ∷ []) l × (l' ≡ l + 1)
+      came : (l' : ℕ) → HasRecorded p pk ((front ++ z ∷ []) ++ x ∷ []) l' → (l : ℕ) × HasRecorded p pk (front ++ z ∷ []) l × (l' ≡ l + 1)
       came l' a =
           let c = (at_next p distinct pk front z x l').0 a in
           let k = source c.0 c.1 in
@@ -105,7 +105,7 @@ module _ (topo : Topology) (links : AreLinks topo) (p : Policy) (distinct : HasD
           λ l'. (
             λ c.
                 let m = from_mapped (λ n. n + 1) s l' (in_from_contains (labels_behind s) l' c) in
-                subst (λ n. IsAt p pk ((front ++ z ∷ []) ++ x ∷ []) n) (sym m.2) (crossed m.0 ((h.1.1 m.0).0 (contains_from_in s m.0 m.1))),
+                subst (λ n. HasRecorded p pk ((front ++ z ∷ []) ++ x ∷ []) n) (sym m.2) (crossed m.0 ((h.1.1 m.0).0 (contains_from_in s m.0 m.1))),
             λ a.
                 let m = came l' a in
                 subst (λ n. Contains (labels_behind s) n) (sym m.2) ((behind_has s m.0).0 ((h.1.1 m.0).1 m.1)),
@@ -123,7 +123,7 @@ module _ (topo : Topology) (links : AreLinks topo) (p : Policy) (distinct : HasD
             λ c.
                 let m = came (l + 1) ((h.1.1 (l + 1)).0 ((behind_has s l).0 c)) in
                 let same : m.0 ≡ l = omega (arith, m.2) in
-                subst (λ n. IsAt p pk (front ++ z ∷ []) n) same m.1,
+                subst (λ n. HasRecorded p pk (front ++ z ∷ []) n) same m.1,
             λ a. (behind_has s l).1 ((h.1.1 (l + 1)).1 (crossed l a)),
           ),
         ),
@@ -139,13 +139,13 @@ module _ (topo : Topology) (links : AreLinks topo) (p : Policy) (distinct : HasD
     pub level_of : (s : List ℕ) (x : Packet) → IsMetUnder p Start s x → (j : ℕ) × InLevel new ss ls j (labels_behind s, x)
     level_of s x h = by h.1 h.4 h.5 h.7
       where
-        by : (u : List Packet) → length u ≡ 2 * h.2 + 1 → IsLabelSet p h.0 u s → IsAt p h.0 (u ++ x ∷ []) h.6 → (j : ℕ) × InLevel new ss ls j (labels_behind s, x)
+        by : (u : List Packet) → length u ≡ 2 * h.2 + 1 → IsLabelSet p h.0 u s → HasRecorded p h.0 (u ++ x ∷ []) h.6 → (j : ℕ) × InLevel new ss ls j (labels_behind s, x)
         by [] odd set at = absurd (omega (arith, odd))
         by (y ∷ u) odd set at =
             let c = last_of_list y u in
             let odd' : length (c.0 ++ c.1 ∷ []) ≡ 2 * h.2 + 1 = sym (ap length c.2) ∙ odd in
             let set' = subst (λ v. IsLabelSet p h.0 v s) c.2 set in
-            let at' = subst (λ v. IsAt p h.0 (v ++ x ∷ []) h.6) c.2 at in
+            let at' = subst (λ v. HasRecorded p h.0 (v ++ x ∷ []) h.6) c.2 at in
             let label = set_on h.0 h.2 c.0 c.1 odd' x h.6 at' s set' in
             let met = labels_met old states start p a distinct tidy (suc (length (c.0 ++ c.1 ∷ []))) (labels_behind s, x) (h.0, c.0 ++ c.1 ∷ [], h.3, refl, label) in
             let l = levels.complete refl (suc (length (c.0 ++ c.1 ∷ []))) (labels_behind s, x) (subst (λ q. At old states q start (suc (length (c.0 ++ c.1 ∷ []))) (labels_behind s, x)) (sym from) met) in

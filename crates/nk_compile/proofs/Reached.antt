@@ -12,7 +12,7 @@ use Rattle.nk_policy.specs.Progress.{RecordsAt}
 use Rattle.nk_policy.specs.After.{after}
 use Rattle.nk_policy.specs.Distinct.{HasDistinct}
 use Rattle.nk_policy.specs.Ranges.{IsInRange, AssignsOnly}
-use Rattle.nk_policy.specs.Labels.{IsAt, IsLabelSet}
+use Rattle.nk_policy.specs.Labels.{HasRecorded, IsLabelSet}
 use Rattle.nk_policy.specs.Leaves.{has_leaf, is_on_field}
 use Rattle.nk_policy.specs.Literals.{Literal, HoldsLiteral, IsAtSource, moved_by}
 use Rattle.nk_policy.specs.Crossings.{IsBetween}
@@ -72,7 +72,7 @@ pub record AtState (t : Tables) (p : Policy) (tag : ℕ) (tags : List (List ℕ)
 pub record Reached (t : Tables) (p : Policy) (tag : ℕ) (tags : List (List ℕ)) (pk : Packet) (k : ℕ) (u : List Packet) (tg : ℕ) (x : Packet) : Type 0 where
   pub size : length u ≡ 2 * k
   pub at : AtState t p tag tags tg x
-  pub same : (y : Packet) (l : ℕ) → IsAt p pk (u ++ y ∷ []) l ↔ StateRecords p tags tg x y l
+  pub same : (y : Packet) (l : ℕ) → HasRecorded p pk (u ++ y ∷ []) l ↔ StateRecords p tags tg x y l
   pub ends : (s : Policy) (z : Packet) → IsOfTag p tags tg s → Gives s x [] z → Gives p pk u z
 
 -- each packet sent for a copy is a result of its tag, with the result's tag, and each result is sent once
@@ -195,7 +195,7 @@ module _ (t : Tables) (p : Policy) (tag : ℕ) (tags : List (List ℕ)) (g : Set
 
     -- what is recorded is in range and untagged
     recorded :
-        (u : List Packet) (x : Packet) (l : ℕ) → IsAt p pk (u ++ x ∷ []) l
+        (u : List Packet) (x : Packet) (l : ℕ) → HasRecorded p pk (u ++ x ∷ []) l
         → IsPacket t.fields x × IsZeroAt tag x
     recorded u x l a =
         let e = last_is (map packet_of a.0) a.1 u x a.2 in
@@ -207,7 +207,7 @@ module _ (t : Tables) (p : Policy) (tag : ℕ) (tags : List (List ℕ)) (g : Set
         (records_keep t.fields p g.in_range pk a.0 a.1 l a.3 start.packet, Kept.records_keep (IsOther tag) (IsZeroAt tag) (others_keep tag) p others pk a.0 a.1 l a.3 zero_pk)
 
     -- behind an odd list of records, whose set of labels is that of a tag, and one record more
-    module _ (n : ℕ) (front : List Packet) (z : Packet) (odd : length (front ++ z ∷ []) ≡ 2 * n + 1) (t2 : ℕ) (N : List ℕ) (get : slice_get tags t2 ≡ Some N) (set : IsLabelSet p pk (front ++ z ∷ []) N) (x : Packet) (l0 : ℕ) (at : IsAt p pk ((front ++ z ∷ []) ++ x ∷ []) l0) where
+    module _ (n : ℕ) (front : List Packet) (z : Packet) (odd : length (front ++ z ∷ []) ≡ 2 * n + 1) (t2 : ℕ) (N : List ℕ) (get : slice_get tags t2 ≡ Some N) (set : IsLabelSet p pk (front ++ z ∷ []) N) (x : Packet) (l0 : ℕ) (at : HasRecorded p pk ((front ++ z ∷ []) ++ x ∷ []) l0) where
       -- each member of the set is the first dup of a literal at whose source the last of them is
       source :
           (l : ℕ) → Contains N l
@@ -248,7 +248,7 @@ module _ (t : Tables) (p : Policy) (tag : ℕ) (tags : List (List ℕ)) (g : Set
           ((on_link p g.distinct q.0 q.1).only z y l' (subst (λ j. RecordsAt (after p j) z [] y l') (sym q.2) c)).0
           ∙ ap (λ j. j + 1) q.2
 
-      at_target : (l : ℕ) → Contains N l → IsAt p pk ((front ++ z ∷ []) ++ x ∷ []) (l + 1)
+      at_target : (l : ℕ) → Contains N l → HasRecorded p pk ((front ++ z ∷ []) ++ x ∷ []) (l + 1)
       at_target l m = (at_next p g.distinct pk front z x (l + 1)).1 (l, (set.1.1 l).0 m, crossed l m)
 
       is_member : (labels : List ℕ) → slice_get tags t2 ≡ Some labels → (l : ℕ) → Contains labels l → Contains N l
@@ -256,7 +256,7 @@ module _ (t : Tables) (p : Policy) (tag : ℕ) (tags : List (List ℕ)) (g : Set
 
       next_same :
           (y : Packet) (l : ℕ)
-          → IsAt p pk (((front ++ z ∷ []) ++ x ∷ []) ++ y ∷ []) l ↔ StateRecords p tags (suc t2) x y l
+          → HasRecorded p pk (((front ++ z ∷ []) ++ x ∷ []) ++ y ∷ []) l ↔ StateRecords p tags (suc t2) x y l
       next_same y l = (
         λ a.
             let b = (at_next p g.distinct pk (front ++ z ∷ []) x y l).0 a in
@@ -346,7 +346,7 @@ come t p tag tags g zero x h = record {
 }
 come t p tag tags g (suc i) x h = behind h.2.1 h.2.4 h.2.5 h.2.7
   where
-    behind : (u : List Packet) → length u ≡ 2 * h.2.2 + 1 → IsLabelSet p h.2.0 u h.0 → IsAt p h.2.0 (u ++ x ∷ []) h.2.6 → Come t p tag tags (suc i) x
+    behind : (u : List Packet) → length u ≡ 2 * h.2.2 + 1 → IsLabelSet p h.2.0 u h.0 → HasRecorded p h.2.0 (u ++ x ∷ []) h.2.6 → Come t p tag tags (suc i) x
     behind [] odd set at = absurd (omega (arith, odd))
     behind (y ∷ u) odd set at =
         let c = last_of_list y u in
@@ -355,5 +355,5 @@ come t p tag tags g (suc i) x h = behind h.2.1 h.2.4 h.2.5 h.2.7
           start = h.2.3;
           crossings = suc h.2.2;
           records = (c.0 ++ c.1 ∷ []) ++ x ∷ [];
-          reached = reached_behind t p tag tags g h.2.0 h.2.3 h.2.2 c.0 c.1 (sym (ap length c.2) ∙ odd) i h.0 h.1 (subst (λ v. IsLabelSet p h.2.0 v h.0) c.2 set) x h.2.6 (subst (λ v. IsAt p h.2.0 (v ++ x ∷ []) h.2.6) c.2 at);
+          reached = reached_behind t p tag tags g h.2.0 h.2.3 h.2.2 c.0 c.1 (sym (ap length c.2) ∙ odd) i h.0 h.1 (subst (λ v. IsLabelSet p h.2.0 v h.0) c.2 set) x h.2.6 (subst (λ v. HasRecorded p h.2.0 (v ++ x ∷ []) h.2.6) c.2 at);
         }

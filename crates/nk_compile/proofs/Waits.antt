@@ -13,7 +13,7 @@ use Rattle.nk_policy.specs.Policy.{Policy}
 use Rattle.nk_policy.specs.Meaning.{Gives}
 use Rattle.nk_policy.specs.After.{after}
 use Rattle.nk_policy.specs.Progress.{RecordsAt}
-use Rattle.nk_policy.specs.Labels.{IsAt, HasExactly}
+use Rattle.nk_policy.specs.Labels.{HasRecorded, HasExactly}
 use Rattle.nk_policy.specs.Literals.{Literal, HoldsLiteral, moved_by}
 use Rattle.nk_policy.proofs.Untouched.{IsZeroAt}
 use Rattle.nk_policy.proofs.Splitting.{holds_dup}
@@ -177,7 +177,7 @@ module _ (t : Tables) (p : Policy) (tag : ℕ) (tags : List (List ℕ)) (g : Set
       next_under =
           let m = member_of result.0 result.2 in
           let a = (came.reached.same z m.0).1 ((result.3.1 m.0).0 m.1) in
-          let set : HasExactly (IsAt p came.from (came.records ++ z ∷ [])) result.0 = (result.3.0, λ l. (λ c. (came.reached.same z l).1 ((result.3.1 l).0 c), λ c. (result.3.1 l).1 ((came.reached.same z l).0 c))) in
+          let set : HasExactly (HasRecorded p came.from (came.records ++ z ∷ [])) result.0 = (result.3.0, λ l. (λ c. (came.reached.same z l).1 ((result.3.1 l).0 c), λ c. (result.3.1 l).1 ((came.reached.same z l).0 c))) in
           let odd : length (came.records ++ z ∷ []) ≡ 2 * came.crossings + 1 = omega (arith, came.reached.size, length-append came.records (z ∷ [])) in
           let moved = records_moved z m.0 ((result.3.1 m.0).0 m.1) to leads in
           (result.0, result.1, (came.from, came.records ++ z ∷ [], came.crossings, came.start, odd, (result.2, set), m.0 + 1, (at_next p g.distinct came.from came.records z (moved_to to z) (m.0 + 1)).1 (m.0, a, moved)))
@@ -517,7 +517,7 @@ module _ (t : Tables) (p : Policy) (tag : ℕ) (tags : List (List ℕ)) (g : Set
         (λ N rises exact.
         let has : Contains N f.0 = (exact f.0).1 (own.0, own.1, f.1) in
         let any : N ≢ [] = λ q. empty_has f.0 (subst (λ n. Contains n f.0) q has) in
-        let at : HasExactly (IsAt p r.from (r.records ++ y ∷ [])) N = (rises, λ l. (λ c. (r.reached.same y l).1 ((exact l).0 c), λ c. (exact l).1 ((r.reached.same y l).0 c))) in
+        let at : HasExactly (HasRecorded p r.from (r.records ++ y ∷ [])) N = (rises, λ l. (λ c. (r.reached.same y l).1 ((exact l).0 c), λ c. (exact l).1 ((r.reached.same y l).0 c))) in
         let odd : length (r.records ++ y ∷ []) ≡ 2 * r.crossings + 1 = omega (arith, r.reached.size, length-append r.records (y ∷ [])) in
         let place = g.stand.stands N (r.from, r.records ++ y ∷ [], r.crossings, r.start, odd, (any, at)) in
         let result : IsResult p tags a.state x y (suc place.0) = (N, place.1, any, (rises, exact)) in

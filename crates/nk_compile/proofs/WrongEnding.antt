@@ -19,7 +19,7 @@ use Rattle.nk_runs.specs.Wrong.{AreWrongEnds}
 use Rattle.nk_sets.specs.PacketSets.{has_out}
 use Rattle.nk_reach.specs.Pairs.{AreStates}
 use Rattle.nk_reach.specs.Levels.{AreLevels}
-use Rattle.nk_reach.specs.Sides.{Makes}
+use Rattle.nk_reach.specs.Sides.{MakesWithTarget}
 use Rattle.nk_reach.specs.Breaks.{Breaks}
 use Rattle.nk_reach.specs.Finds.{first_set, first_packets}
 use Rattle.nk_reach.proofs.Settling.{settled}
@@ -150,7 +150,7 @@ least_is topo tag old first mid states goal_states off goal_set from s before ss
   bad = now;
   start_is = subst (λ d. IsSetInRange mid d (is_start topo tag)) (sym (ap (λ (v : List (ℕ × ℕ)). (get_or v 0 (0, 0)).1) are.start_is)) is_from;
   wrong = λ places x y t inside r.
-      subst (λ outs. Makes outs x y t ↔ ((t ≡ 0) × StateLeads mid states places x y 0 × (is_no_edge topo y ≡ true)))
+      subst (λ outs. MakesWithTarget outs x y t ↔ ((t ≡ 0) × StateLeads mid states places x y 0 × (is_no_edge topo y ≡ true)))
       (sym (same places x ∙ ap (λ (r : List ℕ). wrong_leaf mid goal_set r places x) same_states ∙ ap (λ q. wrong_leaf mid q states places x) same_set))
       (ends_wrong mid topo tidy off states is_off passing places x y t inside r);
   least =

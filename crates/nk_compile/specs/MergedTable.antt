@@ -8,7 +8,7 @@ use Rattle.nk_topo.specs.Topology.{Topology}
 use Rattle.nk_policy.specs.Policy.{Policy}
 use Rattle.nk_policy.specs.Meaning.{Gives}
 use Rattle.nk_policy.specs.After.{after}
-use Rattle.nk_policy.specs.Labels.{IsAt, IsLabelSet}
+use Rattle.nk_policy.specs.Labels.{HasRecorded, IsLabelSet}
 use Rattle.nk_policy.specs.Tags.{AreTags}
 use Rattle.nk_store.specs.Diagram.{Diagram, IsReduced, IsFreeOf, leaf_at}
 use Rattle.nk_table.specs.declared.Bucket.{Bucket}
@@ -47,7 +47,7 @@ AreTagClasses fields p tags classes = AreClasses (ArePlacesAlike fields p tags) 
 abbrev pub IsMetUnder : Policy → (Packet → Type 0) → List ℕ → Packet → Type 0
 IsMetUnder p Start labels x =
     (pk : Packet) × (u : List Packet) × (n : ℕ) × Start pk × (length u ≡ 2 * n + 1) × IsLabelSet p pk u labels
-    × (l : ℕ) × IsAt p pk (u ++ x ∷ []) l
+    × (l : ℕ) × HasRecorded p pk (u ++ x ∷ []) l
 
 -- the tag set at this place is of the class
 abbrev pub IsOfClass : List ℕ → ℕ → ℕ → Type 0

@@ -4,7 +4,7 @@ use Rattle.nk_field.specs.Packet.{FieldTable}
 use Rattle.nk_topo.specs.Topology.{Topology}
 use Rattle.nk_policy.specs.Policy.{Policy}
 use Rattle.nk_store.specs.Held.{Held}
-use Rattle.nk_determ.specs.Sets.{Differ}
+use Rattle.nk_determ.specs.Sets.{HasEachSetOnce}
 use Rattle.nk_compile.specs.declared.prepared.Prepared.{Prepared}
 use Rattle.nk_compile.specs.declared.refusal.CompileError.{CompileError}
 use Rattle.nk_compile.specs.declared.refusal.CompileError.TheVariants.{NoMemory, Refused}
@@ -20,7 +20,7 @@ pub record IsPrepared (fields : FieldTable) (topo : Topology) (tag : ℕ) (p : P
   pub begun : IsBegun fields topo tag p before b.states
   pub levelled : IsLevelled topo tag before b.states b.store b.sets b.levels.levels b.levels.broken
   pub whole : b.levels.broken ≡ false
-  pub differ : Differ b.sets
+  pub differ : HasEachSetOnce b.sets
 
 -- why a policy is refused before its tags are numbered; want of memory says nothing
 abbrev pub IsEarlyError : FieldTable → Topology → Policy → CompileError → Type 0

@@ -7,7 +7,7 @@ use Rattle.nk_policy.specs.Leaves.{has_leaf, is_on_field, is_dup, is_switch_assi
 use Rattle.nk_policy.specs.Tags.{AreTags}
 use Rattle.nk_names.specs.Accepted.{IsStartPacket, is_link_outside}
 use Rattle.nk_store.specs.Held.{Held, IsOver, HasFields}
-use Rattle.nk_determ.specs.Sets.{Ascend}
+use Rattle.nk_determ.specs.Sets.{HasAscendingSets}
 use Rattle.nk_auto.specs.Automaton.{IsAutomaton}
 use Rattle.nk_compile.specs.NumberedBehind.{tags_behind}
 use Rattle.nk_compile.specs.Refusals.{seen_with}
@@ -33,7 +33,7 @@ pub record IsReady (first : ℕ) (fields : FieldTable) (topo : Topology) (p : Po
   pub over : IsOver fields st
   pub has : HasFields st
   pub automaton : IsAutomaton st states 1 p
-  pub ascend : Ascend ss
+  pub ascend : HasAscendingSets ss
   pub known : All (λ s. s < length ss) tags
   pub sets : List (List ℕ)
   pub numbered : sets_of ss tags ≡ tags_behind first sets

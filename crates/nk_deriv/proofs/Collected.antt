@@ -16,8 +16,8 @@ use Rattle.nk_policy.proofs.Trees.{tree_of_sum, tree_of_seq}
 use Rattle.nk_policy.proofs.Tests.{both_true, or_left, or_right, same_number}
 use Rattle.nk_policy.proofs.Steps.{left_is}
 use Rattle.nk_deriv.specs.declared.values.Part.{Part}
-use Rattle.nk_deriv.specs.Part.{NegatesPredicates, AllNegatePredicates, IsDupFree, AllDupFree, IsMadeOf, IsLegOf, IsWithin, LegsGive, IsPart}
-use Rattle.nk_deriv.specs.Turns.{IsIn, IsEither, IsRounds, ArePutBehind, AllEnd, AllRecord, AreInTurn, IsCollected, ArePartsOf}
+use Rattle.nk_deriv.specs.Part.{NegatesPredicates, AllNegatePredicates, IsDupFree, AllDupFree, IsBuiltOf, IsLegOf, IsWithin, LegsGive, IsPartOfDerivative}
+use Rattle.nk_deriv.specs.Turns.{IsPlacedIn, IsEither, IsRounds, ArePutBehind, AllEnd, AllRecord, AreInTurn, IsCollected, ArePartsOf}
 use Rattle.nk_deriv.proofs.Silent.{seq_ends, seq_records, none_ends, star_records, star_as, dup_third_ends, dup_third_records}
 use Rattle.nk_deriv.proofs.Steps.{made_drop, made_id}
 use Rattle.nk_deriv.proofs.Legs.{legs_push}
@@ -43,38 +43,38 @@ mutual
       (predicate_dup_free p b.0, predicates_dup_free ps b.1)
 
 -- a policy is in itself
-pub in_itself : (p : Policy) → IsIn p p
+pub in_itself : (p : Policy) → IsPlacedIn p p
 in_itself p = record { over = λ fields h. h; dups = λ l h. h }
 
 -- the first part of a sequence is in what the sequence is in
-pub in_head : (s p : Policy) (ps : Policies) → IsIn s (seq_of (part p ps)) → IsIn s p
+pub in_head : (s p : Policy) (ps : Policies) → IsPlacedIn s (seq_of (part p ps)) → IsPlacedIn s p
 in_head s p ps i = record {
   over = λ fields h. (i.over fields h).0;
   dups = λ l h. i.dups l (or_left (has_dup p l) (some_has_dup ps l) h);
 }
 
 -- and so are the parts behind it
-pub in_tail : (s p : Policy) (ps : Policies) → IsIn s (seq_of (part p ps)) → IsIn s (seq_of ps)
+pub in_tail : (s p : Policy) (ps : Policies) → IsPlacedIn s (seq_of (part p ps)) → IsPlacedIn s (seq_of ps)
 in_tail s p ps i = record {
   over = λ fields h. (i.over fields h).1;
   dups = λ l h. i.dups l (or_right (has_dup p l) (some_has_dup ps l) h);
 }
 
 -- what is made of a policy is made of what that is in
-pub made_in : (s p q : Policy) → IsIn s p → IsMadeOf p q → IsMadeOf s q
+pub made_in : (s p q : Policy) → IsPlacedIn s p → IsBuiltOf p q → IsBuiltOf s q
 made_in s p q i m = record { dup_free = m.dup_free; over = λ fields h. m.over fields (i.over fields h) }
 
 -- so are legs
-legs_in : (s p : Policy) (legs : List (Pol × ℕ)) → IsIn s p → All (IsLegOf p) legs → All (IsLegOf s) legs
+legs_in : (s p : Policy) (legs : List (Pol × ℕ)) → IsPlacedIn s p → All (IsLegOf p) legs → All (IsLegOf s) legs
 legs_in s p legs i h =
     All-weaker (IsLegOf p) (IsLegOf s) (λ leg r. (made_in s p (tree_of leg.0) i r.0, i.dups leg.1 r.1)) legs h
 
 -- and parts
-pub within_in : (s p : Policy) (r : Part) → IsIn s p → IsWithin p r → IsWithin s r
+pub within_in : (s p : Policy) (r : Part) → IsPlacedIn s p → IsWithin p r → IsWithin s r
 within_in s p r i w = record { free = made_in s p (tree_of r.free) i w.free; legs = legs_in s p r.legs i w.legs }
 
 -- what is collected from nothing is the part
-pub part_is : (r : Part) (p : Policy) → IsCollected [] r.legs (tree_of r.free) p → IsPart r p
+pub part_is : (r : Part) (p : Policy) → IsCollected [] r.legs (tree_of r.free) p → IsPartOfDerivative r p
 part_is r p c =
     let w = c.within p (in_itself p) (All-nil (IsLegOf p)) in
     record {
@@ -132,7 +132,7 @@ all_record (s ∷ states) (part p ps) h pk y l = (
 
 -- they are made of what that is in
 pub all_within : (s : Policy) (states : List Part) (ps : Policies) → ArePartsOf states ps
-    → IsIn s (seq_of ps) → All (IsWithin s) states
+    → IsPlacedIn s (seq_of ps) → All (IsWithin s) states
 all_within s [] no_part h i = All-nil (IsWithin s)
 all_within s [] (part p ps) h i = absurd h
 all_within s (q ∷ states) no_part h i = absurd h
@@ -193,7 +193,7 @@ pub collected_one : (old new : List (Pol × ℕ)) (free p : Policy) (ways : Pol)
     → new ≡ old ++ (ways, l) ∷ [] → free ≡ drop_policy
     → ((pk x : Packet) → Gives p pk [] x → ⊥)
     → ((pk y : Packet) (k : ℕ) → ((l ≡ k) × Gives (tree_of ways) pk [] y) ↔ RecordsAt p pk [] y k)
-    → IsMadeOf p (tree_of ways) → has_dup p l ≡ true
+    → IsBuiltOf p (tree_of ways) → has_dup p l ≡ true
     → IsCollected old new free p
 collected_one old new free p ways l e f none first made held =
     let here : IsCollected old (old ++ (ways, l) ∷ []) drop_policy p = record {
@@ -216,7 +216,7 @@ collected_dup old new free ways l w e f =
       λ g. (refl, (none_ends pk y).0 (subst (λ t. Gives t pk [] y) w g.1), sym g.0),
       λ g. (sym g.2, subst (λ t. Gives t pk [] y) (sym w) ((none_ends pk y).1 g.1)),
     ))
-    (subst (IsMadeOf (dup l)) (sym w) (made_id (dup l)))
+    (subst (IsBuiltOf (dup l)) (sym w) (made_id (dup l)))
     (same_number l)
 
 -- a link literal
@@ -231,7 +231,7 @@ collected_link old new free ways a m b n l w e f =
       λ g. t.0 (g.0, subst (λ q. Gives q pk [] y) w g.1),
       λ g. let u = t.1 g in (u.0, subst (λ q. Gives q pk [] y) (sym w) u.1),
     ))
-    (subst (IsMadeOf (link a m b n l)) (sym w) record { dup_free = (tt, (tt, tt)); over = λ fields h. (h.0, (h.1, tt)) })
+    (subst (IsBuiltOf (link a m b n l)) (sym w) record { dup_free = (tt, (tt, tt)); over = λ fields h. (h.0, (h.1, tt)) })
     (or_left (l == l) (l == (l + 1)) (same_number l))
 
 -- the terms and legs so far, and then the parts that are left, come to the whole sum
@@ -239,8 +239,8 @@ pub record IsSumming (old legs : List (Pol × ℕ)) (terms : Policy) (left all :
   pub ends : (pk x : Packet) → (Gives terms pk [] x ⊎ Gives (sum_of left) pk [] x) ↔ Gives (sum_of all) pk [] x
   pub records : (pk y : Packet) (l : ℕ)
       → (LegsGive legs pk y l ⊎ RecordsAt (sum_of left) pk [] y l) ↔ (LegsGive old pk y l ⊎ RecordsAt (sum_of all) pk [] y l)
-  pub within : (s : Policy) → IsIn s (sum_of all) → All (IsLegOf s) old
-      → IsMadeOf s terms × All (IsLegOf s) legs × IsIn s (sum_of left)
+  pub within : (s : Policy) → IsPlacedIn s (sum_of all) → All (IsLegOf s) old
+      → IsBuiltOf s terms × All (IsLegOf s) legs × IsPlacedIn s (sum_of left)
   pub complements : AllNegatePredicates left
 
 -- at first all parts are left
@@ -287,7 +287,7 @@ summing_one old legs legs' terms terms' free p left all c e inv = record {
   );
   within = λ s i o.
       let h = inv.within s i o in
-      let whole : IsIn s (seq_of (part p left)) = record { over = h.2.over; dups = h.2.dups } in
+      let whole : IsPlacedIn s (seq_of (part p left)) = record { over = h.2.over; dups = h.2.dups } in
       let rest = in_tail s p left whole in
       let here = c.within s (in_head s p left whole) h.1 in
       (e.within s h.0 here.0, here.1, record { over = rest.over; dups = rest.dups });
@@ -332,7 +332,7 @@ summing_done old legs terms xs i le h =
 
 -- one more policy with its part
 pub parts_push : (states : List Part) (xs : List Pol) (s : Part) (q : Pol) → ArePartsOf states (trees_of xs)
-    → IsPart s (tree_of q) → ArePartsOf (states ++ s ∷ []) (trees_of (xs ++ q ∷ []))
+    → IsPartOfDerivative s (tree_of q) → ArePartsOf (states ++ s ∷ []) (trees_of (xs ++ q ∷ []))
 parts_push [] [] s q h p = (p, tt)
 parts_push [] (x ∷ xs) s q h p = absurd h
 parts_push (t ∷ states) [] s q h p = absurd h
@@ -371,7 +371,7 @@ collected_not legs free p q e f h =
 
 -- the policies so far have their parts, and one more has
 pub parts_next : (xs : List Pol) (i : ℕ) (q : Pol) (states new : List Part) (s : Part)
-    → i < length xs → q ≡ get_or xs i q → new ≡ states ++ s ∷ [] → IsPart s (tree_of q)
+    → i < length xs → q ≡ get_or xs i q → new ≡ states ++ s ∷ [] → IsPartOfDerivative s (tree_of q)
     → ArePartsOf states (trees_of (take i xs)) → ArePartsOf new (trees_of (take (i + 1) xs))
 parts_next xs i q states new s lt is e p h =
     let more : take (i + 1) xs ≡ take i xs ++ q ∷ [] = take_more xs i q lt ∙ ap (λ r. take i xs ++ r ∷ []) (sym is) in

@@ -9,7 +9,7 @@ use Rattle.nk_policy.specs.Tree.{tree_of}
 use Rattle.nk_policy.specs.Meaning.{Gives}
 use Rattle.nk_policy.specs.After.{id_policy}
 use Rattle.nk_deriv.specs.declared.values.Part.{Part}
-use Rattle.nk_deriv.specs.Part.{IsMadeOf, IsLegOf, IsWithin, LegsGive}
+use Rattle.nk_deriv.specs.Part.{IsBuiltOf, IsLegOf, IsWithin, LegsGive}
 use Rattle.nk_deriv.specs.Turns.{is_drop, IsTurn, ArePutBehind, AllEnd, AllRecord, AreInTurn, IsContinued}
 use Rattle.nk_deriv.proofs.Silent.{none_ends}
 use Rattle.nk_deriv.proofs.Steps.{drop_ends, made_id}
@@ -21,7 +21,7 @@ pub record IsTurning (old legs : List (Pol × ℕ)) (free : Policy) (left all : 
       → (LegsGive legs pk y l ⊎ ((z : Packet) × Gives free pk [] z × AllRecord left z y l))
       ↔ (LegsGive old pk y l ⊎ AllRecord all pk y l)
   pub within : (s : Policy) → All (IsLegOf s) old → All (IsWithin s) all
-      → IsMadeOf s free × All (IsLegOf s) legs × All (IsWithin s) left
+      → IsBuiltOf s free × All (IsLegOf s) legs × All (IsWithin s) left
 
 -- at first all states are left
 pub turning_none : (old : List (Pol × ℕ)) (free : Policy) (all : List Part) → free ≡ id_policy

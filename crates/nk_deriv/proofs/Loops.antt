@@ -16,8 +16,8 @@ use Rattle.nk_policy.proofs.Remade.{numbers_are}
 use Rattle.nk_policy.proofs.DupsOfRuns.{rest_dups}
 use Rattle.nk_policy.proofs.Uses.{rest_uses}
 use Rattle.nk_deriv.specs.declared.values.Part.{Part}
-use Rattle.nk_deriv.specs.Part.{AllNegatePredicates, IsMadeOf, IsLegOf, IsWithin, LegsGive, IsPart}
-use Rattle.nk_deriv.specs.Turns.{IsIn, ArePartsOf, IsContinued, IsFollowed, AreRests}
+use Rattle.nk_deriv.specs.Part.{AllNegatePredicates, IsBuiltOf, IsLegOf, IsWithin, LegsGive, IsPartOfDerivative}
+use Rattle.nk_deriv.specs.Turns.{IsPlacedIn, ArePartsOf, IsContinued, IsFollowed, AreRests}
 use Rattle.nk_deriv.proofs.Silent.{none_ends}
 use Rattle.nk_deriv.proofs.Steps.{made_id}
 use Rattle.nk_deriv.proofs.Collected.{in_itself, within_in}
@@ -161,7 +161,7 @@ resting_done old out next rest xs i le h =
     subst (λ ls. AreRests old out (rest (trees_of xs)) ls next) (sym (append-nil inv.done) ∙ inv.labels) inv.rests
 
 -- followed by the end alone
-pub part_of_rest : (r end : Part) (s : Policy) → tree_of end.free ≡ id_policy → end.legs ≡ [] → IsFollowed r s end → IsPart r s
+pub part_of_rest : (r end : Part) (s : Policy) → tree_of end.free ≡ id_policy → end.legs ≡ [] → IsFollowed r s end → IsPartOfDerivative r s
 part_of_rest r end s e f h = record {
   ends = λ pk x. (
     λ g.
@@ -179,26 +179,26 @@ part_of_rest r end s e f h = record {
     λ g. (h.records pk y l).1 (inl g),
   );
   within = h.within s (in_itself s) record {
-    free = subst (IsMadeOf s) (sym e) (made_id s);
+    free = subst (IsBuiltOf s) (sym e) (made_id s);
     legs = subst (All (IsLegOf s)) (sym f) (All-nil (IsLegOf s));
   };
 }
 
 -- what is left of a policy is in the policy
-pub in_rest : (p : Policy) (l : ℕ) → IsIn p (after p l)
+pub in_rest : (p : Policy) (l : ℕ) → IsPlacedIn p (after p l)
 in_rest p l = record { over = λ fields h. rest_uses (IsValue fields) p l h; dups = λ k h. rest_dups p l k h }
 
 -- the entries are the parts of what is left
 pub parts_of_rests : (out : List (ℕ × Part)) (end : Part) (p : Policy) → tree_of end.free ≡ id_policy → end.legs ≡ []
     → AreRests [] out (after p) (numbers_of p) end
-    → (map (λ e. e.0) out ≡ numbers_of p) × All (λ e. IsPart e.1 (after p e.0)) out × All (λ e. IsWithin p e.1) out
+    → (map (λ e. e.0) out ≡ numbers_of p) × All (λ e. IsPartOfDerivative e.1 (after p e.0)) out × All (λ e. IsWithin p e.1) out
 parts_of_rests out end p e f h =
-    let parts : All (λ t. IsPart t.1 (after p t.0)) h.added =
-    All-weaker (λ t. IsFollowed t.1 (after p t.0) end) (λ t. IsPart t.1 (after p t.0)) (λ t g. part_of_rest t.1 end (after p t.0) e f g) h.added h.follow in
+    let parts : All (λ t. IsPartOfDerivative t.1 (after p t.0)) h.added =
+    All-weaker (λ t. IsFollowed t.1 (after p t.0) end) (λ t. IsPartOfDerivative t.1 (after p t.0)) (λ t g. part_of_rest t.1 end (after p t.0) e f g) h.added h.follow in
     let within : All (λ t. IsWithin p t.1) h.added =
-    All-weaker (λ t. IsPart t.1 (after p t.0)) (λ t. IsWithin p t.1) (λ t g. within_in p (after p t.0) t.1 (in_rest p t.0) g.within) h.added parts in
+    All-weaker (λ t. IsPartOfDerivative t.1 (after p t.0)) (λ t. IsWithin p t.1) (λ t g. within_in p (after p t.0) t.1 (in_rest p t.0) g.within) h.added parts in
     let is : out ≡ h.added = h.is in
-    (ap (map (λ t. t.0)) is ∙ h.labelled, subst (All (λ t. IsPart t.1 (after p t.0))) (sym is) parts, subst (All (λ t. IsWithin p t.1)) (sym is) within)
+    (ap (map (λ t. t.0)) is ∙ h.labelled, subst (All (λ t. IsPartOfDerivative t.1 (after p t.0))) (sym is) parts, subst (All (λ t. IsWithin p t.1)) (sym is) within)
 
 -- marks that are numbered within 32 bits
 mutual

@@ -13,7 +13,7 @@ use Rattle.nk_policy.specs.Progress.{RecordsAt}
 use Rattle.nk_policy.specs.After.{id_policy, drop_policy, after}
 use Rattle.nk_policy.proofs.Tests.{both_true, or_left, same_number, next_number}
 use Rattle.nk_deriv.specs.declared.values.Part.{Part}
-use Rattle.nk_deriv.specs.Part.{NegatesPredicates, IsMadeOf, IsLegOf, IsWithin, LegsGive, IsPart}
+use Rattle.nk_deriv.specs.Part.{NegatesPredicates, IsBuiltOf, IsLegOf, IsWithin, LegsGive, IsPartOfDerivative}
 use Rattle.nk_deriv.specs.Turns.{ArePartsOf, IsContinued, IsFollowed, AreRests}
 use Rattle.nk_deriv.proofs.Silent.{seq_ends, seq_records, none_ends, dup_third_ends, dup_third_records, id_first_ends, id_first_records}
 use Rattle.nk_deriv.proofs.Steps.{made_drop}
@@ -200,9 +200,9 @@ followed_first r next moved b n l f e w = record {
         g),
   );
   within = λ p i n. record {
-    free = subst (IsMadeOf p) (sym f) (made_drop p);
+    free = subst (IsBuiltOf p) (sym f) (made_drop p);
     legs = subst (All (IsLegOf p)) (sym e) (All-cons (IsLegOf p) (moved, l + 1) []
-        (subst (IsMadeOf p) (sym w) record { dup_free = (tt, (tt, tt)); over = λ fields h. let t = i.over fields h in (t.1.0, (t.1.1.0, tt)) }, i.dups (l + 1) (or_left ((l + 1) == (l + 1)) false (same_number (l + 1))))
+        (subst (IsBuiltOf p) (sym w) record { dup_free = (tt, (tt, tt)); over = λ fields h. let t = i.over fields h in (t.1.0, (t.1.1.0, tt)) }, i.dups (l + 1) (or_left ((l + 1) == (l + 1)) false (same_number (l + 1))))
         (All-nil (IsLegOf p)));
   };
 }
@@ -224,7 +224,7 @@ rests_link old mid new next r r' moved a m b n l d e f g w c =
 
 -- what is left of a star
 pub rests_star : (old new : List (ℕ × Part)) (star next behind : Part) (q : Policy)
-    → IsPart star (star_of q) → IsContinued behind (star ∷ []) next
+    → IsPartOfDerivative star (star_of q) → IsContinued behind (star ∷ []) next
     → AreRests old new (after q) (numbers_of q) behind
     → AreRests old new (after (star_of q)) (numbers_of q) next
 rests_star old new star next behind q s c a =

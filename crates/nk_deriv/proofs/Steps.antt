@@ -12,7 +12,7 @@ use Rattle.nk_policy.specs.declared.policy.Pol.TheViews.{Sum}
 use Rattle.nk_policy.specs.declared.policy.Pols.{Pols}
 use Rattle.nk_policy.proofs.Trees.{joined, tree_of_sum}
 use Rattle.nk_policy.proofs.Tests.{false_true}
-use Rattle.nk_deriv.specs.Part.{IsMadeOf}
+use Rattle.nk_deriv.specs.Part.{IsBuiltOf}
 use Rattle.nk_deriv.specs.Turns.{is_drop, steps_of, IsTurn, IsRounds, IsEither}
 use Rattle.nk_deriv.proofs.Silent.{seq_ends, none_ends, no_rounds, star_none}
 
@@ -77,16 +77,16 @@ pub drop_ends : (p : Policy) → is_drop p ≡ true → (pk x : Packet) → Give
 drop_ends p h pk x g = subst (λ q. Gives q pk [] x) (drop_is p h) g
 
 -- the empty sum is made of any policy
-pub made_drop : (s : Policy) → IsMadeOf s drop_policy
+pub made_drop : (s : Policy) → IsBuiltOf s drop_policy
 made_drop s = record { dup_free = tt; over = λ fields h. tt }
 
 -- and so is the empty sequence
-pub made_id : (s : Policy) → IsMadeOf s id_policy
+pub made_id : (s : Policy) → IsBuiltOf s id_policy
 made_id s = record { dup_free = tt; over = λ fields h. tt }
 
 -- parts that are made of a policy, as a sequence
-pub made_joined : (s : Policy) (ps qs : Policies) → IsMadeOf s (seq_of ps) → IsMadeOf s (seq_of qs)
-    → IsMadeOf s (seq_of (joined ps qs))
+pub made_joined : (s : Policy) (ps qs : Policies) → IsBuiltOf s (seq_of ps) → IsBuiltOf s (seq_of qs)
+    → IsBuiltOf s (seq_of (joined ps qs))
 made_joined s no_part qs a b = b
 made_joined s (part p ps) qs a b =
     let rest = made_joined s ps qs record { dup_free = a.dup_free.1; over = λ fields h. (a.over fields h).1 } b in
@@ -96,11 +96,11 @@ made_joined s (part p ps) qs a b =
     }
 
 -- one part alone
-made_one : (s p : Policy) → IsMadeOf s p → IsMadeOf s (seq_of (part p no_part))
+made_one : (s p : Policy) → IsBuiltOf s p → IsBuiltOf s (seq_of (part p no_part))
 made_one s p a = record { dup_free = (a.dup_free, tt); over = λ fields h. (a.over fields h, tt) }
 
 -- the steps of a policy
-pub made_steps : (s p : Policy) → IsMadeOf s p → IsMadeOf s (seq_of (steps_of p))
+pub made_steps : (s p : Policy) → IsBuiltOf s p → IsBuiltOf s (seq_of (steps_of p))
 made_steps s (test f n) a = made_one s (test f n) a
 made_steps s (range f lo hi) a = made_one s (range f lo hi) a
 made_steps s (assign f n) a = made_one s (assign f n) a
@@ -125,21 +125,21 @@ turn_of r p q xs ys is e f =
         λ g.
             subst (λ s. Gives s pk [] x) whole ((joined_ends (steps_of p) (steps_of q) pk x).1 (g.0, (steps_end p pk g.0).1 g.1, (steps_end q g.0 x).1 g.2)),
       );
-      within = λ s a b. subst (IsMadeOf s) whole (made_joined s (steps_of p) (steps_of q) (made_steps s p a) (made_steps s q b));
+      within = λ s a b. subst (IsBuiltOf s) whole (made_joined s (steps_of p) (steps_of q) (made_steps s p a) (made_steps s q b));
     }
 
 -- where the first of them drops each packet
 pub turn_drop_first : (r p q : Policy) → r ≡ drop_policy → is_drop p ≡ true → IsTurn r p q
 turn_drop_first r p q is h = record {
   ends = λ pk x. (λ g. absurd (subst (λ s. Gives s pk [] x) is g), λ g. absurd (drop_ends p h pk g.0 g.1));
-  within = λ s a b. subst (IsMadeOf s) (sym is) (made_drop s);
+  within = λ s a b. subst (IsBuiltOf s) (sym is) (made_drop s);
 }
 
 -- where the second does
 pub turn_drop_second : (r p q : Policy) → r ≡ drop_policy → is_drop q ≡ true → IsTurn r p q
 turn_drop_second r p q is h = record {
   ends = λ pk x. (λ g. absurd (subst (λ s. Gives s pk [] x) is g), λ g. absurd (drop_ends q h g.0 x g.2));
-  within = λ s a b. subst (IsMadeOf s) (sym is) (made_drop s);
+  within = λ s a b. subst (IsBuiltOf s) (sym is) (made_drop s);
 }
 
 -- rounds of the empty sum are none
@@ -149,14 +149,14 @@ rounds_of_drop r p is h = record {
     λ g. star_none p pk x ((none_ends pk x).0 (subst (λ s. Gives s pk [] x) is g)),
     λ g. subst (λ s. Gives s pk [] x) (sym is) ((none_ends pk x).1 (no_rounds p (drop_ends p h) pk x g)),
   );
-  within = λ s a. subst (IsMadeOf s) (sym is) (made_id s);
+  within = λ s a. subst (IsBuiltOf s) (sym is) (made_id s);
 }
 
 -- rounds of any other policy are its star
 pub rounds_of_star : (r p : Policy) → r ≡ star_of p → IsRounds r p
 rounds_of_star r p is = record {
   ends = λ pk x. (λ g. subst (λ s. Gives s pk [] x) is g, λ g. subst (λ s. Gives s pk [] x) (sym is) g);
-  within = λ s a. subst (IsMadeOf s) (sym is) record { dup_free = a.dup_free; over = a.over };
+  within = λ s a. subst (IsBuiltOf s) (sym is) record { dup_free = a.dup_free; over = a.over };
 }
 
 -- one more term of a sum
@@ -180,8 +180,8 @@ push_ends (part p ps) q pk x = (
 )
 
 -- it is made of what the others are made of
-push_made : (s : Policy) (ps : Policies) (q : Policy) → IsMadeOf s (sum_of ps) → IsMadeOf s q
-    → IsMadeOf s (sum_of (joined ps (part q no_part)))
+push_made : (s : Policy) (ps : Policies) (q : Policy) → IsBuiltOf s (sum_of ps) → IsBuiltOf s q
+    → IsBuiltOf s (sum_of (joined ps (part q no_part)))
 push_made s no_part q a b = record { dup_free = (b.dup_free, tt); over = λ fields h. (b.over fields h, tt) }
 push_made s (part p ps) q a b =
     let rest = push_made s ps q record { dup_free = a.dup_free.1; over = λ fields h. (a.over fields h).1 } b in
@@ -201,7 +201,7 @@ either_push xs ys y e =
         λ g. (push_ends (trees_of xs) (tree_of y) pk x).0 (subst (λ s. Gives s pk [] x) (sym whole) g),
         λ g. subst (λ s. Gives s pk [] x) whole ((push_ends (trees_of xs) (tree_of y) pk x).1 g),
       );
-      within = λ s a b. subst (IsMadeOf s) whole (push_made s (trees_of xs) (tree_of y) a b);
+      within = λ s a b. subst (IsBuiltOf s) whole (push_made s (trees_of xs) (tree_of y) a b);
     }
 
 -- a term that drops each packet may be left out
@@ -211,7 +211,7 @@ either_drop r p q is h = record {
     λ g. inl (subst (λ s. Gives s pk [] x) is g),
     λ g. ⊎_elim (λ a. subst (λ s. Gives s pk [] x) (sym is) a) (λ b. absurd (drop_ends q h pk x b)) g,
   );
-  within = λ s a b. subst (IsMadeOf s) (sym is) a;
+  within = λ s a b. subst (IsBuiltOf s) (sym is) a;
 }
 
 -- the empty list has no length

@@ -10,7 +10,7 @@ use Rattle.nk_policy.specs.Tree.{tree_of}
 use Rattle.nk_policy.specs.Meaning.{Gives}
 use Rattle.nk_policy.specs.Progress.{RecordsAt}
 use Rattle.nk_policy.specs.After.{has_dup}
-use Rattle.nk_policy.specs.Ranges.{IsOver}
+use Rattle.nk_policy.specs.Ranges.{IsOverFields}
 use Rattle.nk_deriv.specs.declared.values.Part.{Part}
 
 -- no dup and no link literal, and each complement is of a predicate
@@ -32,17 +32,17 @@ abbrev mutual
   AllDupFree (part p ps) = IsDupFree p × AllDupFree ps
 
 -- q is dup-free, and over all fields that p is over
-pub record IsMadeOf (p q : Policy) : Type 0 where
+pub record IsBuiltOf (p q : Policy) : Type 0 where
   pub dup_free : IsDupFree q
-  pub over : (fields : FieldTable) → IsOver fields p → IsOver fields q
+  pub over : (fields : FieldTable) → IsOverFields fields p → IsOverFields fields q
 
 -- the policy of the leg is made of p, and its label is one of p's dups
 abbrev pub IsLegOf : Policy → Pol × ℕ → Type 0
-IsLegOf p leg = IsMadeOf p (tree_of leg.0) × (has_dup p leg.1 ≡ true)
+IsLegOf p leg = IsBuiltOf p (tree_of leg.0) × (has_dup p leg.1 ≡ true)
 
 -- all that a part has is made of p
 pub record IsWithin (p : Policy) (part : Part) : Type 0 where
-  pub free : IsMadeOf p (tree_of part.free)
+  pub free : IsBuiltOf p (tree_of part.free)
   pub legs : All (IsLegOf p) part.legs
 
 -- some leg of label l ends at y
@@ -52,7 +52,7 @@ LegsGive (leg ∷ legs) pk y l = ((leg.1 ≡ l) × Gives (tree_of leg.0) pk [] y
 
 -- The part is that of the state s: the policy s ends at x without a record exactly where the part's free policy does,
 -- and it records next, first of all, y at its dup l exactly where some leg of label l ends at y.
-pub record IsPart (part : Part) (s : Policy) : Type 0 where
+pub record IsPartOfDerivative (part : Part) (s : Policy) : Type 0 where
   pub ends : (pk x : Packet) → Gives (tree_of part.free) pk [] x ↔ Gives s pk [] x
   pub records : (pk y : Packet) (l : ℕ) → LegsGive part.legs pk y l ↔ RecordsAt s pk [] y l
   pub within : IsWithin s part

@@ -3,7 +3,7 @@ ghost use Rattle.std.specs.Prelude.{◌≡◌, ℕ, ◌+◌, ◌≤◌, ◌^◌,
 ghost use Rattle.nk_policy.specs.Policy.{dups_of, marked_from, numbers_of};
 ghost use Rattle.nk_policy.specs.Tree.{tree_of};
 ghost use Rattle.nk_policy.specs.After.{after};
-ghost use Rattle.nk_deriv.specs.Part.{NegatesPredicates, IsWithin, IsPart};
+ghost use Rattle.nk_deriv.specs.Part.{NegatesPredicates, IsWithin, IsPartOfDerivative};
 
 use crate::first::part_of;
 use crate::rest::rests;
@@ -20,9 +20,9 @@ pub fn parts(alloc: Global, p: &Pol) -> Result<Parts, AllocError>
     requires numbered { (f : ℕ) × (f + dups_of (tree_of p.now) ≤ 2 ^ 32)
         × (marked_from (tree_of p.now) f ≡ tree_of p.now) }
     requires complements { NegatesPredicates (tree_of p.now) }
-    ensures first { IfOk result (λ r. IsPart r.first (tree_of p.now)) }
+    ensures first { IfOk result (λ r. IsPartOfDerivative r.first (tree_of p.now)) }
     ensures labels { IfOk result (λ r. map (λ e. e.0) r.after ≡ numbers_of (tree_of p.now)) }
-    ensures after { IfOk result (λ r. All (λ e. IsPart e.1 (after (tree_of p.now) e.0)) r.after) }
+    ensures after { IfOk result (λ r. All (λ e. IsPartOfDerivative e.1 (after (tree_of p.now) e.0)) r.after) }
     ensures within { IfOk result (λ r. All (λ e. IsWithin (tree_of p.now) e.1) r.after) }
 {
     let free = keeping(alloc);

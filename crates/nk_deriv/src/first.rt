@@ -2,7 +2,7 @@
 ghost use Rattle.std.specs.Prelude.{◌≡◌, IfOk, OnOk};
 ghost use Rattle.nk_policy.specs.Policy.{test, sum_of, seq_of, no_part, part};
 ghost use Rattle.nk_policy.specs.Tree.{tree_of, trees_of};
-ghost use Rattle.nk_deriv.specs.Part.{NegatesPredicates, AllNegatePredicates, IsPart};
+ghost use Rattle.nk_deriv.specs.Part.{NegatesPredicates, AllNegatePredicates, IsPartOfDerivative};
 ghost use Rattle.nk_deriv.specs.Turns.{IsCollected, IsEither, ArePartsOf};
 
 use crate::turns::{dropping, in_turn, is_drop, keeping, put_behind, repeated};
@@ -14,7 +14,7 @@ use std::alloc::{AllocError, Global};
 /// The part of a policy. The only error is that memory ran out.
 pub fn part_of(alloc: Global, p: &Pol) -> Result<Part, AllocError>
     requires complements { NegatesPredicates (tree_of p.now) }
-    ensures { IfOk result (λ r. IsPart r (tree_of p.now)) }
+    ensures { IfOk result (λ r. IsPartOfDerivative r (tree_of p.now)) }
 {
     let mut legs = List::new(alloc);
     let free = collected(alloc, p, &mut legs)?;

@@ -11,7 +11,7 @@ use Rattle.std.proofs.lemmas.List.Folds.{list_any-append}
 use Rattle.std.proofs.lemmas.List.Sums.{passes_at_first}
 use Rattle.std.proofs.lemmas.Map.Made.{AllPairs-from_IsDistinct}
 use Rattle.nk_field.proofs.Thens.{order}
-use Rattle.nk_determ.specs.Sets.{SetsGrow, IsSetOf, Differ, holds, with_set, place_in}
+use Rattle.nk_determ.specs.Sets.{SetsGrow, IsSetOf, HasEachSetOnce, holds, with_set, place_in}
 
 -- the test of equal lists of labels tells whether they are one
 pub labels_decide : (xs ys : List ℕ) → Decides (pointwise nat_eq xs ys) (xs ≡ ys)
@@ -54,7 +54,7 @@ stored_set sets i k labels at same = record {
 }
 
 -- sets of which no two are equal differ
-pub distinct_differ : (sets : List (List ℕ)) → IsDistinct (pointwise nat_eq) sets → Differ sets
+pub distinct_differ : (sets : List (List ℕ)) → IsDistinct (pointwise nat_eq) sets → HasEachSetOnce sets
 distinct_differ sets d i j li lj e =
     let apart : AllPairs (λ x y. x ≢ y) sets = AllPairs-from_IsDistinct labels_decide sets d in
     elim (order i j) [
@@ -100,7 +100,7 @@ pub place_grow : (old new : List (List ℕ)) (labels : List ℕ) → SetsGrow ol
 place_grow old new labels g h = ap (λ s. place_in s labels) g.1 ∙ found_still (pointwise nat_eq labels) old g.0 h
 
 -- the number of labels that were put in is their place, whatever sets come later
-pub number_placed : (old new : List (List ℕ)) (i : ℕ) (labels : List ℕ) → new ≡ with_set old labels → Differ new → IsSetOf new i labels →
+pub number_placed : (old new : List (List ℕ)) (i : ℕ) (labels : List ℕ) → new ≡ with_set old labels → HasEachSetOnce new → IsSetOf new i labels →
     (later : List (List ℕ)) → SetsGrow new later → i ≡ place_in later labels
 number_placed old new i labels e d s later g =
     let h : holds new labels ≡ true = ap (λ zs. holds zs labels) e ∙ set_there old labels in

@@ -7,8 +7,8 @@ use Rattle.nk_store.specs.Held.{Held}
 use Rattle.nk_determ.specs.Pairs.{Node, IsStart, IsStep}
 
 -- the outs make the packet y, with that target
-abbrev pub Makes : List Out → List ℕ → List ℕ → ℕ → Type 0
-Makes outs pk y t = (g : List (ℕ × ℕ)) × Contains outs (record { act = g; target = t }) × (y ≡ applied g pk)
+abbrev pub MakesWithTarget : List Out → List ℕ → List ℕ → ℕ → Type 0
+MakesWithTarget outs pk y t = (g : List (ℕ × ℕ)) × Contains outs (record { act = g; target = t }) × (y ≡ applied g pk)
 
 -- from m on these packets are recorded, each by one step, and the last step leads to n
 abbrev pub Walks : (Node → Node → Type 0) → Node → List (List ℕ) → Node → Type 0
@@ -21,7 +21,7 @@ pub record IsBreak (st : Held) (states set : List ℕ) (start : ℕ) (bad : List
   pub starts : IsStart st set start (set, f.start)
   pub end : Node
   pub walk : Walks (IsStep st states) (set, f.start) f.records end
-  pub makes : Makes (bad end.0 end.1) end.1 f.last target
+  pub makes : MakesWithTarget (bad end.0 end.1) end.1 f.last target
 
 -- the same by a bad final with any target
 abbrev pub Breaks : Held → List ℕ → List ℕ → ℕ → (List ℕ → List ℕ → List Out) → Found → Type 0

@@ -42,8 +42,8 @@ abbrev pub IsAtOdd : List (List (ℕ × ℕ)) → ℕ → Type 0
 IsAtOdd ls s = IsNamedAt (odd_level ls) s
 
 -- the first odd level that names the set
-abbrev pub IsFirst : List (List (ℕ × ℕ)) → ℕ → ℕ → Type 0
-IsFirst ls s j = IsFirstAt (odd_level ls) s j
+abbrev pub IsFirstNaming : List (List (ℕ × ℕ)) → ℕ → ℕ → Type 0
+IsFirstNaming ls s j = IsFirstAt (odd_level ls) s j
 
 -- the first set comes before the second at odd levels
 abbrev pub IsNumberedBefore : List (List ℕ) → List (List (ℕ × ℕ)) → ℕ → ℕ → Type 0

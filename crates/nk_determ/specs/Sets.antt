@@ -26,9 +26,9 @@ pub record IsSetOf (sets : List (List ℕ)) (i : ℕ) (labels : List ℕ) : Type
   pub members : slice_index_or sets i [] ≡ labels
 
 -- two numbers with equal members are one
-abbrev pub Differ : List (List ℕ) → Type 0
-Differ sets = (i j : ℕ) → i < length sets → j < length sets → slice_index_or sets i [] ≡ slice_index_or sets j [] → i ≡ j
+abbrev pub HasEachSetOnce : List (List ℕ) → Type 0
+HasEachSetOnce sets = (i j : ℕ) → i < length sets → j < length sets → slice_index_or sets i [] ≡ slice_index_or sets j [] → i ≡ j
 
 -- the labels of each set ascend
-abbrev pub Ascend : List (List ℕ) → Type 0
-Ascend sets = (i : ℕ) → IsStrictlyIncreasing (slice_index_or sets i [])
+abbrev pub HasAscendingSets : List (List ℕ) → Type 0
+HasAscendingSets sets = (i : ℕ) → IsStrictlyIncreasing (slice_index_or sets i [])

@@ -42,8 +42,8 @@ abbrev pub AreLedTo : List (List ℕ) → Held → List ℕ → List ℕ → Lis
 AreLedTo sets st ds pk y i = IsSetOfMet sets i (λ l. SomeLeads st ds pk y l)
 
 -- those labels are all with which some state records what the act makes of the packet
-abbrev pub IsFollowed : List (List ℕ) → Held → List ℕ → List ℕ → List ℕ → List (ℕ × ℕ) → ℕ → Type 0
-IsFollowed sets st states labels pk g i = IsSetOfMet sets i (λ l. StateSends st states labels pk g l)
+abbrev pub IsLedByAct : List (List ℕ) → Held → List ℕ → List ℕ → List ℕ → List (ℕ × ℕ) → ℕ → Type 0
+IsLedByAct sets st states labels pk g i = IsSetOfMet sets i (λ l. StateSends st states labels pk g l)
 
 -- those labels are all with which some state records the packet, made y
 abbrev pub IsLedTo : List (List ℕ) → Held → List ℕ → List ℕ → List ℕ → List ℕ → ℕ → Type 0

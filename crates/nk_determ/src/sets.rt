@@ -1,7 +1,7 @@
 //! Sets of labels, each once.
 ghost use Rattle.std.specs.Prelude.{◌≡◌, ℕ, ◌+◌, ◌<◌, ◌^◌, true, [], List as Items, IfOk, OnOk, OnErr, length, slice_index_or};
 ghost use Rattle.std.specs.List.Sorted.{IsStrictlyIncreasing};
-ghost use Rattle.nk_determ.specs.Sets.{SetsGrow, IsSetOf, Differ, Ascend, holds, with_set, place_in};
+ghost use Rattle.nk_determ.specs.Sets.{SetsGrow, IsSetOf, HasEachSetOnce, HasAscendingSets, holds, with_set, place_in};
 
 use indexmap::IndexSet;
 use nk_field::List;
@@ -64,13 +64,13 @@ pub struct Sets {
 
 impl Model for Sets {
     ghost use Rattle.std.specs.Prelude.{ℕ, List as Items};
-    ghost use Rattle.nk_determ.specs.Sets.{Ascend};
+    ghost use Rattle.nk_determ.specs.Sets.{HasAscendingSets};
 
     ghost Value = { Items (Items ℕ) };
 
     ghost view = { λ s. s.sets.keys };
 
-    ghost invariant = { λ s. Ascend s.sets.keys };
+    ghost invariant = { λ s. HasAscendingSets s.sets.keys };
 }
 
 impl Sets {
@@ -114,8 +114,8 @@ impl Sets {
 
     /// States what holds of all sets, and does nothing: two numbers with equal members are one, and labels ascend.
     pub fn differ(&self)
-        ensures differ { Differ self.now }
-        ensures ascend { Ascend self.now }
+        ensures differ { HasEachSetOnce self.now }
+        ensures ascend { HasAscendingSets self.now }
     {
         let _count = self.sets.len();
     }

@@ -10,7 +10,7 @@ ghost use Rattle.nk_algebra.specs.Unions.{AreIds};
 ghost use Rattle.nk_determ.specs.Exact.{split_leaf, AreExact, Sends};
 ghost use Rattle.nk_determ.specs.Sets.{SetsGrow};
 ghost use Rattle.nk_determ.specs.Branches.{branches, labels};
-ghost use Rattle.nk_determ.specs.States.{SomeSends, SomeLeads, IsRegrouped, AreRegrouped, AreFollowed, AreLedTo, StateSends, StateLeads, IsFollowed, IsLedTo, HaveEach, IsTogether, IsStateOf, IsThere, HasAll, HasSets, final_of, out_to_set, branch_outs, regrouped};
+ghost use Rattle.nk_determ.specs.States.{SomeSends, SomeLeads, IsRegrouped, AreRegrouped, AreFollowed, AreLedTo, StateSends, StateLeads, IsLedByAct, IsLedTo, HaveEach, IsTogether, IsStateOf, IsThere, HasAll, HasSets, final_of, out_to_set, branch_outs, regrouped};
 
 use crate::branches::{Branch, branches_of, labels_in};
 use crate::sets::{SetId, Sets};
@@ -37,7 +37,7 @@ pub fn state(st: &mut Store, ss: &mut Sets, states: &[Id], s: SetId) -> Result<I
         ↔ StateSends st.old states.now (slice_index_or ss.old s []) pk g 0) }
     ensures next { IfOk result (λ r. (pk : Items ℕ) (g : Items (ℕ × ℕ)) (i : ℕ) → IsWhole pk →
         Contains (look st.new r pk) (record { act = g; target = i + 1 }) →
-        IsFollowed ss.new st.old states.now (slice_index_or ss.old s []) pk g i) }
+        IsLedByAct ss.new st.old states.now (slice_index_or ss.old s []) pk g i) }
     ensures recorded { IfOk result (λ r. (pk : Items ℕ) (g : Items (ℕ × ℕ)) (l : ℕ) → IsWhole pk → 0 < l →
         StateSends st.old states.now (slice_index_or ss.old s []) pk g l →
         (i : ℕ) × Contains (look st.new r pk) (record { act = g; target = i + 1 })) }

@@ -2,7 +2,7 @@
 use Rattle.std.proofs.Common.{◌≡◌, ◌≤◌, ◌+◌, ℕ, List, [], ◌∷◌, ◌++◌, refl, sym, ◌∙◌, ap, append_assoc, arith}
 use Rattle.std.proofs.lemmas.List.Elements.{All-tail}
 use Rattle.std.specs.Prelude.{All}
-use Rattle.nk_lex.specs.Spelling.{Lexeme, IsApart, AreApart, text_of, tokens_from, CutsLexemes}
+use Rattle.nk_lex.specs.Spelling.{Lexeme, IsApart, AreSeparate, text_of, tokens_from, CutsLexemes}
 use Rattle.nk_lex.specs.declared.word.Number.{Number}
 use Rattle.nk_grammar.specs.Terminal.{Terminal, colon, outside, certificate_word, row_word, start_word}
 use Rattle.nk_grammar.specs.Grammar.{Pol, spell_pol}
@@ -21,7 +21,7 @@ line_feed_apart : (r : List Lexeme) → IsApart Lexeme.line_feed r
 line_feed_apart [] = tt
 line_feed_apart (y ∷ ys) = refl
 
-predicate_apart : (line : ℕ) (p : Pol) (r : List Lexeme) → IsPolOn line p → AreApart r → AreApart (lexemes_of_predicate p r)
+predicate_apart : (line : ℕ) (p : Pol) (r : List Lexeme) → IsPolOn line p → AreSeparate r → AreSeparate (lexemes_of_predicate p r)
 predicate_apart line p r on a = (
   tt,
   refl,
@@ -43,7 +43,7 @@ number_before m [] p r = refl
 number_before m (n ∷ ns) p r = refl
 
 numbers_apart : (line : ℕ) (ns : List Number) (p : Pol) (r : List Lexeme) → All (IsNumberOn line) ns
-    → AreApart (lexemes_of_predicate p r) → AreApart (lexemes_of_numbers ns ++ lexemes_of_predicate p r)
+    → AreSeparate (lexemes_of_predicate p r) → AreSeparate (lexemes_of_numbers ns ++ lexemes_of_predicate p r)
 numbers_apart line [] p r on a = a
 numbers_apart line (n ∷ ns) p r on a = (
   tt,
@@ -51,7 +51,7 @@ numbers_apart line (n ∷ ns) p r on a = (
   ((on 0 n (omega arith)).0, number_before n.value ns p r, numbers_apart line ns p r (All-tail (IsNumberOn line) n ns on) a),
 )
 
-rows_apart : (ws : List WrittenRow) (line : ℕ) → AreRowsOn line ws → AreApart (lexemes_of_rows ws)
+rows_apart : (ws : List WrittenRow) (line : ℕ) → AreRowsOn line ws → AreSeparate (lexemes_of_rows ws)
 rows_apart [] line on = tt
 rows_apart (written_row l n ns p ∷ ws) line on = (
   (refl, refl),
@@ -68,7 +68,7 @@ rows_apart (written_row l n ns p ∷ ws) line on = (
   ),
 )
 
-certificate_apart : (p : Pol) (ws : List WrittenRow) → IsPolOn 2 p → AreRowsOn 3 ws → AreApart (lexemes_of_certificate p ws)
+certificate_apart : (p : Pol) (ws : List WrittenRow) → IsPolOn 2 p → AreRowsOn 3 ws → AreSeparate (lexemes_of_certificate p ws)
 certificate_apart p ws on rows = (
   (refl, refl),
   refl,

@@ -3,7 +3,7 @@ use Rattle.std.proofs.Common.{◌≡◌, ◌≤◌, ◌+◌, ℕ, List, [], ◌�
 use Rattle.std.specs.Prelude.{⊤}
 use Rattle.nk_lex.specs.declared.kind.Kind.TheVariants as kind
 use Rattle.nk_lex.specs.Kinds.{kind_of_name}
-use Rattle.nk_lex.specs.Spelling.{Sign, Lexeme, is_colon, begins_with_equal, IsApart, AreApart, sign_bytes, sign_kind, text_of, tokens_from, CutsLexemes}
+use Rattle.nk_lex.specs.Spelling.{Sign, Lexeme, is_colon, begins_with_equal, IsApart, AreSeparate, sign_bytes, sign_kind, text_of, tokens_from, CutsLexemes}
 use Rattle.nk_lex.specs.declared.word.Word.{Word}
 use Rattle.nk_lex.specs.declared.word.Number.{Number}
 use Rattle.nk_grammar.specs.Terminal.{Terminal, name, number, equal, outside, let_word, plus_sign, semicolon, star_sign, opening, closing, terminal_from}
@@ -56,27 +56,27 @@ space_apart (y ∷ ys) = refl
 
 module _ (line : ℕ) where
   mutual
-    pub pol_apart : (p : Pol) (r : List Lexeme) → IsPolOn line p → EndsPolicy r → AreApart r → AreApart (lexemes_of_pol p ++ r)
+    pub pol_apart : (p : Pol) (r : List Lexeme) → IsPolOn line p → EndsPolicy r → AreSeparate r → AreSeparate (lexemes_of_pol p ++ r)
     pol_apart (one_term t) r on e a = term_apart t r on e a
     pol_apart (plus p t) r on e a =
-        subst AreApart (sym (append_assoc (lexemes_of_pol p) (Lexeme.space ∷ Lexeme.sign Sign.plus ∷ Lexeme.space ∷ lexemes_of_term t) r))
+        subst AreSeparate (sym (append_assoc (lexemes_of_pol p) (Lexeme.space ∷ Lexeme.sign Sign.plus ∷ Lexeme.space ∷ lexemes_of_term t) r))
         (pol_apart p (Lexeme.space ∷ Lexeme.sign Sign.plus ∷ Lexeme.space ∷ lexemes_of_term t ++ r) on.0 tt
         (tt, refl, (tt, refl, (tt, space_apart (lexemes_of_term t ++ r), term_apart t r on.1 e a))))
 
-    term_apart : (t : Term) (r : List Lexeme) → IsTermOn line t → EndsPolicy r → AreApart r → AreApart (lexemes_of_term t ++ r)
+    term_apart : (t : Term) (r : List Lexeme) → IsTermOn line t → EndsPolicy r → AreSeparate r → AreSeparate (lexemes_of_term t ++ r)
     term_apart (one_factor f) r on e a = factor_apart f r on e a
     term_apart (semi t f) r on e a =
-        subst AreApart (sym (append_assoc (lexemes_of_term t) (Lexeme.sign Sign.semicolon ∷ lexemes_of_factor f) r))
+        subst AreSeparate (sym (append_assoc (lexemes_of_term t) (Lexeme.sign Sign.semicolon ∷ lexemes_of_factor f) r))
         (term_apart t (Lexeme.sign Sign.semicolon ∷ lexemes_of_factor f ++ r) on.0 tt
         (tt, sign_apart Sign.semicolon (lexemes_of_factor f ++ r) refl, factor_apart f r on.1 e a))
 
-    factor_apart : (f : Factor) (r : List Lexeme) → IsFactorOn line f → EndsPolicy r → AreApart r → AreApart (lexemes_of_factor f ++ r)
+    factor_apart : (f : Factor) (r : List Lexeme) → IsFactorOn line f → EndsPolicy r → AreSeparate r → AreSeparate (lexemes_of_factor f ++ r)
     factor_apart (plain x) r on e a = atom_apart x r on e a
     factor_apart (starred f) r on e a =
-        subst AreApart (sym (append_assoc (lexemes_of_factor f) (Lexeme.sign Sign.star ∷ []) r))
+        subst AreSeparate (sym (append_assoc (lexemes_of_factor f) (Lexeme.sign Sign.star ∷ []) r))
         (factor_apart f (Lexeme.sign Sign.star ∷ r) on tt (tt, sign_apart Sign.star r refl, a))
 
-    atom_apart : (x : Atom) (r : List Lexeme) → IsAtomOn line x → EndsPolicy r → AreApart r → AreApart (lexemes_of_atom x ++ r)
+    atom_apart : (x : Atom) (r : List Lexeme) → IsAtomOn line x → EndsPolicy r → AreSeparate r → AreSeparate (lexemes_of_atom x ++ r)
     atom_apart (written_not l x) r on e a =
         (tt, sign_apart Sign.tilde (lexemes_of_atom x ++ r) refl, atom_apart x r on.1 e a)
     atom_apart written_id r on e a = ((refl, refl), word_apart (codes "id") r e, a)
@@ -92,7 +92,7 @@ module _ (line : ℕ) where
     atom_apart (paren p) r on e a = (
       tt,
       sign_apart Sign.open_parenthesis ((lexemes_of_pol p ++ Lexeme.sign Sign.close_parenthesis ∷ []) ++ r) refl,
-      subst AreApart (sym (append_assoc (lexemes_of_pol p) (Lexeme.sign Sign.close_parenthesis ∷ []) r))
+      subst AreSeparate (sym (append_assoc (lexemes_of_pol p) (Lexeme.sign Sign.close_parenthesis ∷ []) r))
           (pol_apart p (Lexeme.sign Sign.close_parenthesis ∷ r) on tt (tt, sign_apart Sign.close_parenthesis r refl, a)),
     )
 
@@ -184,7 +184,7 @@ module _ (line : ℕ) where
 -- ---- a `let`
 
 -- the lexemes of a `let` stand apart
-let_apart : (w : Word) (p : Pol) → IsWordOn 1 w → IsPolOn 1 p → AreApart (lexemes_of_let w p)
+let_apart : (w : Word) (p : Pol) → IsWordOn 1 w → IsPolOn 1 p → AreSeparate (lexemes_of_let w p)
 let_apart w p on all = (
   (refl, refl),
   refl,
@@ -203,7 +203,7 @@ let_apart w p on all = (
           (
             tt,
             space_apart (lexemes_of_pol p),
-            subst AreApart (append-nil (lexemes_of_pol p)) (pol_apart 1 p [] all tt tt),
+            subst AreSeparate (append-nil (lexemes_of_pol p)) (pol_apart 1 p [] all tt tt),
           ),
         ),
       ),

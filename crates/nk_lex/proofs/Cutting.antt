@@ -13,7 +13,7 @@ use Rattle.nk_lex.specs.declared.front.Front.TheVariants as front
 use Rattle.nk_lex.specs.Classes.{is_digit, is_name_byte, is_name_start, is_white}
 use Rattle.nk_lex.specs.Kinds.{kind_of_name}
 use Rattle.nk_lex.specs.Lex.{cut, front_of, go_on, largest, line_after, number_of, scan, token, value_of, with_length, with_token, tokens_of, answer}
-use Rattle.nk_lex.specs.Spelling.{Sign, plus, semicolon, star, tilde, open_parenthesis, close_parenthesis, equal, becomes, fat_arrow, arrow, colon, comma, slash, dots, open_bracket, close_bracket, sign_bytes, sign_kind, Lexeme, space, line_feed, word, numeral, sign, text_of, tokens_from, IsWord, is_colon, begins_with_equal, IsApart, AreApart}
+use Rattle.nk_lex.specs.Spelling.{Sign, plus, semicolon, star, tilde, open_parenthesis, close_parenthesis, equal, becomes, fat_arrow, arrow, colon, comma, slash, dots, open_bracket, close_bracket, sign_bytes, sign_kind, Lexeme, space, line_feed, word, numeral, sign, text_of, tokens_from, IsWord, is_colon, begins_with_equal, IsApart, AreSeparate}
 use Rattle.nk_lex.proofs.Steps.{skipped}
 use Rattle.nk_lex.proofs.Digits.{StopsAt, run_is, Digits, digits_of}
 
@@ -265,7 +265,7 @@ digit_no_equal : (b : ℕ) → is_digit b ≡ true → (b == 61) ≡ false
 digit_no_equal b h = grind (arith, nat_tests)
 
 -- what stands apart behind a lexeme doesn't make it longer
-stops_behind : (x : Lexeme) (ys : List Lexeme) → IsApart x ys → AreApart ys → StopsAt (extends x) (text_of ys)
+stops_behind : (x : Lexeme) (ys : List Lexeme) → IsApart x ys → AreSeparate ys → StopsAt (extends x) (text_of ys)
 stops_behind space ys a h = blank_stops (text_of ys)
 stops_behind line_feed ys a h = blank_stops (text_of ys)
 stops_behind x [] a h = tt
@@ -294,7 +294,7 @@ stops_behind (sign s) (sign t ∷ ys) a h =
 -- ---- all lexemes
 
 -- the scan of a text of lexemes
-scan_all : (xs : List Lexeme) (line at : ℕ) → AreApart xs → scan (text_of xs) 0 line at ≡ (tokens_from line at xs, None)
+scan_all : (xs : List Lexeme) (line at : ℕ) → AreSeparate xs → scan (text_of xs) 0 line at ≡ (tokens_from line at xs, None)
 scan_all [] line at h = refl
 scan_all (space ∷ xs) line at h = one_cut 32 [] (text_of xs) line at None refl ∙ scan_all xs line (at + 1) h.2
 scan_all (line_feed ∷ xs) line at h = one_cut 10 [] (text_of xs) line at None refl ∙ scan_all xs (line + 1) (at + 1) h.2
@@ -308,5 +308,5 @@ scan_all (sign s ∷ xs) line at h =
     sign_cut s (text_of xs) line at (stops_behind (sign s) xs h.1 h.2)
     ∙ ap (with_token (token_of_sign s line at)) (scan_all xs line (at + length (sign_bytes s)) h.2)
 
-pub cuts : (xs : List Lexeme) → AreApart xs → tokens_of (text_of xs) ≡ Ok (tokens_from 1 0 xs)
+pub cuts : (xs : List Lexeme) → AreSeparate xs → tokens_of (text_of xs) ≡ Ok (tokens_from 1 0 xs)
 cuts xs h = ap answer (scan_all xs 1 0 h)

@@ -10,7 +10,7 @@ use Rattle.nk_lex.specs.declared.token.LexError.TheVariants as error
 use Rattle.nk_lex.specs.declared.settling.Next.{Next}
 use Rattle.nk_lex.specs.declared.unfinished.Pending.TheVariants as pending
 use Rattle.nk_lex.specs.Classes.{is_white}
-use Rattle.nk_lex.specs.Lex.{Fails, cut, cut_front, front_of, line_after, HasToken, IsFault}
+use Rattle.nk_lex.specs.Lex.{Fails, cut, cut_front, front_of, line_after, HasToken, IsFaultOfText}
 use Rattle.nk_lex.proofs.Cuts.{settle_after, front_settles, whole_opens}
 use Rattle.nk_lex.specs.Kept.{IsKept, IsPendingWithin, pending_of}
 use Rattle.nk_lex.specs.NextPiece.{Fits, IsNext, has_whole, wanted}
@@ -151,13 +151,13 @@ err_of (Ok x) p = tt
 err_of (Err e) p = p
 
 -- a fault that isn't want of memory is the text's
-pub fails_is : {Y : Type 0} (e : LexError) (read : Result Y LexError) → IsFault e → Fails e read → read ≡ Err e
+pub fails_is : {Y : Type 0} (e : LexError) (read : Result Y LexError) → IsFaultOfText e → Fails e read → read ≡ Err e
 fails_is error.NoMemory read f h = absurd f
 fails_is (error.BadByte line) read f h = h
 fails_is (error.NumberTooLarge line) read f h = h
 
 pub stop_next : {E : Type 0} (r : Result Next E) (before ts : List Token) (s : Settled) (e : LexError)
-    → (IsFault e → (ts ≡ before ++ s.0) × (s.1 ≡ Fault e)) → OnOk r (IsFault e)
+    → (IsFaultOfText e → (ts ≡ before ++ s.0) × (s.1 ≡ Fault e)) → OnOk r (IsFaultOfText e)
     → IfOk r (λ n. n.tokens.items ≡ ts) → IfOk r (λ n. n.pending ≡ pending.Fault e) → IfOk r (λ n. n.held.items ≡ [])
     → IfOk r (IsNext before s)
 stop_next (Ok n) before ts s e l f t p h = record {

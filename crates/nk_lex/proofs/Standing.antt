@@ -20,7 +20,7 @@ use Rattle.nk_lex.specs.declared.front.Front.TheVariants as front
 use Rattle.nk_lex.specs.Classes.{is_digit, is_name_byte, is_name_start, is_white, not_line_feed}
 use Rattle.nk_lex.specs.Kinds.{kind_of_name}
 use Rattle.nk_lex.specs.Lex.{Scanned, after, cut, front_of, go_on, largest, line_after, number_of, one_byte, scan, single_of, starts_with_byte, symbol_of, token, value_of, with_length}
-use Rattle.nk_lex.specs.Spans.{Ascend, line_feeds, span_of, tokens_before_fault}
+use Rattle.nk_lex.specs.Spans.{StandInOrder, line_feeds, span_of, tokens_before_fault}
 
 -- what holds of each element, and of one more in front
 pub all_cons : {X : Type 0} (P : X → Type 0) (x : X) (xs : List X) → P x → All P xs → All P (x ∷ xs)
@@ -315,14 +315,14 @@ is_cut front.Bad text pre bytes at line f fits s = tt
 -- ---- the scan
 
 -- what stands behind a place stands behind an earlier one
-ascend_from : (m k : ℕ) (ts : List Token) → k ≤ m → Ascend m ts → Ascend k ts
+ascend_from : (m k : ℕ) (ts : List Token) → k ≤ m → StandInOrder m ts → StandInOrder k ts
 ascend_from m k [] h a = tt
 ascend_from m k (t ∷ ts) h a = (omega (arith, a.0), a.1, a.2)
 
 -- each token stands in the text, one behind the other
 record AllStand (text : List ℕ) (from : ℕ) (ts : List Token) : Type 0 where
   stand : All (Stands text) ts
-  ascend : Ascend from ts
+  ascend : StandInOrder from ts
 
 one_more : (text : List ℕ) (at n : ℕ) (r : Result (ℕ × Option Token) LexError) (next : ℕ → Scanned) → 0 < n
     → IsCut text at n r → AllStand text (at + n) (next n).0 → AllStand text at (go_on r next).0
@@ -334,7 +334,7 @@ one_more text at n (Ok (m, Some t)) next some c a = rw c.0 (record {
   ascend = (
     omega (arith, c.1.start),
     omega (arith, c.1.start, c.1.end),
-    subst (λ k. Ascend k (next n).0) (sym c.1.end) a.ascend,
+    subst (λ k. StandInOrder k (next n).0) (sym c.1.end) a.ascend,
   );
 })
 
@@ -414,7 +414,7 @@ pub values_are_small : (text : List ℕ) → All (λ t. t.value ≤ largest) (to
 values_are_small text k d h = ((whole_text text).stand k d h).small
 
 pub spans_ascend : (text : List ℕ)
-    → Ascend 0 (tokens_before_fault text) × All (λ t. t.end ≤ length text) (tokens_before_fault text)
+    → StandInOrder 0 (tokens_before_fault text) × All (λ t. t.end ≤ length text) (tokens_before_fault text)
 spans_ascend text = ((whole_text text).ascend, (λ k d h. ((whole_text text).stand k d h).within))
 
 pub names_are_slices : (text : List ℕ)

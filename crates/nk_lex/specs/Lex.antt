@@ -156,6 +156,6 @@ HasToken (Ok (n, Some t)) = ⊤
 HasToken r = ⊥
 
 -- the text has a fault, and memory didn't run out
-abbrev pub IsFault : LexError → Type 0
-IsFault error.NoMemory = ⊥
-IsFault e = ⊤
+abbrev pub IsFaultOfText : LexError → Type 0
+IsFaultOfText error.NoMemory = ⊥
+IsFaultOfText e = ⊤

@@ -23,9 +23,9 @@ abbrev pub line_feeds : List ℕ → ℕ
 line_feeds text = count_by (λ b. b == 10) text
 
 -- the tokens stand one behind the other from this place on, each with a byte at least
-abbrev pub Ascend : ℕ → List Token → Type 0
-Ascend from [] = ⊤
-Ascend from (t ∷ ts) = (from ≤ t.start) × (t.start < t.end) × Ascend t.end ts
+abbrev pub StandInOrder : ℕ → List Token → Type 0
+StandInOrder from [] = ⊤
+StandInOrder from (t ∷ ts) = (from ≤ t.start) × (t.start < t.end) × StandInOrder t.end ts
 
 -- no token's value is above the largest number
 abbrev pub ValuesAreSmall : Type 0
@@ -33,7 +33,7 @@ ValuesAreSmall = (text : List ℕ) → All (λ t. t.value ≤ largest) (tokens_b
 
 -- the spans ascend, don't overlap, and stand in the text
 abbrev pub SpansAscend : Type 0
-SpansAscend = (text : List ℕ) → Ascend 0 (tokens_before_fault text)
+SpansAscend = (text : List ℕ) → StandInOrder 0 (tokens_before_fault text)
     × All (λ t. t.end ≤ length text) (tokens_before_fault text)
 
 -- a name's text is what stands in its span

@@ -136,13 +136,13 @@ IsApart x [] = ⊤
 IsApart x (y ∷ ys) = merges x y ≡ false
 
 -- lexemes none of which makes the one before it longer
-abbrev pub AreApart : List Lexeme → Type 0
-AreApart [] = ⊤
-AreApart (x ∷ xs) = IsLexeme x × IsApart x xs × AreApart xs
+abbrev pub AreSeparate : List Lexeme → Type 0
+AreSeparate [] = ⊤
+AreSeparate (x ∷ xs) = IsLexeme x × IsApart x xs × AreSeparate xs
 
 -- the text of such lexemes is cut into their tokens
 abbrev pub CutsLexemes : Type 0
-CutsLexemes = (xs : List Lexeme) → AreApart xs → tokens_of (text_of xs) ≡ Ok (tokens_from 1 0 xs)
+CutsLexemes = (xs : List Lexeme) → AreSeparate xs → tokens_of (text_of xs) ≡ Ok (tokens_from 1 0 xs)
 
 -- what a text has as a name is one
 abbrev pub NamesAreNames : Type 0

@@ -20,7 +20,7 @@ ghost use Rattle.nk_lex.specs.declared.token.LexError.TheVariants.{NoMemory};
 ghost use Rattle.nk_lex.specs.declared.unfinished.Pending.TheVariants.{Fault, Held};
 ghost use Rattle.std.specs.List.{list_all};
 ghost use Rattle.nk_lex.specs.Classes.{is_digit, is_name_byte, not_line_feed};
-ghost use Rattle.nk_lex.specs.Lex.{largest, IsFault, Returns};
+ghost use Rattle.nk_lex.specs.Lex.{largest, IsFaultOfText, Returns};
 ghost use Rattle.nk_lex.specs.Kept.{pending_of, IsPendingWithin};
 ghost use Rattle.nk_lex.specs.NextPiece.{
   end_answer,
@@ -162,7 +162,7 @@ fn stopped(alloc: Global, tokens: Vec<Token>, line: u64, fault: LexError) -> Nex
 
 /// The same, unless memory ran out.
 fn stop(alloc: Global, tokens: Vec<Token>, line: u64, error: LexError) -> Result<Next, AllocError>
-    ensures fault { OnOk result (IsFault error) }
+    ensures fault { OnOk result (IsFaultOfText error) }
     ensures tokens { IfOk result (λ n. n.tokens.items ≡ tokens.items) }
     ensures line { IfOk result (λ n. n.line ≡ line) }
     ensures pending { IfOk result (λ n. n.pending ≡ Fault error) }

@@ -7,7 +7,7 @@ use Rattle.nk_field.proofs.Lists.{numbers_decided, stable}
 use Rattle.nk_store.specs.declared.node.Out.{Out}
 use Rattle.nk_store.specs.Held.{Held, IsPacket}
 use Rattle.nk_determ.specs.Pairs.{Node, HavePlaces, IsStart, IsStep}
-use Rattle.nk_determ.specs.Breaks.{Walks, Makes, IsBreak, Breaks}
+use Rattle.nk_determ.specs.Breaks.{Walks, MakesWithTarget, IsBreak, Breaks}
 use Rattle.nk_determ.specs.Levels.{At, InLevel, Bad}
 use Rattle.nk_reach.specs.Sides.{alone, alone_sided, ends_of, EndsAt, AreOneSided}
 use Rattle.nk_reach.specs.Finds.{first_packets, target_of}
@@ -74,13 +74,13 @@ module _ (st : Held) (ss : List (List ℕ)) (states s t : List ℕ) (twice : Twi
     right y = right_ends st states twice.rows tw.rows tw.states_are lv.tidy s t sp tp sa ta x w n r walk start y
 
     -- a final with target 0 makes what the first set gives alone, and one with target 1 what the second set does
-    made_left : (y : List ℕ) → Makes (bad_in st twice n.0 n.1) n.1 y 0 ↔ (SetGives st states s x w y × (SetGives st states t x w y → ⊥))
+    made_left : (y : List ℕ) → MakesWithTarget (bad_in st twice n.0 n.1) n.1 y 0 ↔ (SetGives st states s x w y × (SetGives st states t x w y → ⊥))
     made_left y = (
       λ m. let h = (sided.left_alone y).0 m in ((left y).0 h.0, λ g. h.1 ((right y).1 g)),
       λ h. (sided.left_alone y).1 ((left y).1 h.0, λ e. h.1 ((right y).0 e)),
     )
 
-    made_right : (y : List ℕ) → Makes (bad_in st twice n.0 n.1) n.1 y 1 ↔ (SetGives st states t x w y × (SetGives st states s x w y → ⊥))
+    made_right : (y : List ℕ) → MakesWithTarget (bad_in st twice n.0 n.1) n.1 y 1 ↔ (SetGives st states t x w y × (SetGives st states s x w y → ⊥))
     made_right y = (
       λ m. let h = (sided.right_alone y).0 m in ((right y).0 h.0, λ g. h.1 ((left y).1 g)),
       λ h. (sided.right_alone y).1 ((right y).1 h.0, λ e. h.1 ((left y).0 e)),
@@ -142,11 +142,11 @@ module _ (st : Held) (ss : List (List ℕ)) (states s t : List ℕ) (twice : Twi
       let y = applied o.0.act n.1 in
       ⊎_elim
       (λ is.
-      let m : Makes (bad_in st twice n.0 n.1) n.1 y 0 = (o.0.act, subst (λ k. Contains (bad_in st twice n.0 n.1) (record { act = o.0.act; target = k })) is o.1, refl) in
+      let m : MakesWithTarget (bad_in st twice n.0 n.1) n.1 y 0 = (o.0.act, subst (λ k. Contains (bad_in st twice n.0 n.1) (record { act = o.0.act; target = k })) is o.1, refl) in
       let h = (made_left walk.0 walk.1 n walk.2 walk.3 y).0 m in
       h.1 ((alike walk.0 walk.2 walk.1 y).0 h.0))
       (λ is.
-      let m : Makes (bad_in st twice n.0 n.1) n.1 y 1 = (o.0.act, subst (λ k. Contains (bad_in st twice n.0 n.1) (record { act = o.0.act; target = k })) is o.1, refl) in
+      let m : MakesWithTarget (bad_in st twice n.0 n.1) n.1 y 1 = (o.0.act, subst (λ k. Contains (bad_in st twice n.0 n.1) (record { act = o.0.act; target = k })) is o.1, refl) in
       let h = (made_right walk.0 walk.1 n walk.2 walk.3 y).0 m in
       h.1 ((alike walk.0 walk.2 walk.1 y).1 h.0))
       (alone_sided (ends_of st twice.goal.ends n.0 n.1) o.0 o.1)

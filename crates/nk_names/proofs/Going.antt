@@ -16,7 +16,7 @@ use Rattle.nk_names.specs.Declaring.{HasLets}
 use Rattle.nk_names.specs.Meant.{Lets, policy_for}
 use Rattle.nk_names.specs.ProgramOf.{Said, nothing_said, declared_part, said_with, said_after, program_of, named_fault, virtual_fault}
 use Rattle.nk_names.specs.ProgramValue.{IsLet, VirtualLink, AreVirtual}
-use Rattle.nk_policy.specs.Ranges.{IsOver}
+use Rattle.nk_policy.specs.Ranges.{IsOverFields}
 use Rattle.nk_names.specs.Complements.{NegatesPredicates}
 use Rattle.nk_declare.specs.Declarations.{DeclaredValue, declared_with, link_with, values_of}
 use Rattle.nk_declare.specs.Declarations as declare
@@ -57,7 +57,7 @@ let_is : (fields : FieldTable) (lets taken : Lets) (w : Word) (t : Tree) (line :
 let_is fields lets taken w t line table none known =
     let f = faultless fields lets taken w t line none in
     let p = policy_for fields lets t in
-    let over = over_marked fields p 1 (over_meant fields table lets (all_kept (λ l. IsLet fields l.1) (λ l. IsOver fields l.1) lets (λ l h. h.over) known) t f.known) in
+    let over = over_marked fields p 1 (over_meant fields table lets (all_kept (λ l. IsLet fields l.1) (λ l. IsOverFields fields l.1) lets (λ l h. h.over) known) t f.known) in
     record {
       numbered = marked_again p 1 1;
       small = omega (arith, size_marked p 1, f.small);

@@ -4,7 +4,7 @@ use Rattle.std.proofs.Common.{◌≡◌, ℕ, ◌+◌, ◌*◌, ◌≤◌, refl,
 use Rattle.std.specs.Prelude.{max}
 use Rattle.nk_field.specs.Packet.{FieldTable, IsValue}
 use Rattle.nk_policy.specs.Policy.{Policy, Policies, test, range, assign, sum_of, seq_of, not_of, star_of, dup, link, no_part, part, depth_of, depths_of, size_of, sizes_of, dups_of, dups_of_all, is_predicate, are_predicates, marked_from, all_marked_from}
-use Rattle.nk_policy.specs.Ranges.{IsInRange, AreInRange, IsOver, AllUseOnly}
+use Rattle.nk_policy.specs.Ranges.{IsInRange, AreInRange, IsOverFields, AllUseOnly}
 use Rattle.nk_names.specs.Complements.{NegatesPredicates, AllNegatePredicates}
 
 -- the parts are over the fields
@@ -127,7 +127,7 @@ mutual
 module _ (fields : FieldTable) where
   mutual
     -- numbering changes no field and no value
-    pub over_marked : (p : Policy) (n : ℕ) → IsOver fields p → IsOver fields (marked_from p n)
+    pub over_marked : (p : Policy) (n : ℕ) → IsOverFields fields p → IsOverFields fields (marked_from p n)
     over_marked (test f v) n h = h
     over_marked (range f low high) n h = h
     over_marked (assign f v) n h = h
@@ -145,7 +145,7 @@ module _ (fields : FieldTable) where
 
   mutual
     -- a policy over the fields assigns values in range
-    pub over_in_range : (p : Policy) → IsOver fields p → IsInRange p fields
+    pub over_in_range : (p : Policy) → IsOverFields fields p → IsInRange p fields
     over_in_range (test f v) h = tt
     over_in_range (range f low high) h = tt
     over_in_range (assign f v) h = h.1
@@ -182,7 +182,7 @@ mutual
 module _ (fields more : FieldTable) (wider : (f v : ℕ) → IsValue fields f v → IsValue more f v) where
   mutual
     -- a policy over the fields is one over more fields
-    pub over_more : (p : Policy) → IsOver fields p → IsOver more p
+    pub over_more : (p : Policy) → IsOverFields fields p → IsOverFields more p
     over_more (test f v) h = wider f v h
     over_more (range f low high) h = (wider f low h.0, wider f high h.1)
     over_more (assign f v) h = wider f v h

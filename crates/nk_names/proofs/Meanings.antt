@@ -12,7 +12,7 @@ use Rattle.nk_lex.specs.declared.word.Number.{Number}
 use Rattle.nk_grammar.specs.Tree.{Tree, Trees, name_of, test, range, assign, sum_of, seq_of, not_of, star_of, dup, link, no_part, part}
 use Rattle.nk_names.specs.declared.fault.FaultKind.TheVariants as kind
 use Rattle.nk_names.specs.Meant.{Lets, policy_among, no_value, no_range, place_of_field, most_in, policy_for, policies_for, unknown_in, unknown_among, misplaced_in, misplaced_among}
-use Rattle.nk_policy.specs.Ranges.{IsOver}
+use Rattle.nk_policy.specs.Ranges.{IsOverFields}
 use Rattle.nk_names.specs.Complements.{NegatesPredicates, AllNegatePredicates}
 use Rattle.nk_names.proofs.Good.{AreOver}
 use Rattle.nk_declare.proofs.Checks.{none_both}
@@ -84,8 +84,8 @@ module _ (fields : FieldTable) (table : IsFieldTable fields) where
 
   module _ (lets : Lets) where
     mutual
-      pub over_meant : All (λ l. IsOver fields l.1) lets → (t : Tree) → unknown_in fields lets t ≡ None → IsOver fields (policy_for fields lets t)
-      over_meant known (name_of w) h = named (IsOver fields) lets w.text known tt
+      pub over_meant : All (λ l. IsOverFields fields l.1) lets → (t : Tree) → unknown_in fields lets t ≡ None → IsOverFields fields (policy_for fields lets t)
+      over_meant known (name_of w) h = named (IsOverFields fields) lets w.text known tt
       over_meant known (test w n) h = value_is w n h
       over_meant known (range w low high) h = range_is w low high h
       over_meant known (assign w n) h = value_is w n h
@@ -98,7 +98,7 @@ module _ (fields : FieldTable) (table : IsFieldTable fields) where
           (below 0 a.value (omega arith), below 1 m.value (omega arith), below 0 b.value (omega arith), below 1 n.value (omega arith))
 
       -- the same of parts
-      pub all_over_meant : All (λ l. IsOver fields l.1) lets → (ts : Trees) → unknown_among fields lets ts ≡ None → AreOver fields (policies_for fields lets ts)
+      pub all_over_meant : All (λ l. IsOverFields fields l.1) lets → (ts : Trees) → unknown_among fields lets ts ≡ None → AreOver fields (policies_for fields lets ts)
       all_over_meant known no_part h = tt
       all_over_meant known (part t ts) h = let r = none_both _ _ h in (over_meant known t r.0, all_over_meant known ts r.1)
 

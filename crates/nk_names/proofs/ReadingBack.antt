@@ -8,7 +8,7 @@ use Rattle.nk_field.specs.Packet.{FieldTable, IsFieldTable, IsValue, field_named
 use Rattle.nk_lex.specs.Lex.{tokens_of}
 use Rattle.nk_lex.specs.Spelling.{IsName, text_of}
 use Rattle.nk_policy.specs.Policy.{Policy, Policies, test, range, assign, sum_of, seq_of, not_of, star_of, dup, link, no_part, part, depth_of, depths_of, size_of, dups_of, is_predicate, marked_from, all_marked_from}
-use Rattle.nk_policy.specs.Ranges.{IsOver}
+use Rattle.nk_policy.specs.Ranges.{IsOverFields}
 use Rattle.nk_policy.specs.Text.{name_of, pol_bytes}
 use Rattle.nk_grammar.specs.Tree as tree
 use Rattle.nk_lex.specs.declared.word.Word.{Word}
@@ -130,7 +130,7 @@ module _ (line : ℕ) (fields : FieldTable) (writable : IsWritable fields) where
       (omega arith, refl)
 
   mutual
-    pub fits : (p : Policy) → IsOver fields p → IsFormOn line (form_of line fields p)
+    pub fits : (p : Policy) → IsOverFields fields p → IsFormOn line (form_of line fields p)
     fits (test f n) h = (name_on f n h, number_on f n h)
     fits (range f low high) h = (name_on f low h.0, number_on f low h.0, number_on f high h.1)
     fits (assign f n) h = (name_on f n h, number_on f n h)
@@ -336,7 +336,7 @@ module _ (line : ℕ) (fields : FieldTable) (table : IsFieldTable fields) where
   module _ (lets : Lets) where
     mutual
       -- the policy that the tree stands for is the policy, but for the numbers of its dups
-      pub meant : (p : Policy) → IsOver fields p → (n : ℕ) → marked_from (policy_for fields lets (tree_for line fields p)) n ≡ marked_from p n
+      pub meant : (p : Policy) → IsOverFields fields p → (n : ℕ) → marked_from (policy_for fields lets (tree_for line fields p)) n ≡ marked_from p n
       meant (test f v) h n = ap (λ k. test k v) (place_is f v h)
       meant (range f low high) h n = ap (λ k. range k low high) (place_is f low h.0)
       meant (assign f v) h n = ap (λ k. assign k v) (place_is f v h)
@@ -362,18 +362,18 @@ module _ (line : ℕ) (fields : FieldTable) (table : IsFieldTable fields) where
           ∙ ap (part (marked_from p n)) (all_meant ps h.1 (n + dups_of p))
 
     -- it has the policy's depth and size, and is a predicate where that is
-    pub same_depth : (p : Policy) → IsOver fields p → depth_of (policy_for fields lets (tree_for line fields p)) ≡ depth_of p
+    pub same_depth : (p : Policy) → IsOverFields fields p → depth_of (policy_for fields lets (tree_for line fields p)) ≡ depth_of p
     same_depth p h = sym (depth_marked (policy_for fields lets (tree_for line fields p)) 1) ∙ ap depth_of (meant p h 1) ∙ depth_marked p 1
 
-    same_size : (p : Policy) → IsOver fields p → size_of (policy_for fields lets (tree_for line fields p)) ≡ size_of p
+    same_size : (p : Policy) → IsOverFields fields p → size_of (policy_for fields lets (tree_for line fields p)) ≡ size_of p
     same_size p h = sym (size_marked (policy_for fields lets (tree_for line fields p)) 1) ∙ ap size_of (meant p h 1) ∙ size_marked p 1
 
-    pub same_predicate : (p : Policy) → IsOver fields p → is_predicate (policy_for fields lets (tree_for line fields p)) ≡ is_predicate p
+    pub same_predicate : (p : Policy) → IsOverFields fields p → is_predicate (policy_for fields lets (tree_for line fields p)) ≡ is_predicate p
     same_predicate p h = sym (predicate_marked (policy_for fields lets (tree_for line fields p)) 1) ∙ ap is_predicate (meant p h 1) ∙ predicate_marked p 1
 
     mutual
       -- all names and numbers are known
-      pub known : (p : Policy) → IsOver fields p → unknown_in fields lets (tree_for line fields p) ≡ None
+      pub known : (p : Policy) → IsOverFields fields p → unknown_in fields lets (tree_for line fields p) ≡ None
       known (test f v) h = value_known f v h
       known (range f low high) h = range_known f low high h.0 h.1
       known (assign f v) h = value_known f v h
@@ -396,7 +396,7 @@ module _ (line : ℕ) (fields : FieldTable) (table : IsFieldTable fields) where
 
     mutual
       -- each `~` stands over a predicate
-      placed : (p : Policy) → IsOver fields p → NegatesPredicates p → misplaced_in fields lets (tree_for line fields p) ≡ None
+      placed : (p : Policy) → IsOverFields fields p → NegatesPredicates p → misplaced_in fields lets (tree_for line fields p) ≡ None
       placed (test f v) h c = refl
       placed (range f low high) h c = refl
       placed (assign f v) h c = refl

@@ -6,7 +6,7 @@ use Rattle.std.specs.Prelude.{◌≡◌, ℕ, ◌≤◌, true, List, All, AllPai
 use Rattle.nk_field.specs.Packet.{FieldTable, IsFieldTable}
 use Rattle.nk_topo.specs.Topology.{Topology, Link, IsTopology, is_port}
 use Rattle.nk_policy.specs.Policy.{Policy, marked_from, size_of, depth_of, is_predicate}
-use Rattle.nk_policy.specs.Ranges.{IsInRange, IsOver}
+use Rattle.nk_policy.specs.Ranges.{IsInRange, IsOverFields}
 use Rattle.nk_names.specs.Complements.{NegatesPredicates}
 
 -- a link that isn't there: its ends, and its fabric, the policy that takes packets from the one end to the other
@@ -30,7 +30,7 @@ pub record IsLet (fields : FieldTable) (p : Policy) : Type 0 where
   pub numbered : IsNumberedFromOne p
   pub small : size_of p ≤ 1048576
   pub shallow : depth_of p ≤ 256
-  pub over : IsOver fields p
+  pub over : IsOverFields fields p
   pub in_range : IsInRange p fields
   pub complements : NegatesPredicates p
 
@@ -38,7 +38,7 @@ pub record IsLet (fields : FieldTable) (p : Policy) : Type 0 where
 pub record IsRowPolicy (fields : FieldTable) (p : Policy) : Type 0 where
   pub predicate : is_predicate p ≡ true
   pub shallow : depth_of p ≤ 256
-  pub over : IsOver fields p
+  pub over : IsOverFields fields p
   pub in_range : IsInRange p fields
   pub complements : NegatesPredicates p
 

@@ -14,7 +14,7 @@ use Rattle.nk_grammar.specs.Text.{lexemes_of_pol, IsPolOn}
 use Rattle.nk_grammar.specs.File.{Declaration, definition}
 use Rattle.nk_grammar.specs.FileMachine.{file_of}
 use Rattle.nk_policy.specs.Policy.{Policy, Policies, test, range, assign, sum_of, seq_of, not_of, star_of, dup, link, no_part, part, depth_of, size_of, is_predicate, marked_from}
-use Rattle.nk_policy.specs.Ranges.{IsOver}
+use Rattle.nk_policy.specs.Ranges.{IsOverFields}
 use Rattle.nk_policy.specs.Text.{pol_bytes}
 use Rattle.nk_names.specs.Complements.{NegatesPredicates}
 use Rattle.nk_names.specs.Meant.{Lets, policy_among, policy_for, unknown_in, misplaced_in}
@@ -52,7 +52,7 @@ abbrev mutual
 -- The policies whose text is read back: over the fields and in range (a link literal's numbers are in the ranges of the
 -- switch and the port, at most 65535), within the limits, each `~` over a predicate, no sum or sequence of one part.
 pub record IsReadable (fields : FieldTable) (p : Policy) : Type 0 where
-  pub over : IsOver fields p
+  pub over : IsOverFields fields p
   pub shallow : depth_of p ≤ 256
   pub small : size_of p ≤ 1048576
   pub complements : NegatesPredicates p
@@ -90,7 +90,7 @@ ReadsPrintedPolicies = (fields : FieldTable) → IsWritable fields → (name : L
 -- sequence of one part. They have any size.
 pub record IsReadablePredicate (fields : FieldTable) (p : Policy) : Type 0 where
   pub predicate : is_predicate p ≡ true
-  pub over : IsOver fields p
+  pub over : IsOverFields fields p
   pub shallow : depth_of p ≤ 256
   pub no_lone_part : HasNoLonePart p
 

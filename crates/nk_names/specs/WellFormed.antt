@@ -4,13 +4,13 @@
 use Rattle.std.specs.Prelude.{◌+◌, ◌≤◌}
 use Rattle.nk_field.specs.Packet.{FieldTable}
 use Rattle.nk_policy.specs.Policy.{Policy, dups_of}
-use Rattle.nk_policy.specs.Ranges.{IsInRange, IsOver}
+use Rattle.nk_policy.specs.Ranges.{IsInRange, IsOverFields}
 use Rattle.nk_names.specs.Complements.{NegatesPredicates}
 use Rattle.nk_names.specs.ProgramValue.{IsNumberedFromOne}
 
 pub record IsWellFormed (fields : FieldTable) (p : Policy) : Type 0 where
   pub numbered : IsNumberedFromOne p
   pub few_dups : 1 + dups_of p ≤ 4294967296
-  pub over : IsOver fields p
+  pub over : IsOverFields fields p
   pub in_range : IsInRange p fields
   pub complements : NegatesPredicates p

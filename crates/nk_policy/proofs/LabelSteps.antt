@@ -7,7 +7,7 @@ use Rattle.nk_policy.specs.Meaning.{Gives, Runs}
 use Rattle.nk_policy.specs.Progress.{Marked, numbered, RecordsAt}
 use Rattle.nk_policy.specs.After.{after}
 use Rattle.nk_policy.specs.Distinct.{HasDistinct}
-use Rattle.nk_policy.specs.Labels.{IsAt, HasExactly}
+use Rattle.nk_policy.specs.Labels.{HasRecorded, HasExactly}
 use Rattle.nk_policy.proofs.Splitting.{splits, joins}
 use Rattle.nk_policy.proofs.Again.{again}
 use Rattle.nk_policy.proofs.Positions.{passes, goes_on}
@@ -41,7 +41,7 @@ last_record (r ∷ front) (a ∷ u) x e =
 
 module _ (p : Policy) (d : HasDistinct p) where
   -- the first record
-  pub at_first : (pk y : Packet) (l : ℕ) → IsAt p pk (y ∷ []) l ↔ RecordsAt p pk [] y l
+  pub at_first : (pk y : Packet) (l : ℕ) → HasRecorded p pk (y ∷ []) l ↔ RecordsAt p pk [] y l
   at_first pk y l = (λ h. there h.0 h.1 h.2 h.3, λ r. ([], y, refl, r))
     where
       there : (front : Marked) (x : Packet) → map packet_of front ++ x ∷ [] ≡ y ∷ []
@@ -51,7 +51,7 @@ module _ (p : Policy) (d : HasDistinct p) where
 
   -- one more record
   pub at_next : (pk : Packet) (u : List Packet) (x y : Packet) (l' : ℕ)
-      → IsAt p pk ((u ++ x ∷ []) ++ y ∷ []) l' ↔ ((l : ℕ) × IsAt p pk (u ++ x ∷ []) l × RecordsAt (after p l) x [] y l')
+      → HasRecorded p pk ((u ++ x ∷ []) ++ y ∷ []) l' ↔ ((l : ℕ) × HasRecorded p pk (u ++ x ∷ []) l × RecordsAt (after p l) x [] y l')
   at_next pk u x y l' = (
     λ h.
         let e = last_is (map packet_of h.0) h.1 (u ++ x ∷ []) y h.2 in
@@ -69,7 +69,7 @@ module _ (p : Policy) (d : HasDistinct p) where
 
   -- the end
   pub gives_at : (pk : Packet) (u : List Packet) (x z : Packet)
-      → Gives p pk (u ++ x ∷ []) z ↔ ((l : ℕ) × IsAt p pk (u ++ x ∷ []) l × Gives (after p l) x [] z)
+      → Gives p pk (u ++ x ∷ []) z ↔ ((l : ℕ) × HasRecorded p pk (u ++ x ∷ []) l × Gives (after p l) x [] z)
   gives_at pk u x z = (
     λ g.
         let r = (gives_is_runs p pk (u ++ x ∷ []) z).0 g in
@@ -127,8 +127,8 @@ module _ (p : Policy) (d : HasDistinct p) where
 
   -- the next label set, from the members of this one
   pub sets_follow : (pk : Packet) (u : List Packet) (x y : Packet) (s next : List ℕ)
-      → HasExactly (IsAt p pk (u ++ x ∷ [])) s
-      → HasExactly (IsAt p pk ((u ++ x ∷ []) ++ y ∷ [])) next ↔ HasExactly (λ l'. (l : ℕ) × Contains s l × RecordsAt (after p l) x [] y l') next
+      → HasExactly (HasRecorded p pk (u ++ x ∷ [])) s
+      → HasExactly (HasRecorded p pk ((u ++ x ∷ []) ++ y ∷ [])) next ↔ HasExactly (λ l'. (l : ℕ) × Contains s l × RecordsAt (after p l) x [] y l') next
   sets_follow pk u x y s next h = (
     λ e. (
       e.0,
@@ -148,7 +148,7 @@ module _ (p : Policy) (d : HasDistinct p) where
 
   -- the ends, from the members of the label set
   pub ends_follow : (pk : Packet) (u : List Packet) (x z : Packet) (s : List ℕ)
-      → HasExactly (IsAt p pk (u ++ x ∷ [])) s
+      → HasExactly (HasRecorded p pk (u ++ x ∷ [])) s
       → Gives p pk (u ++ x ∷ []) z ↔ ((l : ℕ) × Contains s l × Gives (after p l) x [] z)
   ends_follow pk u x z s h = (
     λ g. let a = (gives_at pk u x z).0 g in (a.0, (h.1 a.0).1 a.1, a.2),

@@ -8,7 +8,7 @@ use Rattle.nk_policy.specs.Meaning.{Gives, Runs}
 use Rattle.nk_policy.specs.Progress.{Marked, RecordsAt}
 use Rattle.nk_policy.specs.After.{has_dup, some_has_dup, after}
 use Rattle.nk_policy.specs.Distinct.{HasDistinct}
-use Rattle.nk_policy.specs.Labels.{IsAt}
+use Rattle.nk_policy.specs.Labels.{HasRecorded}
 use Rattle.nk_policy.specs.Leaves.{has_leaf, is_dup}
 use Rattle.nk_policy.specs.Literals.{Literal, HoldsLiteral, IsAtSource, moved_by}
 use Rattle.nk_policy.proofs.LabelSteps.{packet_of, at_first, at_next, gives_from, rest_gives_from, gives_is_runs}
@@ -69,26 +69,26 @@ no_records (r ∷ v) e = cc
 module _ (p : Policy) (i : HasDistinct p) (d : has_leaf is_dup p ≡ false) where
   -- one more record after an odd list: from the first dup of a literal to its second, and the packet at its target
   pub second_next : (pk : Packet) (u : List Packet) (x y : Packet) (k : Literal) → HoldsLiteral p k
-      → IsAt p pk (u ++ x ∷ []) k.mark → (l : ℕ) → RecordsAt (after p k.mark) x [] y l
+      → HasRecorded p pk (u ++ x ∷ []) k.mark → (l : ℕ) → RecordsAt (after p k.mark) x [] y l
       → (l ≡ k.mark + 1) × (y ≡ moved_by k x)
   second_next pk u x y k h at l r = (on_link p i k h).only x y l r
 
   -- what an odd list of so many records says of where a run is
   abbrev OddAt : ℕ → Type 0
   OddAt n =
-      (pk : Packet) (u : List Packet) (l : ℕ) → length u ≡ 2 * n + 1 → IsAt p pk u l
+      (pk : Packet) (u : List Packet) (l : ℕ) → length u ≡ 2 * n + 1 → HasRecorded p pk u l
       → (k : Literal) × HoldsLiteral p k × (k.mark ≡ l) × ((front : List Packet) × (x : Packet) × (u ≡ front ++ x ∷ []) × IsAtSource k x)
 
   -- and what an even list says then
   even_from : (n : ℕ) → OddAt n → (pk : Packet) (u : List Packet) (l : ℕ) → length u ≡ 2 * n + 2
-      → IsAt p pk u l → (k : Literal) × HoldsLiteral p k × (k.mark + 1 ≡ l)
+      → HasRecorded p pk u l → (k : Literal) × HoldsLiteral p k × (k.mark + 1 ≡ l)
   even_from n odds pk [] l e at = absurd (omega (arith, e))
   even_from n odds pk (a ∷ []) l e at = absurd (omega (arith, e))
   even_from n odds pk (a ∷ b ∷ u) l e at =
       let c = last_of_list b u in
       let f = last_of_list a c.0 in
       let whole : a ∷ b ∷ u ≡ (f.0 ++ f.1 ∷ []) ++ c.1 ∷ [] = ap (λ z. a ∷ z) c.2 ∙ ap (λ z. z ++ c.1 ∷ []) f.2 in
-      let g = (at_next p i pk f.0 f.1 c.1 l).0 (subst (λ z. IsAt p pk z l) whole at) in
+      let g = (at_next p i pk f.0 f.1 c.1 l).0 (subst (λ z. HasRecorded p pk z l) whole at) in
       let size : length (f.0 ++ f.1 ∷ []) ≡ 2 * n + 1 = omega (arith, e, ap length whole, length-append (f.0 ++ f.1 ∷ []) (c.1 ∷ [])) in
       let odd = odds pk (f.0 ++ f.1 ∷ []) g.0 size g.1 in
       let t = (on_link p i odd.0 odd.1).only f.1 c.1 l (subst (λ q. RecordsAt (after p q) f.1 [] c.1 l) (sym odd.2) g.2) in
@@ -106,7 +106,7 @@ module _ (p : Policy) (i : HasDistinct p) (d : has_leaf is_dup p ≡ false) wher
       let c = last_of_list b u in
       let f = last_of_list a c.0 in
       let whole : a ∷ b ∷ u ≡ (f.0 ++ f.1 ∷ []) ++ c.1 ∷ [] = ap (λ z. a ∷ z) c.2 ∙ ap (λ z. z ++ c.1 ∷ []) f.2 in
-      let g = (at_next p i pk f.0 f.1 c.1 l).0 (subst (λ z. IsAt p pk z l) whole at) in
+      let g = (at_next p i pk f.0 f.1 c.1 l).0 (subst (λ z. HasRecorded p pk z l) whole at) in
       let size : length (f.0 ++ f.1 ∷ []) ≡ 2 * n + 2 = omega (arith, e, ap length whole, length-append (f.0 ++ f.1 ∷ []) (c.1 ∷ [])) in
       let even = even_from n (odd_at n) pk (f.0 ++ f.1 ∷ []) g.0 size g.1 in
       let t = (off_link_at_sources p i d even.0 even.1).at_source f.1 c.1 l (subst (λ q. RecordsAt (after p q) f.1 [] c.1 l) (sym even.2) g.2) in
@@ -114,7 +114,7 @@ module _ (p : Policy) (i : HasDistinct p) (d : has_leaf is_dup p ≡ false) wher
 
   -- and for each even list
   pub even_at : (n : ℕ) (pk : Packet) (u : List Packet) (l : ℕ) → length u ≡ 2 * n + 2
-      → IsAt p pk u l → (k : Literal) × HoldsLiteral p k × (k.mark + 1 ≡ l)
+      → HasRecorded p pk u l → (k : Literal) × HoldsLiteral p k × (k.mark + 1 ≡ l)
   even_at n = even_from n (odd_at n)
 
   -- a history after an even list of records has an even number of them

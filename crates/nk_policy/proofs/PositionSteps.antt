@@ -8,8 +8,8 @@ use Rattle.nk_policy.specs.Policy.{Policy, Policies, test, range, assign, sum_of
 use Rattle.nk_policy.specs.Meaning.{Gives, way_of}
 use Rattle.nk_policy.specs.Progress.{numbered, RecordsAt}
 use Rattle.nk_policy.specs.After.{id_policy, drop_policy, has_dup, some_has_dup, after_dup, after, after_some, after_all}
-use Rattle.nk_policy.specs.Labels.{IsAt, HasExactly}
-use Rattle.nk_policy.specs.PositionSets.{at_position, IsPosition, last_from, IsOwn, IsNext, IsNextOfEither, IsPositionOfEither, StepsTo, IsNumbered, AreSides}
+use Rattle.nk_policy.specs.Labels.{HasRecorded, HasExactly}
+use Rattle.nk_policy.specs.PositionSets.{at_position, IsPosition, last_from, IsOwn, IsRecordedNext, IsNextOfEither, IsPositionOfEither, StepsTo, IsNumbered, AreSides}
 use Rattle.nk_policy.proofs.Splitting.{holds_dup}
 use Rattle.nk_policy.proofs.LabelSteps.{at_first, at_next, gives_at}
 use Rattle.nk_policy.proofs.Tests.{false_true, both_false}
@@ -22,7 +22,7 @@ last_from_is pk (y ∷ u) x = last_from_is y u x
 
 -- records with a last one are some
 position_at : (p : Policy) (pk : Packet) (u : List Packet) (x : Packet) (l : ℕ)
-    → IsPosition p pk (u ++ x ∷ []) l ≡ IsAt p pk (u ++ x ∷ []) l
+    → IsPosition p pk (u ++ x ∷ []) l ≡ HasRecorded p pk (u ++ x ∷ []) l
 position_at p pk [] x l = refl
 position_at p pk (y ∷ u) x l = refl
 
@@ -41,13 +41,13 @@ at_dup_position p none zero h = absurd (false_true (sym none ∙ h))
 at_dup_position p none (suc l) h = refl
 
 -- a position after a record is the number of one of the policy's dups
-position_held : (p : Policy) (pk : Packet) (u : List Packet) (l : ℕ) → IsAt p pk u l
+position_held : (p : Policy) (pk : Packet) (u : List Packet) (l : ℕ) → HasRecorded p pk u l
     → has_dup p l ≡ true
 position_held p pk u l h = holds_dup p pk h.0 h.1 l h.3
 
 module _ (p : Policy) (n : IsNumbered p) where
   -- what is left after a dup that a run has come to, as what is left at the position
-  pub there : (pk : Packet) (u : List Packet) (l : ℕ) → IsAt p pk u l → at_position p l ≡ after p l
+  pub there : (pk : Packet) (u : List Packet) (l : ℕ) → HasRecorded p pk u l → at_position p l ≡ after p l
   there pk u l h = at_dup_position p n.from_one l (position_held p pk u l h)
 
   -- one more record after records with a last one
@@ -158,7 +158,7 @@ module _ (P : List Packet → ℕ → Type 0) (pk : Packet) (Next : List ℕ →
 module _ (p : Policy) (n : IsNumbered p) (pk : Packet) where
   -- one policy's next set is that of what its members record next
   pub next_of_one : (u : List Packet) (y : Packet) (s : List ℕ) → HasExactly (IsPosition p pk u) s
-      → (l' : ℕ) → IsPosition p pk (u ++ y ∷ []) l' ↔ IsNext p s (last_from pk u) y l'
+      → (l' : ℕ) → IsPosition p pk (u ++ y ∷ []) l' ↔ IsRecordedNext p s (last_from pk u) y l'
   next_of_one u y s h l' =
       let e = one_more_record p n pk u y l' in (
         λ i. let a = e.0 i in (a.0, (h.1 a.0).1 a.1, a.2),
@@ -268,7 +268,7 @@ module _ (p q : Policy) (n : IsNumbered p) (m : IsNumbered q)
   -- what this policy's own members record next are its positions after one more record
   next_of_own : (u : List Packet) (y : Packet) (s : List ℕ)
       → HasExactly (IsPositionOfEither p q pk u) s → (l' : ℕ)
-      → IsPosition p pk (u ++ y ∷ []) l' ↔ IsNext p s (last_from pk u) y l'
+      → IsPosition p pk (u ++ y ∷ []) l' ↔ IsRecordedNext p s (last_from pk u) y l'
   next_of_own u y s h l' =
       let e = one_more_record p n pk u y l' in (
         λ i. let a = e.0 i in (a.0, (h.1 a.0).1 (inl a.1), a.2),

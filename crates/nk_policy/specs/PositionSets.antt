@@ -6,7 +6,7 @@ use Rattle.nk_policy.specs.Policy.{Policy}
 use Rattle.nk_policy.specs.Progress.{RecordsAt}
 use Rattle.nk_policy.specs.After.{has_dup, after}
 use Rattle.nk_policy.specs.Distinct.{HasDistinct}
-use Rattle.nk_policy.specs.Labels.{IsAt, HasExactly}
+use Rattle.nk_policy.specs.Labels.{HasRecorded, HasExactly}
 
 -- what is left of a policy at a position
 abbrev pub at_position : Policy → ℕ → Policy
@@ -16,7 +16,7 @@ at_position p (suc l) = after p (suc l)
 -- some run from pk that has recorded exactly u is at this position
 abbrev pub IsPosition : Policy → Packet → List Packet → ℕ → Type 0
 IsPosition p pk [] l = l ≡ 0
-IsPosition p pk (y ∷ u) l = IsAt p pk (y ∷ u) l
+IsPosition p pk (y ∷ u) l = HasRecorded p pk (y ∷ u) l
 
 -- the last of the recorded packets, or the start packet
 abbrev pub last_from : Packet → List Packet → Packet
@@ -28,12 +28,12 @@ abbrev pub IsOwn : Policy → ℕ → Type 0
 IsOwn p l = (l ≡ 0) ⊎ (has_dup p l ≡ true)
 
 -- from packet x, some member of the set records y next, at this position
-abbrev pub IsNext : Policy → List ℕ → Packet → Packet → ℕ → Type 0
-IsNext p s x y l' = (l : ℕ) × Contains s l × RecordsAt (at_position p l) x [] y l'
+abbrev pub IsRecordedNext : Policy → List ℕ → Packet → Packet → ℕ → Type 0
+IsRecordedNext p s x y l' = (l : ℕ) × Contains s l × RecordsAt (at_position p l) x [] y l'
 
 -- the same of either of two policies
 abbrev pub IsNextOfEither : Policy → Policy → List ℕ → Packet → Packet → ℕ → Type 0
-IsNextOfEither p q s x y l' = IsNext p s x y l' ⊎ IsNext q s x y l'
+IsNextOfEither p q s x y l' = IsRecordedNext p s x y l' ⊎ IsRecordedNext q s x y l'
 
 -- a position of either of two policies
 abbrev pub IsPositionOfEither : Policy → Policy → Packet → List Packet → ℕ → Type 0

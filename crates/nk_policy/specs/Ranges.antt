@@ -41,8 +41,8 @@ abbrev mutual
   AllUseOnly Allowed (part p ps) = UsesOnly Allowed p × AllUseOnly Allowed ps
 
 -- its tests, ranges and assignments have fields of these, and values in range
-abbrev pub IsOver : FieldTable → Policy → Type 0
-IsOver fields p = UsesOnly (IsValue fields) p
+abbrev pub IsOverFields : FieldTable → Policy → Type 0
+IsOverFields fields p = UsesOnly (IsValue fields) p
 
 -- a value of the field in range
 abbrev pub IsValueOf : FieldTable → ℕ → ℕ → Type 0

@@ -12,12 +12,12 @@ ghost use Rattle.nk_policy.specs.Meaning.{Gives, Runs};
 ghost use Rattle.nk_policy.specs.Progress.{Marked, RecordsAt};
 ghost use Rattle.nk_policy.specs.After.{after, has_dup};
 ghost use Rattle.nk_policy.specs.Distinct.{HasDistinct};
-ghost use Rattle.nk_policy.specs.Labels.{IsAt, HasExactly};
-ghost use Rattle.nk_policy.specs.PositionSets.{at_position, IsPosition, last_from, IsOwn, IsNext, IsNextOfEither, IsPositionOfEither, StepsTo, IsNumbered, AreSides};
+ghost use Rattle.nk_policy.specs.Labels.{HasRecorded, HasExactly};
+ghost use Rattle.nk_policy.specs.PositionSets.{at_position, IsPosition, last_from, IsOwn, IsRecordedNext, IsNextOfEither, IsPositionOfEither, StepsTo, IsNumbered, AreSides};
 ghost use Rattle.nk_policy.specs.Leaves.{has_leaf, is_dup, is_switch_assignment};
 ghost use Rattle.nk_policy.specs.Literals.{Literal, HoldsLiteral, IsAtSource};
 ghost use Rattle.nk_policy.specs.Crossings.{RecordsAtSources, IsBetween, IsOnLink};
-ghost use Rattle.nk_policy.specs.Ranges.{IsInRange, IsOver};
+ghost use Rattle.nk_policy.specs.Ranges.{IsInRange, IsOverFields};
 ghost use Rattle.nk_policy.specs.Worked.{packet, start, ending, sum2, seq2, over_one_link, HasHistories, Keeps, Drops};
 
 /// A history is a run whose numbers are forgotten.
@@ -94,15 +94,15 @@ pub fn last_step()
 /// Where a run is after one record, and after one more, and where it ends, by its packets alone.
 pub fn a_run_goes_on_by_one()
     ensures first { (p : Policy) → HasDistinct p
-        → (pk y : Packet) (l : ℕ) → IsAt p pk (y ∷ []) l ↔ RecordsAt p pk [] y l }
+        → (pk y : Packet) (l : ℕ) → HasRecorded p pk (y ∷ []) l ↔ RecordsAt p pk [] y l }
     ensures next { (p : Policy) → HasDistinct p
         → (pk : Packet) (u : List Packet) (x y : Packet) (l' : ℕ)
-        → IsAt p pk ((u ++ x ∷ []) ++ y ∷ []) l'
-        ↔ ((l : ℕ) × IsAt p pk (u ++ x ∷ []) l × RecordsAt (after p l) x [] y l') }
+        → HasRecorded p pk ((u ++ x ∷ []) ++ y ∷ []) l'
+        ↔ ((l : ℕ) × HasRecorded p pk (u ++ x ∷ []) l × RecordsAt (after p l) x [] y l') }
     ensures end { (p : Policy) → HasDistinct p
         → (pk : Packet) (u : List Packet) (x z : Packet)
         → Gives p pk (u ++ x ∷ []) z
-        ↔ ((l : ℕ) × IsAt p pk (u ++ x ∷ []) l × Gives (after p l) x [] z) }
+        ↔ ((l : ℕ) × HasRecorded p pk (u ++ x ∷ []) l × Gives (after p l) x [] z) }
 {}
 
 /// The label set after one more record has exactly the labels at which its members record next, and the policy ends
@@ -110,12 +110,12 @@ pub fn a_run_goes_on_by_one()
 pub fn label_sets_follow()
     ensures next { (p : Policy) → HasDistinct p
         → (pk : Packet) (u : List Packet) (x y : Packet) (s next : List ℕ)
-        → HasExactly (IsAt p pk (u ++ x ∷ [])) s
-        → HasExactly (IsAt p pk ((u ++ x ∷ []) ++ y ∷ [])) next
+        → HasExactly (HasRecorded p pk (u ++ x ∷ [])) s
+        → HasExactly (HasRecorded p pk ((u ++ x ∷ []) ++ y ∷ [])) next
         ↔ HasExactly (λ l'. (l : ℕ) × Contains s l × RecordsAt (after p l) x [] y l') next }
     ensures end { (p : Policy) → HasDistinct p
         → (pk : Packet) (u : List Packet) (x z : Packet) (s : List ℕ)
-        → HasExactly (IsAt p pk (u ++ x ∷ [])) s
+        → HasExactly (HasRecorded p pk (u ++ x ∷ [])) s
         → Gives p pk (u ++ x ∷ []) z ↔ ((l : ℕ) × Contains s l × Gives (after p l) x [] z) }
 {}
 
@@ -127,10 +127,10 @@ pub fn one_policys_sets()
         → (pk : Packet) (u : List Packet) (y : Packet) (s next : List ℕ)
         → HasExactly (IsPosition p pk u) s
         → HasExactly (IsPosition p pk (u ++ y ∷ [])) next
-        ↔ HasExactly (IsNext p s (last_from pk u) y) next }
+        ↔ HasExactly (IsRecordedNext p s (last_from pk u) y) next }
     ensures steps { (p : Policy) → IsNumbered p
         → (pk : Packet) (u : List Packet) (s t : List ℕ)
-        → StepsTo (IsNext p) (0 ∷ []) pk u t → HasExactly (IsPosition p pk u) s ↔ (s ≡ t) }
+        → StepsTo (IsRecordedNext p) (0 ∷ []) pk u t → HasExactly (IsPosition p pk u) s ↔ (s ≡ t) }
     ensures end { (p : Policy) → IsNumbered p
         → (pk : Packet) (u : List Packet) (z : Packet) (s : List ℕ)
         → HasExactly (IsPosition p pk u) s
@@ -193,11 +193,11 @@ pub fn links_take_turns()
 /// even.
 pub fn records_alternate()
     ensures odd { (p : Policy) → HasDistinct p → has_leaf is_dup p ≡ false
-        → (n : ℕ) (pk : Packet) (u : List Packet) (l : ℕ) → length u ≡ 2 * n + 1 → IsAt p pk u l
+        → (n : ℕ) (pk : Packet) (u : List Packet) (l : ℕ) → length u ≡ 2 * n + 1 → HasRecorded p pk u l
         → (k : Literal) × HoldsLiteral p k × (k.mark ≡ l)
         × ((front : List Packet) × (x : Packet) × (u ≡ front ++ x ∷ []) × IsAtSource k x) }
     ensures even { (p : Policy) → HasDistinct p → has_leaf is_dup p ≡ false
-        → (n : ℕ) (pk : Packet) (u : List Packet) (l : ℕ) → length u ≡ 2 * n + 2 → IsAt p pk u l
+        → (n : ℕ) (pk : Packet) (u : List Packet) (l : ℕ) → length u ≡ 2 * n + 2 → HasRecorded p pk u l
         → (k : Literal) × HoldsLiteral p k × (k.mark + 1 ≡ l) }
     ensures histories { (p : Policy) → HasDistinct p → has_leaf is_dup p ≡ false
         → (pk : Packet) (w : List Packet) (z : Packet) → Gives p pk w z → (n : ℕ) × (length w ≡ 2 * n) }
@@ -244,13 +244,13 @@ pub fn written_out_links_keep()
 /// A policy over the fields sets them to values in range, and is still over them when it is numbered anew, when its link
 /// literals are written out, and in what is left of it after a dup.
 pub fn policies_stay_over_fields()
-    ensures in_range { (fields : FieldTable) (p : Policy) → IsOver fields p → IsInRange p fields }
+    ensures in_range { (fields : FieldTable) (p : Policy) → IsOverFields fields p → IsInRange p fields }
     ensures numbered { (fields : FieldTable) (p : Policy) (n : ℕ)
-        → IsOver fields (marked_from p n) ↔ IsOver fields p }
+        → IsOverFields fields (marked_from p n) ↔ IsOverFields fields p }
     ensures written_out { (fields : FieldTable) (p : Policy)
-        → IsOver fields (without_links p) ↔ IsOver fields p }
+        → IsOverFields fields (without_links p) ↔ IsOverFields fields p }
     ensures rest { (fields : FieldTable) (p : Policy) (l : ℕ)
-        → IsOver fields p → IsOver fields (after p l) }
+        → IsOverFields fields p → IsOverFields fields (after p l) }
 {}
 
 /// From a packet in range, a policy that sets fields to values in range records and ends at packets in range; and so

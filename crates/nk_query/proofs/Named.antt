@@ -3,7 +3,7 @@ use Rattle.std.proofs.Common.{◌≡◌, ◌&&◌, ℕ, ◌-◌, ◌^◌, ◌≤
 use Rattle.std.specs.Prelude.{Result, IfOk}
 use Rattle.nk_field.specs.Packet.{FieldTable}
 use Rattle.nk_policy.specs.Policy.{Policy, is_predicate, size_of, marked_from, MarksBelow}
-use Rattle.nk_policy.specs.Ranges.{IsOver}
+use Rattle.nk_policy.specs.Ranges.{IsOverFields}
 use Rattle.nk_policy.specs.Tree.{tree_of}
 use Rattle.nk_policy.specs.declared.policy.Pol.{Pol}
 use Rattle.nk_policy.proofs.Tests.{both_true}
@@ -21,7 +21,7 @@ use Rattle.nk_query.specs.declared.error.QueryError.TheVariants.{NoMemory, NoPol
 use Rattle.nk_query.proofs.Staying.{avoiding_uses, avoiding_negates}
 
 -- a policy that is fit in each respect but its numbers, numbered from 1
-fit_once_numbered : (fields : FieldTable) (q : Policy) → size_of q ≤ 1048576 → IsOver fields q → NegatesPredicates q → IsFitFor fields (marked_from q 1)
+fit_once_numbered : (fields : FieldTable) (q : Policy) → size_of q ≤ 1048576 → IsOverFields fields q → NegatesPredicates q → IsFitFor fields (marked_from q 1)
 fit_once_numbered fields q small over complements = record {
   numbered = marked_again q 1 1;
   few = let a = few_dups q in let b = dups_marked q 1 in omega (arith, a, b, small);

@@ -2,7 +2,7 @@
 use Rattle.std.specs.Prelude.{◌≡◌, ◌+◌, ◌<◌, ◌≤◌, ◌^◌, true, false, ⊤, Result, Ok, Err}
 use Rattle.nk_field.specs.Packet.{FieldTable}
 use Rattle.nk_policy.specs.Policy.{Policy, size_of, dups_of, marked_from}
-use Rattle.nk_policy.specs.Ranges.{IsOver}
+use Rattle.nk_policy.specs.Ranges.{IsOverFields}
 use Rattle.nk_policy.specs.After.{drop_policy}
 use Rattle.nk_policy.specs.Tree.{tree_of}
 use Rattle.nk_policy.specs.declared.policy.Pol.{Pol}
@@ -72,7 +72,7 @@ IsQuestion program asked (Err e) = IsHindranceByName program asked e
 pub record IsFitFor (fields : FieldTable) (q : Policy) : Type 0 where
   pub numbered : marked_from q 1 ≡ q
   pub few : 1 + dups_of q < 2 ^ 32
-  pub over : IsOver fields q
+  pub over : IsOverFields fields q
   pub complements : NegatesPredicates q
 
 -- no history breaks, and this is the printed certificate of the question and `drop`; or this is the least history that breaks, told

@@ -7,7 +7,7 @@ use Rattle.std.proofs.lemmas.Bool.Decides.{eqb_tells}
 use Rattle.nk_store.specs.Held.{Held, IsWhole, look, Grows, HasLeaves}
 use Rattle.nk_algebra.specs.Leaves.{merged}
 use Rattle.nk_algebra.specs.Predicates.{IsPredicate}
-use Rattle.nk_sets.specs.PacketSets.{has_out, is_in, IsSet, IsSetOf}
+use Rattle.nk_sets.specs.PacketSets.{has_out, is_in, IsSet, IsPacketSetOf}
 use Rattle.nk_sets.proofs.SetLemmas.{set_grows, merged_out}
 use Rattle.nk_reach.specs.Pairs.{Under, Named, Once, EachPair}
 use Rattle.nk_reach.specs.Levels.{IsFilled}
@@ -130,7 +130,7 @@ first_alone true false e n = refl
 first_alone false b e n = cc
 
 -- where the set has an entry, what is left is the difference
-pub rest_some : (st new : Held) (ps : List (ℕ × ℕ)) (t y v r : ℕ) → Once ps → lookup (eqb t) ps ≡ Some v → IsSetOf new r (λ pk. is_in st y pk && not (is_in st v pk)) → IsRest st ps t y new r
+pub rest_some : (st new : Held) (ps : List (ℕ × ℕ)) (t y v r : ℕ) → Once ps → lookup (eqb t) ps ≡ Some v → IsPacketSetOf new r (λ pk. is_in st y pk && not (is_in st v pk)) → IsRest st ps t y new r
 rest_some st new ps t y v r o e m = record {
   packets = m.set;
   first = λ x g h. first_true (is_in st y x) (is_in st v x) (sym (m.at x g.0) ∙ h);

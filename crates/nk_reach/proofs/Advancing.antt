@@ -10,7 +10,7 @@ use Rattle.nk_store.specs.declared.node.Out.{Out}
 use Rattle.nk_store.specs.Held.{Held, IsWhole, IsPacket, look, Grows}
 use Rattle.nk_algebra.specs.Seqs.{no_out}
 use Rattle.nk_sets.specs.PacketSets.{has_out, is_in, IsLeast}
-use Rattle.nk_determ.specs.Sets.{SetsGrow, Differ}
+use Rattle.nk_determ.specs.Sets.{SetsGrow, HasEachSetOnce}
 use Rattle.nk_reach.specs.Reach.{Reach}
 use Rattle.nk_reach.specs.Pairs.{Node, Under, Once, Within, AreStates, HavePlaces, ArePairs, IsStart, IsStep}
 use Rattle.nk_reach.specs.Levels.{Bad, InLevel, AreLevels}
@@ -29,7 +29,7 @@ use Rattle.nk_reach.proofs.Greedy.{leads_level}
 use Rattle.nk_reach.proofs.Pulling.{out_is}
 
 -- a step into entries is an out that leads into them
-pub ahead_out : (st new : Held) (ss nss : List (List ℕ)) (states set x : List ℕ) (here d : ℕ) (next : List (ℕ × ℕ)) (k : Node) → Grows st new → SetsGrow ss nss → Differ nss → ArePairs st ss (length states) next → IsStateAt st states set here new nss d → IsPacket st x → Has st here x →
+pub ahead_out : (st new : Held) (ss nss : List (List ℕ)) (states set x : List ℕ) (here d : ℕ) (next : List (ℕ × ℕ)) (k : Node) → Grows st new → SetsGrow ss nss → HasEachSetOnce nss → ArePairs st ss (length states) next → IsStateAt st states set here new nss d → IsPacket st x → Has st here x →
     IsStep st states (set, x) k → Within st ss next k → (m : ℕ) × (m < length (look new d x)) × IsAhead new next x (get_or (look new d x) m no_out) × (applied (get_or (look new d x) m no_out).act x ≡ k.1)
 ahead_out st new ss nss states set x here d next k g grow differ pairs at px hx step in_next =
     let v = at.comes x k px hx step in
@@ -47,13 +47,13 @@ ahead_out st new ss nss states set x here d next k g grow differ pairs at px hx 
     (m, v.2.1, subst (λ (p : Out). IsAhead new next x p) (sym q) a, ap (λ (p : Out). applied p.act x) q ∙ v.3)
 
 -- where a step leads into entries, some out does
-pub some_ahead : (st new : Held) (ss nss : List (List ℕ)) (states set x : List ℕ) (here d : ℕ) (next : List (ℕ × ℕ)) → Grows st new → SetsGrow ss nss → Differ nss → ArePairs st ss (length states) next → IsStateAt st states set here new nss d → IsPacket st x → Has st here x →
+pub some_ahead : (st new : Held) (ss nss : List (List ℕ)) (states set x : List ℕ) (here d : ℕ) (next : List (ℕ × ℕ)) → Grows st new → SetsGrow ss nss → HasEachSetOnce nss → ArePairs st ss (length states) next → IsStateAt st states set here new nss d → IsPacket st x → Has st here x →
     ((k : Node) × IsStep st states (set, x) k × Within st ss next k) → NoneCount (IsAhead new next x) (look new d x) (length (look new d x)) → ⊥
 some_ahead st new ss nss states set x here d next g grow differ pairs at px hx way none =
     let w = ahead_out st new ss nss states set x here d next way.0 g grow differ pairs at px hx way.1 way.2 in none w.0 w.1 w.2
 
 -- the best out that leads into entries is the least step into them
-pub next_least_of : (st new : Held) (ss nss : List (List ℕ)) (states set x : List ℕ) (here d t : ℕ) (next : List (ℕ × ℕ)) (b : Choice) → Grows st new → SetsGrow ss nss → Differ nss → ArePairs st ss (length states) next → IsStateAt st states set here new nss d → IsPacket st x → Has st here x →
+pub next_least_of : (st new : Held) (ss nss : List (List ℕ)) (states set x : List ℕ) (here d t : ℕ) (next : List (ℕ × ℕ)) (b : Choice) → Grows st new → SetsGrow ss nss → HasEachSetOnce nss → ArePairs st ss (length states) next → IsStateAt st states set here new nss d → IsPacket st x → Has st here x →
     IsBest (IsAhead new next x) x (look new d x) (length (look new d x)) b → t + 1 ≡ b.target → IsNextLeast st ss states set x next t b.packet
 next_least_of st new ss nss states set x here d t next b g grow differ pairs at px hx best te =
     let a : IsAhead new next x best.out = best.counts in
@@ -162,7 +162,7 @@ start_known old oss states set start bad ls broken k = (subst (ArePairs old oss 
 
 -- a start that leads to something bad stands in the entries of the first level
 pub start_under : (old st : Held) (oss ss : List (List ℕ)) (states : List ℕ) (set start : ℕ) (bad : List ℕ → List ℕ → List Out) (ls : List (List (ℕ × ℕ))) (broken : Bool) (h : ℕ) (back : List (ℕ × ℕ)) (m : Node) →
-    AreLevels old old oss states set start bad ls broken → length ls ≡ h + 1 → SetsGrow oss ss → Differ ss → IsBack old st ss states bad (InLevel old oss ls 0) h back → IsStart old (get_or oss set []) start m → LeadsToBad (IsStep old states) (Bad bad) h m → Under st back set m.1
+    AreLevels old old oss states set start bad ls broken → length ls ≡ h + 1 → SetsGrow oss ss → HasEachSetOnce ss → IsBack old st ss states bad (InLevel old oss ls 0) h back → IsStart old (get_or oss set []) start m → LeadsToBad (IsStep old states) (Bad bad) h m → Under st back set m.1
 start_under old st oss ss states set start bad ls broken h back m k count s1 differ b is l =
     let level : InLevel old oss ls 0 m = leads_level old old oss states set start bad ls broken h 0 h m k count (omega arith) is l in
     let w = b.full m is.packet level l in
@@ -181,7 +181,7 @@ start_leads old oss states set start bad ls broken h k b count =
 
 -- some packet stands under the start set
 pub start_some : (old st : Held) (oss ss : List (List ℕ)) (states : List ℕ) (set start : ℕ) (bad : List ℕ → List ℕ → List Out) (ls : List (List (ℕ × ℕ))) (broken : Bool) (h : ℕ) (back : List (ℕ × ℕ)) →
-    AreLevels old old oss states set start bad ls broken → broken ≡ true → length ls ≡ h + 1 → Grows old st → SetsGrow oss ss → Differ ss → IsBack old st ss states bad (InLevel old oss ls 0) h back → (z : List ℕ) × IsPacket st z × Under st back set z
+    AreLevels old old oss states set start bad ls broken → broken ≡ true → length ls ≡ h + 1 → Grows old st → SetsGrow oss ss → HasEachSetOnce ss → IsBack old st ss states bad (InLevel old oss ls 0) h back → (z : List ℕ) × IsPacket st z × Under st back set z
 start_some old st oss ss states set start bad ls broken h back k b count g s1 differ bk =
     let w = start_leads old oss states set start bad ls broken h k b count in
     (w.0.1, packet_on old st w.0.1 g w.1.packet, start_under old st oss ss states set start bad ls broken h back w.0 k count s1 differ bk w.1 w.2)
@@ -192,7 +192,7 @@ pub record IsFirst (old : Held) (states set : List ℕ) (start : ℕ) (bad : Lis
   pub first : (z : List ℕ) → IsStart old set start (set, z) → LeadsToBad (IsStep old states) (Bad bad) h (set, z) → IsUpTo y z
 
 module _ (old st : Held) (oss ss : List (List ℕ)) (states : List ℕ) (set start : ℕ) (bad : List ℕ → List ℕ → List Out) (ls : List (List (ℕ × ℕ))) (broken : Bool) (h : ℕ) (back : List (ℕ × ℕ)) (p : ℕ) (y : List ℕ)
-    (k : AreLevels old old oss states set start bad ls broken) (count : length ls ≡ h + 1) (g : Grows old st) (s1 : SetsGrow oss ss) (differ : Differ ss) (b : IsBack old st ss states bad (InLevel old oss ls 0) h back) (found : lookup (eqb set) back ≡ Some p) (least : IsLeast st p y) where
+    (k : AreLevels old old oss states set start bad ls broken) (count : length ls ≡ h + 1) (g : Grows old st) (s1 : SetsGrow oss ss) (differ : HasEachSetOnce ss) (b : IsBack old st ss states bad (InLevel old oss ls 0) h back) (found : lookup (eqb set) back ≡ Some p) (least : IsLeast st p y) where
   members : get_or ss set [] ≡ get_or oss set []
   members = sets_same oss ss set s1 (start_known old oss states set start bad ls broken k)
 

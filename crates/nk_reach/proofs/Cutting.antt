@@ -4,7 +4,7 @@ use Rattle.nk_store.specs.declared.node.Out.{Out}
 use Rattle.nk_store.specs.Held.{Held, IsId, IsWhole, IsPacket, look, Grows, HasLeaves}
 use Rattle.nk_algebra.specs.Leaves.{guarded}
 use Rattle.nk_sets.specs.PacketSets.{has_out}
-use Rattle.nk_determ.specs.Sets.{Ascend}
+use Rattle.nk_determ.specs.Sets.{HasAscendingSets}
 use Rattle.nk_determ.specs.Exact.{Sends}
 use Rattle.nk_determ.specs.States.{HaveEach, SomeLeads, StateLeads, AreLedTo}
 use Rattle.nk_determ.proofs.StatesAt.{at_state, from_state}
@@ -58,7 +58,7 @@ module _ (old new : Held) (states labels cut : List ℕ) (x : ℕ) (same : lengt
       (q.0, subst (λ (os : List Out). Contains os (sent_to q.0 t)) (sym (cut_leaf k lt)) (guard_in (look old x z) (look old state z) (sent_to q.0 t) h q.1), q.2)) s
 
   -- a set with a member that is led to holds what the states record at the packets
-  pub led_step : (nss : List (List ℕ)) (y : List ℕ) (i : ℕ) → Ascend nss → IsPacket old y → AreLedTo nss new cut z y i → Has old x z × IsStep old states (labels, z) (get_or nss i [], y)
+  pub led_step : (nss : List (List ℕ)) (y : List ℕ) (i : ℕ) → HasAscendingSets nss → IsPacket old y → AreLedTo nss new cut z y i → Has old x z × IsStep old states (labels, z) (get_or nss i [], y)
   led_step nss y i asc py led =
       let one = some_member (get_or nss i []) led.some in
       let has : Has old x z = (cut_leads y one.0 ((led.every one.0).0 one.1).1).0 in (

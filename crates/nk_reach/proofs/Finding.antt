@@ -8,7 +8,7 @@ use Rattle.nk_store.specs.Held.{Held}
 use Rattle.nk_algebra.specs.Seqs.{no_out}
 use Rattle.nk_reach.specs.Pairs.{Node, IsStep}
 use Rattle.nk_reach.specs.Levels.{Bad, AreLevels}
-use Rattle.nk_reach.specs.Sides.{Makes}
+use Rattle.nk_reach.specs.Sides.{MakesWithTarget}
 use Rattle.nk_reach.specs.declared.choice.Choice.{Choice}
 use Rattle.nk_reach.specs.Histories.{IsBreak, Breaks, IsUpTo, IsGreedy}
 use Rattle.nk_reach.specs.Backs.{IsBack}
@@ -35,14 +35,14 @@ greedy_of old st ss states start bad h back set first records s x outs b one f i
   first = one.first;
   walk = f.walk;
   count = f.count;
-  makes = subst (λ (os : List Out). Makes os x b.packet b.target) is made;
-  last = λ y t m. below y t (subst (λ (os : List Out). Makes os x y t) (sym is) m);
+  makes = subst (λ (os : List Out). MakesWithTarget os x b.packet b.target) is made;
+  last = λ y t m. below y t (subst (λ (os : List Out). MakesWithTarget os x y t) (sym is) m);
 }
   where
-    made : Makes outs x b.packet b.target
+    made : MakesWithTarget outs x b.packet b.target
     made = (best.out.act, subst (λ (t : ℕ). Contains outs (record { act = best.out.act; target = t })) best.target best.among, sym best.made)
 
-    below : (y : List ℕ) (t : ℕ) → Makes outs x y t → IsUpTo b.packet y
+    below : (y : List ℕ) (t : ℕ) → MakesWithTarget outs x y t → IsUpTo b.packet y
     below y t m =
         let o : Out = record { act = m.0; target = t } in
         let j : ℕ = m.1.0 in
@@ -70,11 +70,11 @@ pub left_first : (old : Held) (states set : List ℕ) (start : ℕ) (bad : List 
     IsBreak old states set start bad 0 f → b.target ≡ 0
 left_first old states set start bad h f n target outs b g is best last w =
     elim (least_is_least (IsStep old states) (Bad bad) (step_one old states) h (set, f.start) n w.end f.records f.records g.walk w.walk g.count g.count (makes_bad bad w.end f.last 0 w.makes)) [
-      | inl both ↦ at (subst (λ (os : List Out). Makes os n.1 f.last 0) (sym is) (subst (λ (q : Node). Makes (bad q.0 q.1) q.1 f.last 0) (sym both.1) w.makes))
+      | inl both ↦ at (subst (λ (os : List Out). MakesWithTarget os n.1 f.last 0) (sym is) (subst (λ (q : Node). MakesWithTarget (bad q.0 q.1) q.1 f.last 0) (sym both.1) w.makes))
       | inr less ↦ absurd (all_precede_not f.records less)
     ]
   where
-    at : Makes outs n.1 f.last 0 → b.target ≡ 0
+    at : MakesWithTarget outs n.1 f.last 0 → b.target ≡ 0
     at m =
         let o : Out = record { act = m.0; target = 0 } in
         let j : ℕ = m.1.0 in

@@ -1,7 +1,7 @@
 -- Entry by entry, what a level leads to.
 use Rattle.std.proofs.Common.{◌≡◌, ℕ, ◌<◌, inl, inr, refl, sym, ◌∙◌, ap, subst, List, [], ◌∷◌, ◌++◌, length, get_or}
 use Rattle.nk_store.specs.Held.{Held, Grows}
-use Rattle.nk_determ.specs.Sets.{SetsGrow, Differ}
+use Rattle.nk_determ.specs.Sets.{SetsGrow, HasEachSetOnce}
 use Rattle.nk_reach.specs.Pairs.{Node, AreStates, HavePlaces, IsPair, IsStep}
 use Rattle.nk_reach.specs.Rounds.{IsRaw, IsFollowed, IsSoFar}
 use Rattle.nk_reach.proofs.Kept.{packet_on, packet_back, has_on, has_back}
@@ -53,7 +53,7 @@ so_far_push a st new ass ss nss states done raw more p states_ok m g s t q f =
     }
 
 -- all entries are the level
-pub raw_of : (st new : Held) (ss nss : List (List ℕ)) (states : List ℕ) (last raw : List (ℕ × ℕ)) → IsSoFar st ss states last new nss raw → Differ nss → IsRaw st ss states last new nss raw
+pub raw_of : (st new : Held) (ss nss : List (List ℕ)) (states : List ℕ) (last raw : List (ℕ × ℕ)) → IsSoFar st ss states last new nss raw → HasEachSetOnce nss → IsRaw st ss states last new nss raw
 raw_of st new ss nss states last raw m differ = record {
   from = λ n p w.
       let r = m.from w.0 n.1 p w.2 in

@@ -7,7 +7,7 @@ use Rattle.nk_store.specs.Held.{Held}
 use Rattle.nk_reach.specs.Reach.{Exact}
 use Rattle.nk_reach.specs.Pairs.{Node, IsStart, IsStep, IsGood}
 use Rattle.nk_reach.specs.Levels.{At, Bad, InLevel, AreLevels}
-use Rattle.nk_reach.specs.Sides.{Makes}
+use Rattle.nk_reach.specs.Sides.{MakesWithTarget}
 use Rattle.nk_reach.proofs.Rising.{rising_one}
 use Rattle.nk_reach.proofs.Graphs.{reach_good}
 use Rattle.nk_reach.proofs.Growing.{within_or_not}
@@ -20,7 +20,7 @@ pub step_one : (st : Held) (states : List ℕ) (m : Node) (s t y : List ℕ) →
 step_one st states m s t y a b = rising_one s t a.ascend b.ascend (λ k c. (b.every k).1 ((a.every k).0 c)) (λ k c. (a.every k).1 ((b.every k).0 c))
 
 -- an end is bad
-pub makes_bad : (bad : List ℕ → List ℕ → List Out) (n : Node) (x : List ℕ) (t : ℕ) → Makes (bad n.0 n.1) n.1 x t → Bad bad n
+pub makes_bad : (bad : List ℕ → List ℕ → List Out) (n : Node) (x : List ℕ) (t : ℕ) → MakesWithTarget (bad n.0 n.1) n.1 x t → Bad bad n
 makes_bad bad n x t m = λ e. let l : 0 < length (bad n.0 n.1) = let w = m.1.1 in omega (arith, w) in let z : length (bad n.0 n.1) ≡ 0 = ap (λ (os : List Out). length os) e in omega (arith, l, z)
 
 -- nothing bad is reached before the last level
@@ -68,7 +68,7 @@ greedy_least st states set start bad h f n target g early = ((target, greedy_bre
                   | inl one ↦
                       elim (least_is_least (IsStep st states) (Bad bad) (step_one st states) h (set, f.start) n w.end f.records b.records g.walk (subst (λ (v : List ℕ). Walks (IsStep st states) (set, v) b.records w.end) (sym one) w.walk) g.count same ill) [
                         | inl both ↦
-                            elim (g.last b.last t (subst (λ (q : Node). Makes (bad q.0 q.1) q.1 b.last t) (sym both.1) w.makes)) [
+                            elim (g.last b.last t (subst (λ (q : Node). MakesWithTarget (bad q.0 q.1) q.1 b.last t) (sym both.1) w.makes)) [
                               | inl last ↦ inl (λ i. record { start = one i; records = both.0 i; last = last i })
                               | inr less ↦ inr (inr (alike, inr (one, inr (both.0, less))))
                             ]

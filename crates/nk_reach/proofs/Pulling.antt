@@ -7,9 +7,9 @@ use Rattle.nk_store.specs.Held.{Held, HasLeaves, look, Grows}
 use Rattle.nk_store.proofs.Stores.{grows_on}
 use Rattle.nk_algebra.specs.Leaves.{guarded, merged}
 use Rattle.nk_algebra.specs.Predicates.{IsPredicate}
-use Rattle.nk_sets.specs.PacketSets.{has_out, is_in, IsSet, IsSetOf}
+use Rattle.nk_sets.specs.PacketSets.{has_out, is_in, IsSet, IsPacketSetOf}
 use Rattle.nk_sets.proofs.SetLemmas.{guarded_out, merged_out, both_pass, pass_both, predicate_grows}
-use Rattle.nk_determ.specs.Sets.{SetsGrow, Differ}
+use Rattle.nk_determ.specs.Sets.{SetsGrow, HasEachSetOnce}
 use Rattle.nk_reach.specs.declared.outs.Given.{Given}
 use Rattle.nk_reach.specs.Pairs.{Node, Under, Named, Once, AreStates, HavePlaces, IsPair, ArePairs, IsStep}
 use Rattle.nk_reach.specs.Outs.{IsGiven, AreGiven, IsByOut}
@@ -40,7 +40,7 @@ pulled_missing st new o p r t next h k e miss =
     (λ s z is u. let same : s ≡ t = omega (arith, is, e) in not_found next t miss (subst (λ j. Named next j) same (under_named st next s z u)))
 
 -- where the out's set has an entry
-pub pulled_some : (st mid new : Held) (o : Out) (p t q b r : ℕ) (next : List (ℕ × ℕ)) → Grows st mid → IsSet st p → Once next → lookup (eqb t) next ≡ Some q → t + 1 ≡ o.target → IsSetOf mid b (λ pk. is_in st q (applied o.act pk)) →
+pub pulled_some : (st mid new : Held) (o : Out) (p t q b r : ℕ) (next : List (ℕ × ℕ)) → Grows st mid → IsSet st p → Once next → lookup (eqb t) next ≡ Some q → t + 1 ≡ o.target → IsPacketSetOf mid b (λ pk. is_in st q (applied o.act pk)) →
     HasLeaves new r (λ pk. guarded (look mid b pk) (look mid p pk)) → (IsPredicate mid p → IsPredicate new r) → IsPulled st o p next new r
 pulled_some st mid new o p t q b r next g sp once found e before h k = record {
   packets = record { id = h.id; predicate = k (predicate_grows st mid p g sp.id sp.predicate) };
@@ -98,7 +98,7 @@ all_pulled_push a st mid new es n q next all some r k sets l is g1 made g2 one h
     key z w = ap has_out (h.leaf z w) ∙ merged_out (look mid all z) (look mid some z)
 
 -- by the diagram of the set state at the packets, all its outs
-pub pulled_pair_of : (st s1 s2 new : Held) (ss nss : List (List ℕ)) (states set : List ℕ) (x d : ℕ) (es : List Given) (next : List (ℕ × ℕ)) (r : ℕ) → Grows st s1 → Grows s1 s2 → SetsGrow ss nss → Differ nss → ArePairs st ss (length states) next →
+pub pulled_pair_of : (st s1 s2 new : Held) (ss nss : List (List ℕ)) (states set : List ℕ) (x d : ℕ) (es : List Given) (next : List (ℕ × ℕ)) (r : ℕ) → Grows st s1 → Grows s1 s2 → SetsGrow ss nss → HasEachSetOnce nss → ArePairs st ss (length states) next →
     IsStateAt st states set x s1 nss d → IsByOut s2 d es → AreAllPulled s2 es (length es) next new r → IsPulledPair st ss states set x next new r
 pulled_pair_of st s1 s2 new ss nss states set x d es next r g1 g2 grow differ pairs at by all = record {
   packets = all.packets;

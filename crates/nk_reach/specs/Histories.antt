@@ -6,7 +6,7 @@ use Rattle.nk_store.specs.declared.node.Out.{Out}
 use Rattle.nk_store.specs.Held.{Held}
 use Rattle.nk_reach.specs.Pairs.{Node, IsStart, IsStep}
 use Rattle.nk_reach.specs.Levels.{Bad}
-use Rattle.nk_reach.specs.Sides.{Makes}
+use Rattle.nk_reach.specs.Sides.{MakesWithTarget}
 
 -- something bad is met in exactly so many steps
 abbrev pub LeadsToBad : (Node → Node → Type 0) → (Node → Type 0) → ℕ → Node → Type 0
@@ -32,5 +32,5 @@ pub record IsGreedy (st : Held) (states set : List ℕ) (start : ℕ) (bad : Lis
   pub first : (y : List ℕ) → IsStart st set start (set, y) → LeadsToBad (IsStep st states) (Bad bad) h (set, y) → IsUpTo f.start y
   pub walk : IsLeastWalk (IsStep st states) (Bad bad) h (set, f.start) f.records n
   pub count : length f.records ≡ h
-  pub makes : Makes (bad n.0 n.1) n.1 f.last target
-  pub last : (y : List ℕ) (t : ℕ) → Makes (bad n.0 n.1) n.1 y t → IsUpTo f.last y
+  pub makes : MakesWithTarget (bad n.0 n.1) n.1 f.last target
+  pub last : (y : List ℕ) (t : ℕ) → MakesWithTarget (bad n.0 n.1) n.1 y t → IsUpTo f.last y

@@ -4,7 +4,7 @@ use Rattle.nk_field.specs.Act.{applied}
 use Rattle.nk_store.specs.declared.node.Out.{Out}
 use Rattle.nk_store.specs.Held.{Held, IsPacket}
 use Rattle.nk_sets.specs.PacketSets.{is_in, IsSet}
-use Rattle.nk_determ.specs.Sets.{Differ}
+use Rattle.nk_determ.specs.Sets.{HasEachSetOnce}
 use Rattle.nk_reach.specs.Pairs.{Node, Under, Named, Once, EachPair, Within, ArePairs, HavePlaces, IsStep}
 use Rattle.nk_reach.specs.Levels.{IsFilled}
 use Rattle.nk_reach.specs.Outs.{GivesOut}
@@ -63,7 +63,7 @@ pub record IsRaw (st : Held) (ss : List (List ℕ)) (states : List ℕ) (last : 
   pub from : (n : Node) → IsPacket st n.1 → Within new nss raw n → (m : Node) × IsPacket st m.1 × Within st ss last m × IsStep st states m n
   pub every : (m n : Node) → IsPacket st m.1 → Within st ss last m → IsStep st states m n → Within new nss raw n
   pub pairs : ArePairs new nss (length states) raw
-  pub differ : Differ nss
+  pub differ : HasEachSetOnce nss
 
 -- the level has the entries of raw without what was met, where there are any
 pub record IsFresh (st : Held) (met raw : List (ℕ × ℕ)) (new : Held) (level : List (ℕ × ℕ)) : Type 0 where

@@ -1,7 +1,7 @@
 -- What one of two sides alone ends at. Each label has a diagram of marked ends: an out has target 1 where the left side
 -- ends and 2 where the right side does, and its act assigns exactly the fields that it changes, so that equal packets come
 -- of equal acts.
-pub use Rattle.nk_determ.specs.Breaks.{Makes}
+pub use Rattle.nk_determ.specs.Breaks.{MakesWithTarget}
 use Rattle.std.specs.Prelude.{◌≡◌, ℕ, ◌<◌, ◌⊎◌, ◌↔◌, Bool, true, false, nat_lt, eqb, cond, List, [], ◌∷◌, Some, length, slice_index, Contains}
 use Rattle.std.specs.List.{list_any}
 use Rattle.std.specs.Map.{lookup}
@@ -121,5 +121,5 @@ EndsAt st states start bound mark set pk y =
 
 -- the finals with target 0 are what the left side alone ends with, those with target 1 what the right side alone does
 pub record AreOneSided (st : Held) (states : List ℕ) (left right bound : ℕ) (set pk : List ℕ) (outs : List Out) : Type 0 where
-  pub left_alone : (y : List ℕ) → Makes outs pk y 0 ↔ (EndsAt st states left bound 1 set pk y × (EndsAt st states right bound 2 set pk y → ⊥))
-  pub right_alone : (y : List ℕ) → Makes outs pk y 1 ↔ (EndsAt st states right bound 2 set pk y × (EndsAt st states left bound 1 set pk y → ⊥))
+  pub left_alone : (y : List ℕ) → MakesWithTarget outs pk y 0 ↔ (EndsAt st states left bound 1 set pk y × (EndsAt st states right bound 2 set pk y → ⊥))
+  pub right_alone : (y : List ℕ) → MakesWithTarget outs pk y 1 ↔ (EndsAt st states right bound 2 set pk y × (EndsAt st states left bound 1 set pk y → ⊥))

@@ -2,7 +2,7 @@
 ghost use Rattle.std.specs.Prelude.{◌≡◌, ℕ, ◌-◌, ◌<◌, ◌≤◌, [], true, IfOk, OnOk, length, slice_index_or, List as Items};
 ghost use Rattle.nk_field.specs.Order.{IsLeast};
 ghost use Rattle.nk_store.specs.Held.{Held, IsPacket, Grows};
-ghost use Rattle.nk_determ.specs.Sets.{SetsGrow, Differ};
+ghost use Rattle.nk_determ.specs.Sets.{SetsGrow, HasEachSetOnce};
 ghost use Rattle.nk_reach.specs.Pairs.{AreStates};
 ghost use Rattle.nk_reach.specs.Levels.{AreLevels};
 ghost use Rattle.nk_reach.specs.Histories.{IsBreak, Breaks};
@@ -141,7 +141,7 @@ fn backs_of<G: Goal>(
     requires levels { AreLevels st.old st.old ss.old states.now (first_set l.now.levels) (first_packets l.now.levels) (G.bad_of g.old st.old) l.now.levels l.now.broken }
     ensures grows { Grows st.old st.new }
     ensures sets { SetsGrow ss.old ss.new }
-    ensures differ { OnOk result (Differ ss.new) }
+    ensures differ { OnOk result (HasEachSetOnce ss.new) }
     ensures count { IfOk result (λ backs. length backs ≡ length l.now.levels) }
     ensures ok { IfOk result (λ backs. AreBacks st.old st.new ss.old ss.new states.now (G.bad_of g.old st.old) l.now.levels (length l.now.levels - 1) (length l.now.levels) backs) }
     ensures fits { OnOk result (G.fits g.new st.new) }

@@ -13,7 +13,7 @@ use Rattle.nk_store.specs.Held.{Held, IsPacket, AreTidy}
 use Rattle.nk_determ.specs.States.{StateLeads}
 use Rattle.nk_determ.specs.Automaton.{IsAutomaton}
 use Rattle.nk_determ.specs.Pairs.{HavePlaces}
-use Rattle.nk_determ.specs.Breaks.{Makes}
+use Rattle.nk_determ.specs.Breaks.{MakesWithTarget}
 use Rattle.nk_determ.specs.Breaks.{Breaks}
 use Rattle.nk_runs.specs.Labels.{IsAmong}
 use Rattle.nk_runs.proofs.Ends.{EndsAt}
@@ -23,7 +23,7 @@ use Rattle.nk_runs.proofs.Walking.{walk_in_range, walks_met, walk_places, ends_g
 abbrev pub MakeWrong : Held → List ℕ → (Packet → Type 0) → (List ℕ → List ℕ → List Out) → Type 0
 MakeWrong st states Wrong bad =
     (set x y : List ℕ) (target : ℕ) → HavePlaces (length states) set → IsPacket st x
-    → Makes (bad set x) x y target ↔ ((target ≡ 0) × StateLeads st states set x y 0 × Wrong y)
+    → MakesWithTarget (bad set x) x y target ↔ ((target ≡ 0) × StateLeads st states set x y 0 × Wrong y)
 
 -- a list with an out isn't empty
 not_none : (outs : List Out) (o : Out) → Contains outs o → outs ≡ [] → ⊥

@@ -7,7 +7,7 @@ use Rattle.nk_field.proofs.Lists.{In, in_left, in_right, in_either, in_from_cont
 use Rattle.nk_policy.specs.Policy.{Policy, Policies, test, range, assign, sum_of, seq_of, not_of, star_of, dup, link, no_part, part, dups_of, dups_of_all, numbers_of, numbers_of_all}
 use Rattle.nk_policy.specs.Progress.{RecordsAt}
 use Rattle.nk_policy.specs.After.{has_dup, after}
-use Rattle.nk_policy.specs.Labels.{IsAt}
+use Rattle.nk_policy.specs.Labels.{HasRecorded}
 use Rattle.nk_policy.proofs.DupsOfRuns.{front_dups, rest_dups}
 use Rattle.nk_policy.proofs.Remade.{numbers_are}
 
@@ -116,5 +116,5 @@ pub rest_record_dup : (p : Policy) (k : ℕ) (pk x : Packet) (l : ℕ) → Recor
 rest_record_dup p k pk x l r = rest_dups p k l (record_dup (after p k) pk [] x l r)
 
 -- and so is where a run is
-pub at_dup : (p : Policy) (pk : Packet) (u : List Packet) (l : ℕ) → IsAt p pk u l → has_dup p l ≡ true
+pub at_dup : (p : Policy) (pk : Packet) (u : List Packet) (l : ℕ) → HasRecorded p pk u l → has_dup p l ≡ true
 at_dup p pk u l a = record_dup p pk a.0 a.1 l a.3

@@ -7,7 +7,7 @@ use Rattle.nk_policy.specs.Policy.{Policy, dups_of}
 use Rattle.nk_policy.specs.Progress.{RecordsAt}
 use Rattle.nk_policy.specs.After.{has_dup, after}
 use Rattle.nk_policy.specs.Distinct.{HasDistinct}
-use Rattle.nk_policy.specs.Labels.{IsAt, HasExactly, IsLabelSet}
+use Rattle.nk_policy.specs.Labels.{HasRecorded, HasExactly, IsLabelSet}
 use Rattle.nk_policy.proofs.LabelSteps.{at_first, at_next, sets_follow}
 use Rattle.nk_policy.proofs.ListParts.{last_of_list}
 use Rattle.nk_policy.proofs.Tests.{false_true}
@@ -36,8 +36,8 @@ only_member l k c = ⊎_elim (λ e. e) (λ i. absurd i) (in_from_contains (k ∷
 -- all labels after some records, and that the last packet is in range where there are any
 pub record Known (st : Held) (p : Policy) (pk : Packet) (u : List Packet) (x : Packet) : Type 0 where
   pub set : List ℕ
-  pub exactly : HasExactly (IsAt p pk (u ++ x ∷ [])) set
-  pub range : (l : ℕ) → IsAt p pk (u ++ x ∷ []) l → IsPacket st x
+  pub exactly : HasExactly (HasRecorded p pk (u ++ x ∷ [])) set
+  pub range : (l : ℕ) → HasRecorded p pk (u ++ x ∷ []) l → IsPacket st x
 
 -- what is decided of one is decided of the other
 decided_by : {P Q : Type 0} → P ↔ Q → Decided P → Decided Q
@@ -111,13 +111,13 @@ module _ (st : Held) (states : List ℕ) (p : Policy) (a : IsAutomaton st states
       )
 
   -- the members of a label set are dups
-  pub members_are_dups : (pk : Packet) (u : List Packet) (s : List ℕ) → HasExactly (IsAt p pk u) s
+  pub members_are_dups : (pk : Packet) (u : List Packet) (s : List ℕ) → HasExactly (HasRecorded p pk u) s
       → (l : ℕ) → Contains s l → has_dup p l ≡ true
   members_are_dups pk u s h l c = at_dup p pk u l ((h.1 l).0 c)
 
   -- each further step
   pub follows : (pk : Packet) (u : List Packet) (x y : Packet) (s t : List ℕ) → IsPacket st x
-      → HasExactly (IsAt p pk (u ++ x ∷ [])) s
+      → HasExactly (HasRecorded p pk (u ++ x ∷ [])) s
       → IsStep st states (s, x) (t, y) ↔ IsLabelSet p pk ((u ++ x ∷ []) ++ y ∷ []) t
   follows pk u x y s t r h =
       let dups = members_are_dups pk (u ++ x ∷ []) s h in
@@ -128,10 +128,10 @@ module _ (st : Held) (states : List ℕ) (p : Policy) (a : IsAutomaton st states
       (λ k. let e = i.0 k in (e.0, f.1 e.1), λ k. i.1 (k.0, f.0 k.1))
 
   -- from deciding each label
-  from_decided : (pk : Packet) (u : List Packet) (x : Packet) → ((l : ℕ) → Decided (IsAt p pk (u ++ x ∷ []) l))
-      → ((l : ℕ) → IsAt p pk (u ++ x ∷ []) l → IsPacket st x) → Known st p pk u x
+  from_decided : (pk : Packet) (u : List Packet) (x : Packet) → ((l : ℕ) → Decided (HasRecorded p pk (u ++ x ∷ []) l))
+      → ((l : ℕ) → HasRecorded p pk (u ++ x ∷ []) l → IsPacket st x) → Known st p pk u x
   from_decided pk u x decided range =
-      let all = all_listed (λ l. IsAt p pk (u ++ x ∷ []) l) decided (1 + dups_of p)
+      let all = all_listed (λ l. HasRecorded p pk (u ++ x ∷ []) l) decided (1 + dups_of p)
       (λ l h. let b = dup_within p a.labels l (at_dup p pk (u ++ x ∷ []) l h) in omega (arith, b.1)) in
       record { set = all.0; exactly = all.1; range = range }
 
@@ -155,7 +155,7 @@ module _ (st : Held) (states : List ℕ) (p : Policy) (a : IsAutomaton st states
       dups : (l : ℕ) → Contains k.set l → has_dup p l ≡ true
       dups = members_are_dups pk (u ++ x ∷ []) k.set k.exactly
 
-      range : (l : ℕ) → IsAt p pk ((u ++ x ∷ []) ++ y ∷ []) l → IsPacket st y
+      range : (l : ℕ) → HasRecorded p pk ((u ++ x ∷ []) ++ y ∷ []) l → IsPacket st y
       range l h =
           let b = (at_next p d pk u x y l).0 h in
           let r = k.range b.0 b.1 in
@@ -170,7 +170,7 @@ module _ (st : Held) (states : List ℕ) (p : Policy) (a : IsAutomaton st states
       by_dup r l' l false e = inr (λ q. false_true (sym e ∙ q.0))
 
       -- whether some member does
-      by_set : (l' : ℕ) (s : List ℕ) → k.set ≡ s → Decided (IsAt p pk ((u ++ x ∷ []) ++ y ∷ []) l')
+      by_set : (l' : ℕ) (s : List ℕ) → k.set ≡ s → Decided (HasRecorded p pk ((u ++ x ∷ []) ++ y ∷ []) l')
       by_set l' [] e =
           inr (λ h. let b = (at_next p d pk u x y l').0 h in no_member k.set b.0 e ((k.exactly.1 b.0).1 b.1))
       by_set l' (m ∷ s) e =
@@ -186,7 +186,7 @@ module _ (st : Held) (states : List ℕ) (p : Policy) (a : IsAutomaton st states
           )
           (some_decided (λ l. (has_dup p l ≡ true) × RecordsAt (after p l) x [] y l') (λ l. by_dup r l' l (has_dup p l) refl) k.set)
 
-      decided : (l : ℕ) → Decided (IsAt p pk ((u ++ x ∷ []) ++ y ∷ []) l)
+      decided : (l : ℕ) → Decided (HasRecorded p pk ((u ++ x ∷ []) ++ y ∷ []) l)
       decided l = by_set l k.set refl
 
   -- all labels after any records from a packet in range

@@ -18,11 +18,11 @@ use Rattle.nk_policy.proofs.LinkStructure.{holds_first, on_link, off_link_at_sou
 use Rattle.nk_policy.proofs.Parity.{bound_of, dups_below, odd_at, even_at}
 use Rattle.nk_store.specs.declared.node.Out.{Out}
 use Rattle.nk_store.specs.Held.{Held, IsPacket, Grows, AreTidy}
-use Rattle.nk_determ.specs.Sets.{Differ}
+use Rattle.nk_determ.specs.Sets.{HasEachSetOnce}
 use Rattle.nk_determ.specs.Automaton.{IsAutomaton}
 use Rattle.nk_determ.specs.Pairs.{Node, Named, Under, EachPair, IsPair}
 use Rattle.nk_determ.specs.Levels.{At, InLevel, IsFilled, AreLevels}
-use Rattle.nk_determ.specs.InOrder.{odd_level, IsAtOdd, IsFirst, IsNumberedBefore, AreNumbers}
+use Rattle.nk_determ.specs.InOrder.{odd_level, IsAtOdd, IsFirstNaming, IsNumberedBefore, AreNumbers}
 use Rattle.nk_determ.proofs.Naming.{named_within, named_entry, pairs_mapped}
 use Rattle.nk_runs.specs.Labels.{IsAmong, members}
 use Rattle.nk_runs.proofs.Numbers.{dup_within, at_dup}
@@ -144,12 +144,12 @@ module _ (old new : Held) (ss : List (List ℕ)) (states : List ℕ) (set start 
       subst (λ k. k < length ss) q.2 q.1.known
 
   -- the numbers of two sets with the same members
-  one_number : Differ ss → (i j s t : ℕ) → Named (slice_index_or ls i []) s → Named (slice_index_or ls j []) t
+  one_number : HasEachSetOnce ss → (i j s t : ℕ) → Named (slice_index_or ls i []) s → Named (slice_index_or ls j []) t
       → members ss s ≡ members ss t → s ≡ t
   one_number differ i j s t hs ht e = differ s t (named_known i s hs) (named_known j t ht) e
 
   -- at least so many tag sets
-  pub many_tags : Differ ss → Grows old new → (least : ℕ) → AtLeast least (IsAtOdd ls) → AtLeast least (IsTagSet p Start)
+  pub many_tags : HasEachSetOnce ss → Grows old new → (least : ℕ) → AtLeast least (IsAtOdd ls) → AtLeast least (IsTagSet p Start)
   many_tags differ grown least h = (
     map (members ss) h.0,
     count_mapped (members ss) h.0 ∙ h.1,
@@ -201,7 +201,7 @@ module _ (old new : Held) (ss : List (List ℕ)) (states : List ℕ) (set start 
     )
 
     -- the first odd level of a set has the least number of records
-    shortest : Differ ss → Grows old new → (s j : ℕ) → IsFirst ls s j → IsShortest p Start (members ss s) (2 * j + 1)
+    shortest : HasEachSetOnce ss → Grows old new → (s j : ℕ) → IsFirstNaming ls s j → IsShortest p Start (members ss s) (2 * j + 1)
     shortest differ grown s j f =
         let r = odd_records grown s j f.named in (
           (r.0, r.1, j, r.2, r.3, r.4, r.3),
@@ -212,7 +212,7 @@ module _ (old new : Held) (ss : List (List ℕ)) (states : List ℕ) (set start 
         )
 
     -- the numbers' order is that of tags
-    tag_before : Differ ss → Grows old new → (s t : ℕ) → IsNumberedBefore ss ls s t
+    tag_before : HasEachSetOnce ss → Grows old new → (s t : ℕ) → IsNumberedBefore ss ls s t
         → IsTagBefore p Start (members ss s) (members ss t)
     tag_before differ grown s t h = (
       2 * h.0 + 1,
@@ -223,7 +223,7 @@ module _ (old new : Held) (ss : List (List ℕ)) (states : List ℕ) (set start 
     )
 
     -- the members of the numbers are the tags
-    pub are_tags : Differ ss → Grows old new → (r : List ℕ) → AreNumbers ss ls r → AreTags p Start (map (members ss) r)
+    pub are_tags : HasEachSetOnce ss → Grows old new → (r : List ℕ) → AreNumbers ss ls r → AreTags p Start (map (members ss) r)
     are_tags differ grown r numbers = record {
       exactly = λ s. (
         λ c.

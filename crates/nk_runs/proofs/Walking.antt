@@ -8,7 +8,7 @@ use Rattle.nk_policy.specs.Policy.{Policy}
 use Rattle.nk_policy.specs.Meaning.{Gives}
 use Rattle.nk_policy.specs.After.{has_dup}
 use Rattle.nk_policy.specs.Distinct.{HasDistinct}
-use Rattle.nk_policy.specs.Labels.{IsAt, IsLabelSet}
+use Rattle.nk_policy.specs.Labels.{HasRecorded, IsLabelSet}
 use Rattle.nk_policy.specs.PositionSets.{at_position, IsPosition, last_from, IsNumbered}
 use Rattle.nk_policy.proofs.LabelSteps.{at_next}
 use Rattle.nk_policy.proofs.ListParts.{last_of_list}
@@ -42,11 +42,11 @@ module _ (st : Held) (states : List ℕ) (p : Policy) (a : IsAutomaton st states
   }
 
   -- a run was somewhere at each of its records
-  at_front : (u g : List Packet) (pk y : Packet) (l : ℕ) → IsAt p pk ((g ++ y ∷ []) ++ u) l
-      → (k : ℕ) × IsAt p pk (g ++ y ∷ []) k
-  at_front [] g pk y l h = (l, subst (λ v. IsAt p pk v l) (append-nil (g ++ y ∷ [])) h)
+  at_front : (u g : List Packet) (pk y : Packet) (l : ℕ) → HasRecorded p pk ((g ++ y ∷ []) ++ u) l
+      → (k : ℕ) × HasRecorded p pk (g ++ y ∷ []) k
+  at_front [] g pk y l h = (l, subst (λ v. HasRecorded p pk v l) (append-nil (g ++ y ∷ [])) h)
   at_front (z ∷ u) g pk y l h =
-      let b = at_front u (g ++ y ∷ []) pk z l (subst (λ v. IsAt p pk v l) (sym (append_assoc (g ++ y ∷ []) (z ∷ []) u)) h) in
+      let b = at_front u (g ++ y ∷ []) pk z l (subst (λ v. HasRecorded p pk v l) (sym (append_assoc (g ++ y ∷ []) (z ∷ []) u)) h) in
       let c = (at_next p d pk g y z b.0).0 b.1 in
       (c.0, c.1)
 
@@ -79,7 +79,7 @@ module _ (st : Held) (states : List ℕ) (p : Policy) (a : IsAutomaton st states
       → Walks (IsStep st states) (s, x) u n
   walk_to [] f pk x s n b r h k e =
       let whole = subst (λ v. IsLabelSet p pk v n.0) (append-nil (f ++ x ∷ [])) k in
-      let same : s ≡ n.0 = one_set (IsAt p pk (f ++ x ∷ [])) s n.0 h.1 whole.1 in
+      let same : s ≡ n.0 = one_set (HasRecorded p pk (f ++ x ∷ [])) s n.0 h.1 whole.1 in
       let with_packet : List ℕ → Node = λ z. (z, x) in
       let with_set : Packet → Node = λ z. (n.0, z) in
       ap with_packet same ∙ ap with_set (sym e)
@@ -150,12 +150,12 @@ module _ (st : Held) (states : List ℕ) (p : Policy) (a : IsAutomaton st states
       (n, (walks_met pk (x ∷ u) n r).1 (s.1, refl))
     where
       -- a label set behind records after which a run is somewhere
-      all_at : (pk x : Packet) (u : List Packet) → IsPacket st pk → (l : ℕ) → IsAt p pk (x ∷ u) l
+      all_at : (pk x : Packet) (u : List Packet) → IsPacket st pk → (l : ℕ) → HasRecorded p pk (x ∷ u) l
           → (s : List ℕ) × IsLabelSet p pk (x ∷ u) s
       all_at pk x u r l h =
           let c = last_of_list x u in
           let k : Known st p pk c.0 c.1 = known st states p a d tidy (length c.0) pk c.0 c.1 refl r in
-          let at = subst (λ v. IsAt p pk v l) c.2 h in
+          let at = subst (λ v. HasRecorded p pk v l) c.2 h in
           let there = (k.exactly.1 l).1 at in
           let labels : IsLabelSet p pk (c.0 ++ c.1 ∷ []) k.set = ((λ none. no_member k.set l none there), k.exactly) in
           (k.set, subst (λ v. IsLabelSet p pk v k.set) (sym c.2) labels)

@@ -2,7 +2,7 @@
 //!
 //! Each function is a theorem: it takes nothing, does nothing, and its contract is the statement. `IsAutomaton` says that
 //! states are the automaton of a policy, `At` which set of labels is met at which packet by so many records, `AreLevels` what
-//! levels are; `AreTidy` and `Differ` are what a store and sets of labels always are.
+//! levels are; `AreTidy` and `HasEachSetOnce` are what a store and sets of labels always are.
 ghost use Rattle.std.specs.Prelude.{◌≡◌, true, false, ℕ, Bool, ◌↔◌, ◌∷◌, [], List, length, map, slice_index_or};
 ghost use Rattle.nk_field.specs.declared.packet.Packet.{Packet};
 ghost use Rattle.nk_field.specs.Order.{Found};
@@ -14,7 +14,7 @@ ghost use Rattle.nk_policy.specs.Labels.{IsTagSet, AtLeast};
 ghost use Rattle.nk_policy.specs.Tags.{AreTags};
 ghost use Rattle.nk_store.specs.declared.node.Out.{Out};
 ghost use Rattle.nk_store.specs.Held.{Held, IsPacket, Grows, AreTidy};
-ghost use Rattle.nk_determ.specs.Sets.{Differ};
+ghost use Rattle.nk_determ.specs.Sets.{HasEachSetOnce};
 ghost use Rattle.nk_determ.specs.Automaton.{IsAutomaton};
 ghost use Rattle.nk_determ.specs.States.{StateLeads};
 ghost use Rattle.nk_determ.specs.Pairs.{Node, AreStates, HavePlaces, IsStep};
@@ -52,7 +52,7 @@ pub fn tag_sets_are_numbered()
     ensures tags { (old new : Held) (ss : List (List ℕ)) (states : List ℕ) (set start : ℕ)
         (bad : List ℕ → List ℕ → List Out) (ls : List (List (ℕ × ℕ))) (r : List ℕ) (p : Policy)
         → IsAutomaton old states 1 p → HasDistinct p → AreTidy old → has_leaf is_dup p ≡ false
-        → slice_index_or ss set [] ≡ 0 ∷ [] → Differ ss → Grows old new
+        → slice_index_or ss set [] ≡ 0 ∷ [] → HasEachSetOnce ss → Grows old new
         → AreLevels old new ss states set start bad ls false → AreNumbers ss ls r
         → AreTags p (IsAmong old start) (map (members ss) r) }
 {}
@@ -62,7 +62,7 @@ pub fn too_many_tag_sets()
     ensures { (old new : Held) (ss : List (List ℕ)) (states : List ℕ) (set start : ℕ)
         (bad : List ℕ → List ℕ → List Out) (ls : List (List (ℕ × ℕ))) (p : Policy)
         → IsAutomaton old states 1 p → HasDistinct p → AreTidy old
-        → slice_index_or ss set [] ≡ 0 ∷ [] → Differ ss → Grows old new
+        → slice_index_or ss set [] ≡ 0 ∷ [] → HasEachSetOnce ss → Grows old new
         → AreLevels old new ss states set start bad ls false
         → (least : ℕ) → AtLeast least (IsAtOdd ls) → AtLeast least (IsTagSet p (IsAmong old start)) }
 {}

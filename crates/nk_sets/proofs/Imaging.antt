@@ -13,7 +13,7 @@ use Rattle.nk_algebra.specs.Leaves.{guarded}
 use Rattle.nk_algebra.specs.Seqs.{no_out}
 use Rattle.nk_algebra.specs.Predicates.{IsPass, IsPredicate}
 use Rattle.nk_algebra.proofs.Predicates.{predicate_by, pass_cond, whole_set, whole_applied}
-use Rattle.nk_sets.specs.PacketSets.{has_out, is_in, IsSet, IsSetOf, IsImage}
+use Rattle.nk_sets.specs.PacketSets.{has_out, is_in, IsSet, IsPacketSetOf, IsImage}
 use Rattle.nk_sets.specs.Forgets.{is_in_for_some, forgotten, IsForgotten}
 use Rattle.nk_sets.specs.Images.{Omits, SameBeside, IsFree, are_assigned}
 use Rattle.nk_sets.proofs.SetLemmas.{both_pass, pass_both, guarded_out, predicate_grows}
@@ -109,10 +109,10 @@ assigned_more maxes (s ∷ ss) p pk b =
 -- the packets of a set that have one value more
 pub assigned_push :
     (old st s1 new : Held) (g : List (ℕ × ℕ)) (s kept t d : ℕ) (p : ℕ × ℕ) → Grows old st → Grows st s1
-    → IsSetOf st kept (λ pk. are_assigned old.maxes g pk && is_in old s pk)
+    → IsPacketSetOf st kept (λ pk. are_assigned old.maxes g pk && is_in old s pk)
     → HasLeaves s1 t (λ pk. cond (eqb (min (get_or pk p.0 0) (get_or st.maxes p.0 0)) p.1) (no_out ∷ []) [])
     → HasLeaves new d (λ pk. guarded (look s1 t pk) (look s1 kept pk)) → (IsPredicate s1 kept → IsPredicate new d)
-    → IsSetOf new d (λ pk. are_assigned old.maxes (g ++ p ∷ []) pk && is_in old s pk)
+    → IsPacketSetOf new d (λ pk. are_assigned old.maxes (g ++ p ∷ []) pk && is_in old s pk)
 assigned_push old st s1 new g s kept t d p a b k test h predicate = record {
   set = record { id = h.id; predicate = predicate (predicate_grows st s1 kept b k.set.id k.set.predicate) };
   at = λ pk w.
@@ -178,7 +178,7 @@ applied_assigned maxes low (s ∷ ss) x act w =
 -- the fields forgotten, then the values tested: what the act makes of the set
 pub image_is :
     (old st new : Held) (g : List (ℕ × ℕ)) (s r d : ℕ) → Grows old st → IsActFrom old.maxes 0 g
-    → IsFree old g s st r → IsSetOf new d (λ pk. are_assigned st.maxes g pk && is_in st r pk)
+    → IsFree old g s st r → IsPacketSetOf new d (λ pk. are_assigned st.maxes g pk && is_in st r pk)
     → IsImage old g s new d
 image_is old st new g s r d a act free made = record {
   set = made.set;
@@ -210,7 +210,7 @@ act_value maxes low (s ∷ ss) (suc i) p act h e = act_value maxes (s.0 + 1) ss 
 -- the packets that an act brings into a set
 pub preimage_is :
     (old new : Held) (g : List (ℕ × ℕ)) (s r : ℕ) → IsSet old s
-    → HasLeaves new r (λ pk. look old s (applied g pk)) → IsSetOf new r (λ pk. is_in old s (applied g pk))
+    → HasLeaves new r (λ pk. look old s (applied g pk)) → IsPacketSetOf new r (λ pk. is_in old s (applied g pk))
 preimage_is old new g s r is h = record {
   set = record { id = h.id; predicate = λ pk w. subst IsPass (sym (h.leaf pk w)) (is.predicate (applied g pk) (whole_applied g pk w)) };
   at = λ pk w. ap has_out (h.leaf pk w);

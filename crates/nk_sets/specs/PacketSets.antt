@@ -6,7 +6,7 @@ use Rattle.nk_field.specs.Order.{Precedes}
 use Rattle.nk_store.specs.Held.{Held, IsWhole, IsPacket}
 
 -- the packets of the set are those that pass the test
-pub record IsSetOf (st : Held) (s : ℕ) (test : List ℕ → Bool) : Type 0 where
+pub record IsPacketSetOf (st : Held) (s : ℕ) (test : List ℕ → Bool) : Type 0 where
   pub set : IsSet st s
   pub at : (pk : List ℕ) → IsWhole pk → is_in st s pk ≡ test pk
 

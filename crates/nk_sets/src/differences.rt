@@ -1,7 +1,7 @@
 //! The difference of two sets.
 ghost use Rattle.std.specs.Prelude.{◌&&◌, not, IfOk};
 ghost use Rattle.nk_store.specs.Held.{IsId, Grows};
-ghost use Rattle.nk_sets.specs.PacketSets.{is_in, IsSet, IsSetOf};
+ghost use Rattle.nk_sets.specs.PacketSets.{is_in, IsSet, IsPacketSetOf};
 
 use nk_algebra::{both, negate};
 use nk_store::{Id, Store};
@@ -12,7 +12,7 @@ pub fn minus(st: &mut Store, a: Id, b: Id) -> Result<Id, AllocError>
     requires left { IsSet st.old a }
     requires right { IsId st.old b }
     ensures grows { Grows st.old st.new }
-    ensures ok { IfOk result (λ r. IsSetOf st.new r (λ pk. is_in st.old a pk && not (is_in st.old b pk))) }
+    ensures ok { IfOk result (λ r. IsPacketSetOf st.new r (λ pk. is_in st.old a pk && not (is_in st.old b pk))) }
 {
     let others = negate(st, b)?;
     both(st, others, a)

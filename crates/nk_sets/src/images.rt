@@ -3,7 +3,7 @@ ghost use Rattle.std.specs.Prelude.{◌&&◌, IfOk};
 ghost use Rattle.nk_field.specs.Act.{applied};
 ghost use Rattle.nk_store.specs.Leaves.{IsActFrom};
 ghost use Rattle.nk_store.specs.Held.{Grows};
-ghost use Rattle.nk_sets.specs.PacketSets.{is_in, IsSet, IsSetOf, IsImage};
+ghost use Rattle.nk_sets.specs.PacketSets.{is_in, IsSet, IsPacketSetOf, IsImage};
 ghost use Rattle.nk_sets.specs.Images.{IsFree, are_assigned};
 
 use crate::forgets::forget;
@@ -43,7 +43,7 @@ fn assigned(st: &mut Store, a: &Act, s: Id) -> Result<Id, AllocError>
     requires act { IsActFrom st.old.maxes 0 a.now }
     requires set { IsSet st.old s }
     ensures grows { Grows st.old st.new }
-    ensures ok { IfOk result (λ r. IsSetOf st.new r
+    ensures ok { IfOk result (λ r. IsPacketSetOf st.new r
         (λ pk. are_assigned st.old.maxes a.now pk && is_in st.old s pk)) }
 {
     let mut kept = s;
@@ -59,7 +59,7 @@ fn assigned(st: &mut Store, a: &Act, s: Id) -> Result<Id, AllocError>
 pub fn preimage(st: &mut Store, a: &Act, s: Id) -> Result<Id, AllocError>
     requires { IsSet st.old s }
     ensures grows { Grows st.old st.new }
-    ensures ok { IfOk result (λ r. IsSetOf st.new r (λ pk. is_in st.old s (applied a.now pk))) }
+    ensures ok { IfOk result (λ r. IsPacketSetOf st.new r (λ pk. is_in st.old s (applied a.now pk))) }
 {
     shift(st, s, a)
 }

@@ -8,7 +8,7 @@ use Rattle.nk_store.specs.Diagram.{IsReduced, leaf_at}
 use Rattle.nk_store.specs.Held.{Held, IsPacket, look, Grows, AreTidy}
 use Rattle.nk_algebra.specs.PacketSets.{has_out, is_in}
 use Rattle.nk_algebra.specs.Unions.{AreIds}
-use Rattle.nk_determ.specs.Sets.{SetsGrow, Differ, Ascend}
+use Rattle.nk_determ.specs.Sets.{SetsGrow, HasEachSetOnce, HasAscendingSets}
 use Rattle.nk_table.specs.declared.Table.{Table}
 use Rattle.nk_extract.specs.Buckets.{AreBuckets}
 use Rattle.nk_extract.specs.RowsOf.{IsPrintable}
@@ -82,7 +82,7 @@ tags_within count ss tags classes table items is many same =
         ⊎_elim (λ z. omega (arith, z.1)) (λ i. omega (arith, i.1, i.3, many)) (is.only k t e)
 
 module _ (first st : Held) (old ss : List (List ℕ)) (states tags classes : List ℕ) (tag : ℕ) (g : Grows first st) (grew : SetsGrow old ss) (ids : AreIds first states)
-    (known : All (λ s. s < length old) tags) (differ : Differ ss) (ascend : Ascend ss) where
+    (known : All (λ s. s < length old) tags) (differ : HasEachSetOnce ss) (ascend : HasAscendingSets ss) where
   -- the set state of a tag's states, by the sets of the beginning
   of_state : (sw t d : ℕ) → HasPlaces ss (length states) tags t → IsStateAtSwitch st ss states (members_of ss tags t) sw d → IsStateAtSwitch st ss states (members_of old tags t) sw d
   of_state sw t d has k = subst (λ m. IsStateAtSwitch st ss states m sw d) (members_kept old ss tags t grew known has.within) k

@@ -7,7 +7,7 @@ use Rattle.nk_store.specs.Nodes.{InRange}
 use Rattle.nk_store.specs.Diagram.{IsReduced, leaf_at}
 use Rattle.nk_store.specs.Held.{Held, IsPacket, Grows, AreTidy}
 use Rattle.nk_algebra.specs.Unions.{AreIds}
-use Rattle.nk_determ.specs.Sets.{SetsGrow, Differ, Ascend}
+use Rattle.nk_determ.specs.Sets.{SetsGrow, HasEachSetOnce, HasAscendingSets}
 use Rattle.nk_table.specs.declared.Table.{Table}
 use Rattle.nk_extract.specs.Buckets.{AreBuckets}
 use Rattle.nk_group.specs.Groups.{groups_of, rows_after}
@@ -29,7 +29,7 @@ pub stop_places : (st : Held) (ss : List (List ℕ)) (states tags : List ℕ) (t
 stop_places st ss states tags tag s h k d lt = let a = h k d lt in record { within = a.within; places = a.places }
 
 module _ (first st : Held) (old ss : List (List ℕ)) (states tags : List ℕ) (tag : ℕ) (g : Grows first st) (grew : SetsGrow old ss) (ids : AreIds first states)
-    (known : All (λ s. s < length old) tags) (differ : Differ ss) (ascend : Ascend ss) where
+    (known : All (λ s. s < length old) tags) (differ : HasEachSetOnce ss) (ascend : HasAscendingSets ss) where
   -- what is known of a tag of a stop
   of_tag : (s : Stop) (tag_states : SwitchStates) → IsStop first old states tags tag s → AreStatesAt st ss states tags s tag_states → (e : TagState) → In tag_states.tag_states e →
       IsTagAt first old states tags tag s.switch e.tag

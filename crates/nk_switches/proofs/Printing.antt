@@ -11,7 +11,7 @@ use Rattle.nk_store.specs.Held.{Held, look, IsPacket, AreTidy}
 use Rattle.nk_store.proofs.Same.{set_in_range}
 use Rattle.nk_algebra.proofs.Members.{Has, contains_has, has_contains, every_has, strict_same}
 use Rattle.nk_determ.specs.Exact.{IsExact, Sends}
-use Rattle.nk_determ.specs.Sets.{Differ, Ascend}
+use Rattle.nk_determ.specs.Sets.{HasEachSetOnce, HasAscendingSets}
 use Rattle.nk_determ.specs.States.{StateLeads, IsLedTo}
 use Rattle.nk_determ.proofs.Laws.{exact_one}
 use Rattle.nk_extract.specs.RowsOf.{IsPrintable}
@@ -24,7 +24,7 @@ some_member [] h = absurd (h refl)
 some_member (x ∷ xs) h = (x, (0, omega arith, refl))
 
 -- two ascending lists of sets with the same members have one number
-pub one_set : (ss : List (List ℕ)) (i j : ℕ) → Differ ss → Ascend ss → i < length ss → j < length ss →
+pub one_set : (ss : List (List ℕ)) (i j : ℕ) → HasEachSetOnce ss → HasAscendingSets ss → i < length ss → j < length ss →
     ((l : ℕ) → Contains (get_or ss i []) l → Contains (get_or ss j []) l) → ((l : ℕ) → Contains (get_or ss j []) l → Contains (get_or ss i []) l) → i ≡ j
 one_set ss i j differ ascend a b f g =
     differ i j a b (one_list (get_or ss i []) (get_or ss j []) (rising_from _ (ascend i)) (rising_from _ (ascend j))
@@ -35,7 +35,7 @@ one_set ss i j differ ascend a b f g =
 set_back : (pk : List ℕ) (f v : ℕ) → slice_set (slice_set pk f v) f (slice_index pk f) ≡ pk
 set_back pk f v = set-set pk f v (slice_index pk f) ∙ set-get_or pk f 0
 
-module _ (st : Held) (ss : List (List ℕ)) (states members : List ℕ) (tag sw d : ℕ) (past : 2 ≤ tag) (tidy : AreTidy st) (differ : Differ ss) (ascend : Ascend ss)
+module _ (st : Held) (ss : List (List ℕ)) (states members : List ℕ) (tag sw d : ℕ) (past : 2 ≤ tag) (tidy : AreTidy st) (differ : HasEachSetOnce ss) (ascend : HasAscendingSets ss)
     (state : IsStateAtSwitch st ss states members sw d) (stay : StayAt st tag sw states members) where
   -- at a packet of the switch some state leads where the diagram sends
   leads_there : (pk y : List ℕ) (t : ℕ) → IsPacket st pk → slice_index pk 0 ≡ sw → Sends st d pk y t → (l : ℕ) × StateLeads st states members pk y l

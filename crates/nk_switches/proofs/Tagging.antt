@@ -3,7 +3,7 @@ use Rattle.std.proofs.Common.{◌≡◌, ℕ, zero, suc, ◌+◌, ◌<◌, ◌�
 use Rattle.std.specs.Prelude.{slice_index, Contains, All}
 use Rattle.nk_store.specs.Held.{Held, IsPacket}
 use Rattle.nk_determ.specs.Exact.{Sends}
-use Rattle.nk_determ.specs.Sets.{Differ, Ascend, SetsGrow}
+use Rattle.nk_determ.specs.Sets.{HasEachSetOnce, HasAscendingSets, SetsGrow}
 use Rattle.nk_switches.specs.States.{IsStateAtSwitch}
 use Rattle.nk_switches.specs.Tagged.{set_of_tag, LeadsWith, SendsBy, IsTagTable, AreOnce}
 use Rattle.nk_switches.proofs.Growing.{tag_set_kept}
@@ -17,7 +17,7 @@ same_some a b e = cc
 pub once_kept : (ss more : List (List ℕ)) (tags : List ℕ) → SetsGrow ss more → All (λ s. s < length ss) tags → AreOnce ss tags → AreOnce more tags
 once_kept ss more tags g known once i j a b some e = once i j a b (λ none. some (tag_set_kept ss more tags i g known a ∙ none)) e
 
-module _ (st : Held) (first ss : List (List ℕ)) (states tags members : List ℕ) (sw d : ℕ) (table : List (Option ℕ)) (differ : Differ ss) (ascend : Ascend ss)
+module _ (st : Held) (first ss : List (List ℕ)) (states tags members : List ℕ) (sw d : ℕ) (table : List (Option ℕ)) (differ : HasEachSetOnce ss) (ascend : HasAscendingSets ss)
     (grew : SetsGrow first ss) (known : All (λ s. s < length first) tags) (more : length first ≤ length ss)
     (is : IsTagTable (length tags) ss tags table) (state : IsStateAtSwitch st ss states members sw d) where
   -- a tag's set is the one of the beginning

@@ -4,7 +4,7 @@ use Rattle.std.specs.Prelude.{⊤}
 use Rattle.std.specs.List.{flat_map}
 use Rattle.nk_lex.specs.declared.kind.Kind.TheVariants as kind
 use Rattle.nk_lex.specs.Lex.{largest}
-use Rattle.nk_lex.specs.Spelling.{Sign, Lexeme, IsName, IsApart, AreApart, text_of}
+use Rattle.nk_lex.specs.Spelling.{Sign, Lexeme, IsName, IsApart, AreSeparate, text_of}
 use Rattle.nk_topo.specs.Topology.{SwitchPorts, Link}
 use Rattle.nk_tabgrammar.specs.declared.written.Declaration.{Declaration}
 use Rattle.nk_tabgrammar.specs.declared.written.Declaration.TheVariants as declared
@@ -43,7 +43,7 @@ fields_bytes (n ∷ ns) (m ∷ ms) r =
     ∙ sym (left5 (codes "field ") n (codes " ") (decimal m) (codes "\n") (field_lines ns ms ++ text_of r))
     ∙ sym (append_assoc (field_text n m) (field_lines ns ms) (text_of r))
 
-pub fields_apart : (ns : List (List ℕ)) (ms : List ℕ) (r : List Lexeme) → AreFieldsShown ns ms → AreApart r → AreApart (lex_fields ns ms r)
+pub fields_apart : (ns : List (List ℕ)) (ms : List ℕ) (r : List Lexeme) → AreFieldsShown ns ms → AreSeparate r → AreSeparate (lex_fields ns ms r)
 fields_apart [] ms r h a = a
 fields_apart (n ∷ ns) [] r h a = a
 fields_apart (n ∷ ns) (m ∷ ms) r h a =
@@ -70,7 +70,7 @@ lex_tag n r = Lexeme.word (codes "tag") ∷ Lexeme.space ∷ Lexeme.word n ∷ L
 pub tag_bytes : (n : List ℕ) (r : List Lexeme) → text_of (lex_tag n r) ≡ (codes "tag " ++ n ++ codes "\n") ++ text_of r
 tag_bytes n r = sym (left3 (codes "tag ") n (codes "\n") (text_of r))
 
-pub tag_apart : (n : List ℕ) (r : List Lexeme) → IsName n → AreApart r → AreApart (lex_tag n r)
+pub tag_apart : (n : List ℕ) (r : List Lexeme) → IsName n → AreSeparate r → AreSeparate (lex_tag n r)
 tag_apart n r h a = ((refl, refl), refl, (tt, refl, (h.0, refl, (tt, feed_apart r, a))))
 
 pub tag_spelled : (line : ℕ) (n : List ℕ) (r : List Lexeme) → IsName n
@@ -132,16 +132,16 @@ switches_bytes (s ∷ ss) r =
     ∙ sym (left5 (codes "switch ") (decimal s.switch) (codes " ports ") (ports_text s.ports) (codes "\n") (flat_map switch_text ss ++ text_of r))
     ∙ sym (append_assoc (switch_text s) (flat_map switch_text ss) (text_of r))
 
-ports_apart : (p : ℕ) (ps : List ℕ) (r : List Lexeme) → ArePortsShown ps → AreApart r → AreApart (lex_ports ps r) × IsApart (Lexeme.numeral p) (lex_ports ps r)
+ports_apart : (p : ℕ) (ps : List ℕ) (r : List Lexeme) → ArePortsShown ps → AreSeparate r → AreSeparate (lex_ports ps r) × IsApart (Lexeme.numeral p) (lex_ports ps r)
 ports_apart p [] r h a = ((tt, feed_apart r, a), refl)
 ports_apart p (q ∷ ps) r h a = let rest = ports_apart q ps r h.1 a in ((tt, refl, (h.0, rest.1, rest.0)), refl)
 
-pub switches_apart : (ss : List SwitchPorts) (r : List Lexeme) → AreSwitchesShown ss → AreApart r → AreApart (lex_switches ss r)
+pub switches_apart : (ss : List SwitchPorts) (r : List Lexeme) → AreSwitchesShown ss → AreSeparate r → AreSeparate (lex_switches ss r)
 switches_apart [] r h a = a
 switches_apart (s ∷ ss) r h a = by s.ports h.0.1 h.0.2 (switches_apart ss r h.1 a)
   where
-    by : (ps : List ℕ) → ArePortsShown ps → HasOne ps → AreApart (lex_switches ss r)
-        → AreApart (Lexeme.word (codes "switch") ∷ Lexeme.space ∷ Lexeme.numeral s.switch ∷ Lexeme.space ∷ Lexeme.word (codes "ports") ∷ Lexeme.space ∷ lex_all_ports ps (lex_switches ss r))
+    by : (ps : List ℕ) → ArePortsShown ps → HasOne ps → AreSeparate (lex_switches ss r)
+        → AreSeparate (Lexeme.word (codes "switch") ∷ Lexeme.space ∷ Lexeme.numeral s.switch ∷ Lexeme.space ∷ Lexeme.word (codes "ports") ∷ Lexeme.space ∷ lex_all_ports ps (lex_switches ss r))
     by [] h' one a' = absurd one
     by (p ∷ ps) h' one a' =
         let rest = ports_apart p ps (lex_switches ss r) h'.1 a' in
@@ -197,7 +197,7 @@ links_bytes (l ∷ ls) r =
     ∙ sym (left9 (codes "link ") (decimal l.from_switch) (codes ":") (decimal l.from_port) (codes " -> ") (decimal l.to_switch) (codes ":") (decimal l.to_port) (codes "\n") (flat_map link_text ls ++ text_of r))
     ∙ sym (append_assoc (link_text l) (flat_map link_text ls) (text_of r))
 
-pub links_apart : (ls : List Link) (r : List Lexeme) → AreLinksShown ls → AreApart r → AreApart (lex_links ls r)
+pub links_apart : (ls : List Link) (r : List Lexeme) → AreLinksShown ls → AreSeparate r → AreSeparate (lex_links ls r)
 links_apart [] r h a = a
 links_apart (l ∷ ls) r h a =
     ((refl, refl), refl, (tt, refl, (h.0.0, refl, (tt, refl, (h.0.1, refl, (tt, refl, (tt, refl, (tt, refl, (h.0.2, refl, (tt, refl, (h.0.3, refl, (tt, feed_apart (lex_links ls r), links_apart ls r h.1 a))))))))))))

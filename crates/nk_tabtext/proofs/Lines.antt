@@ -5,7 +5,7 @@ use Rattle.std.specs.List.{flat_map, AllByRecursion}
 use Rattle.nk_lex.specs.declared.kind.Kind.TheVariants as kind
 use Rattle.nk_lex.specs.Kinds.{kind_of_name}
 use Rattle.nk_lex.specs.Lex.{largest}
-use Rattle.nk_lex.specs.Spelling.{Sign, Lexeme, IsName, IsApart, AreApart, sign_bytes, sign_kind, text_of, tokens_from}
+use Rattle.nk_lex.specs.Spelling.{Sign, Lexeme, IsName, IsApart, AreSeparate, sign_bytes, sign_kind, text_of, tokens_from}
 use Rattle.nk_field.specs.Packet.{FieldTable}
 use Rattle.nk_table.specs.declared.Bucket.{Bucket}
 use Rattle.nk_table.specs.declared.Exit.{Exit}
@@ -204,11 +204,11 @@ value_apart : (b : Bool) (v n : ℕ) (r : List Lexeme) → IsApart (Lexeme.numer
 value_apart true v n r = refl
 value_apart false v n r = refl
 
-length_apart : (b : Bool) (n : ℕ) (r : List Lexeme) → n ≤ largest → AreApart r → AreApart (lex_length b n (Lexeme.space ∷ r))
+length_apart : (b : Bool) (n : ℕ) (r : List Lexeme) → n ≤ largest → AreSeparate r → AreSeparate (lex_length b n (Lexeme.space ∷ r))
 length_apart true n r h a = (tt, space_apart r, a)
 length_apart false n r h a = (tt, refl, (h, refl, (tt, space_apart r, a)))
 
-pub matches_apart : (fs : FieldTable) (ms : List (ℕ × ℕ × ℕ)) (r : List Lexeme) → AreMatchesShown fs ms → AreApart r → AreApart (lex_matches fs ms r)
+pub matches_apart : (fs : FieldTable) (ms : List (ℕ × ℕ × ℕ)) (r : List Lexeme) → AreMatchesShown fs ms → AreSeparate r → AreSeparate (lex_matches fs ms r)
 matches_apart fs [] r h a = a
 matches_apart fs (m ∷ ms) r h a = (
   h.0.0.0,
@@ -224,7 +224,7 @@ matches_apart fs (m ∷ ms) r h a = (
   ),
 )
 
-sets_apart : (fs : FieldTable) (ms : List (ℕ × ℕ)) (r : List Lexeme) → AreShown fs ms → AreApart r → AreApart (lex_sets fs ms r)
+sets_apart : (fs : FieldTable) (ms : List (ℕ × ℕ)) (r : List Lexeme) → AreShown fs ms → AreSeparate r → AreSeparate (lex_sets fs ms r)
 sets_apart fs [] r h a = a
 sets_apart fs (m ∷ ms) r h a =
     (h.0.0.0, refl, (tt, refl, (h.0.1, refl, (tt, space_apart (lex_sets fs ms r), sets_apart fs ms r h.1 a))))
@@ -304,11 +304,11 @@ close_apart (Lexeme.word v ∷ ys) = refl
 close_apart (Lexeme.numeral m ∷ ys) = refl
 close_apart (Lexeme.sign t ∷ ys) = refl
 
-exit_apart : (e : Exit) (r : List Lexeme) → IsExitShown e → AreApart r → AreApart (lex_exit e r)
+exit_apart : (e : Exit) (r : List Lexeme) → IsExitShown e → AreSeparate r → AreSeparate (lex_exit e r)
 exit_apart exit.Back r h a = ((refl, refl), refl, (tt, refl, ((refl, refl), refl, (tt, close_apart r, a))))
 exit_apart (exit.Port n) r h a = ((refl, refl), refl, (tt, refl, (h, refl, (tt, close_apart r, a))))
 
-pub bucket_apart : (fs : FieldTable) (b : Bucket) (r : List Lexeme) → IsBucketShown fs b → AreApart r → AreApart (lex_bucket fs b r)
+pub bucket_apart : (fs : FieldTable) (b : Bucket) (r : List Lexeme) → IsBucketShown fs b → AreSeparate r → AreSeparate (lex_bucket fs b r)
 bucket_apart fs b r h a = (
   tt,
   open_apart (lex_sets fs (sets_where fs false b.sets) (lex_sets fs (sets_where fs true b.sets) (lex_exit b.exit r))),

@@ -6,7 +6,7 @@ use Rattle.std.specs.List.{flat_map, list_any, AllByRecursion}
 use Rattle.std.proofs.lemmas.List.Elements.{recursion_from_All, All-tail}
 use Rattle.nk_lex.specs.declared.kind.Kind.TheVariants as kind
 use Rattle.nk_lex.specs.Lex.{largest, tokens_of}
-use Rattle.nk_lex.specs.Spelling.{Lexeme, IsName, AreApart, text_of, tokens_from}
+use Rattle.nk_lex.specs.Spelling.{Lexeme, IsName, AreSeparate, text_of, tokens_from}
 use Rattle.nk_lex.proofs.Cutting.{cuts}
 use Rattle.nk_field.specs.Packet.{IsFieldTable, built_in}
 use Rattle.nk_topo.specs.Topology.{SwitchPorts, numbers_of}
@@ -158,7 +158,7 @@ module _ (b : Bool) where
 abbrev some_prefix : Tables → Bool
 some_prefix t = list_any (λ s. have_prefix t.fields (rows_of t.tables s.switch)) t.topo.switches
 
-apart : (t : Tables) (f : ℕ) → Fits t f → AreApart (lexemes t f)
+apart : (t : Tables) (f : ℕ) → Fits t f → AreSeparate (lexemes t f)
 apart t f h = (
   (refl, refl),
   refl,

@@ -4,7 +4,7 @@ use Rattle.std.specs.Prelude.{⊤}
 use Rattle.std.specs.List.{flat_map}
 use Rattle.nk_lex.specs.declared.kind.Kind.TheVariants as kind
 use Rattle.nk_lex.specs.Lex.{largest}
-use Rattle.nk_lex.specs.Spelling.{Sign, Lexeme, IsApart, AreApart, text_of}
+use Rattle.nk_lex.specs.Spelling.{Sign, Lexeme, IsApart, AreSeparate, text_of}
 use Rattle.nk_field.specs.Packet.{FieldTable}
 use Rattle.nk_table.specs.declared.Row.{Row}
 use Rattle.nk_table.specs.declared.Group.{Group}
@@ -52,7 +52,7 @@ group_bytes fs g r =
     ap (λ l. codes "group " ++ (decimal g.number ++ (codes " =" ++ l))) (buckets_bytes fs g.buckets r)
     ∙ sym (left5 (codes "group ") (decimal g.number) (codes " =") (flat_map (λ b. codes " " ++ bucket_text fs b) g.buckets) (codes "\n") (text_of r))
 
-buckets_apart : (fs : FieldTable) (bs : List Bucket) (r : List Lexeme) → AreBucketsShown fs bs → AreApart r → AreApart (lex_buckets fs bs r)
+buckets_apart : (fs : FieldTable) (bs : List Bucket) (r : List Lexeme) → AreBucketsShown fs bs → AreSeparate r → AreSeparate (lex_buckets fs bs r)
 buckets_apart fs [] r h a = (tt, feed_apart r, a)
 buckets_apart fs (b ∷ bs) r h a = (tt, refl, bucket_apart fs b (lex_buckets fs bs r) h.0 (buckets_apart fs bs r h.1 a))
 
@@ -70,7 +70,7 @@ HasOne (x ∷ xs) = ⊤
 abbrev pub IsGroupShown : FieldTable → Group → Type 0
 IsGroupShown fs g = (g.number ≤ largest) × AreBucketsShown fs g.buckets × HasOne g.buckets
 
-group_apart : (fs : FieldTable) (g : Group) (r : List Lexeme) → IsGroupShown fs g → AreApart r → AreApart (lex_group fs g r)
+group_apart : (fs : FieldTable) (g : Group) (r : List Lexeme) → IsGroupShown fs g → AreSeparate r → AreSeparate (lex_group fs g r)
 group_apart fs g r h a =
     ((refl, refl), refl, (tt, refl, (h.0, refl, (tt, refl, (tt, equal_apart fs g.buckets r, buckets_apart fs g.buckets r h.1 a)))))
 
@@ -155,12 +155,12 @@ row_bytes fs w r =
     ∙ ap (λ l. matches_text fs false w.matches ++ (codes "-> " ++ l)) (target_bytes fs w.target r)))
     ∙ sym (left8 (codes "row ") (decimal w.priority) (codes " : ") (matches_text fs true w.matches) (matches_text fs false w.matches) (codes "-> ") (target_text fs w.target) (codes "\n") (text_of r))
 
-target_apart : (fs : FieldTable) (t : Target) (r : List Lexeme) → IsTargetShown fs t → AreApart r → AreApart (lex_target fs t r)
+target_apart : (fs : FieldTable) (t : Target) (r : List Lexeme) → IsTargetShown fs t → AreSeparate r → AreSeparate (lex_target fs t r)
 target_apart fs (does.Bucket b) r h a = bucket_apart fs b (Lexeme.line_feed ∷ r) h (tt, feed_apart r, a)
 target_apart fs (does.Group n) r h a = ((refl, refl), refl, (tt, refl, (h, refl, (tt, feed_apart r, a))))
 target_apart fs does.Discard r h a = ((refl, refl), refl, (tt, feed_apart r, a))
 
-row_apart : (fs : FieldTable) (w : Row) (r : List Lexeme) → IsRowShown fs w → AreApart r → AreApart (lex_row fs w r)
+row_apart : (fs : FieldTable) (w : Row) (r : List Lexeme) → IsRowShown fs w → AreSeparate r → AreSeparate (lex_row fs w r)
 row_apart fs w r h a =
     let tw = matches_where fs true w.matches in
     let fw = matches_where fs false w.matches in (
@@ -291,15 +291,15 @@ tables_bytes fs (t ∷ ts) r =
     ∙ sym (left4 (codes "table ") (decimal t.switch) (codes "\n") (gs ++ ws) (flat_map (table_lines fs) ts ++ text_of r))
     ∙ sym (append_assoc (table_lines fs t) (flat_map (table_lines fs) ts) (text_of r))
 
-groups_apart : (fs : FieldTable) (gs : List Group) (r : List Lexeme) → AreGroupsShown fs gs → AreApart r → AreApart (lex_groups fs gs r)
+groups_apart : (fs : FieldTable) (gs : List Group) (r : List Lexeme) → AreGroupsShown fs gs → AreSeparate r → AreSeparate (lex_groups fs gs r)
 groups_apart fs [] r h a = a
 groups_apart fs (g ∷ gs) r h a = group_apart fs g (lex_groups fs gs r) h.0 (groups_apart fs gs r h.1 a)
 
-rows_apart : (fs : FieldTable) (ws : List Row) (r : List Lexeme) → AreRowsShown fs ws → AreApart r → AreApart (lex_rows fs ws r)
+rows_apart : (fs : FieldTable) (ws : List Row) (r : List Lexeme) → AreRowsShown fs ws → AreSeparate r → AreSeparate (lex_rows fs ws r)
 rows_apart fs [] r h a = a
 rows_apart fs (w ∷ ws) r h a = row_apart fs w (lex_rows fs ws r) h.0 (rows_apart fs ws r h.1 a)
 
-pub tables_apart : (fs : FieldTable) (ts : List Table) (r : List Lexeme) → AreTablesShown fs ts → AreApart r → AreApart (lex_tables fs ts r)
+pub tables_apart : (fs : FieldTable) (ts : List Table) (r : List Lexeme) → AreTablesShown fs ts → AreSeparate r → AreSeparate (lex_tables fs ts r)
 tables_apart fs [] r h a = a
 tables_apart fs (t ∷ ts) r h a = (
   (refl, refl),

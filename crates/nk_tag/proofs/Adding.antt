@@ -8,7 +8,7 @@ use Rattle.std.proofs.lemmas.List.Sorted.{All-permutation, Contains-permutation,
 use Rattle.indexmap.specs.IndexSet.{insert_all}
 use Rattle.nk_field.specs.Order.{IsListedBefore}
 use Rattle.nk_field.proofs.Lists.{In, in_from_contains, contains_from_in, Apart}
-use Rattle.nk_determ.specs.Sets.{Differ}
+use Rattle.nk_determ.specs.Sets.{HasEachSetOnce}
 use Rattle.nk_determ.specs.Pairs.{Named, Once}
 use Rattle.nk_tag.specs.Steps.{set_of, unseen, set_cmp, IsAdded}
 use Rattle.nk_determ.proofs.Naming.{pairs_mapped}
@@ -82,7 +82,7 @@ unseen_known ss old level known =
     (All-filter (is_new old) (λ p. p.0 < length ss) level known))
 
 -- one level's sets put in
-pub added : (ss : List (List ℕ)) (level : List (ℕ × ℕ)) (old new : List ℕ) (sets sorted : List (List ℕ × ℕ)) → Differ ss
+pub added : (ss : List (List ℕ)) (level : List (ℕ × ℕ)) (old new : List ℕ) (sets sorted : List (List ℕ × ℕ)) → HasEachSetOnce ss
     → All (λ p. p.0 < length ss) level → Once level → sets ≡ unseen ss old level → IsPermutation sets sorted
     → IsSorted set_cmp sorted → new ≡ insert_all nat_eq old (map number_of sorted) → IsAdded ss level old new
 added ss level old new sets sorted differ known once made moved up put = record {

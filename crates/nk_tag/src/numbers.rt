@@ -3,7 +3,7 @@ ghost use Rattle.std.specs.Prelude.{◌≡◌, ◌≤◌, ◌<◌, ◌+◌, ◌*
 ghost use Rattle.std.specs.List.Sorted.{IsPermutation, IsSorted};
 ghost use Rattle.nk_determ.specs.Pairs.{Once};
 ghost use Rattle.indexmap.specs.IndexSet.{insert_all};
-ghost use Rattle.nk_tag.specs.Numbers.{AreEntries, AreNumbers, AreLaterSets, IsFault, IsFaultBehind};
+ghost use Rattle.nk_tag.specs.Numbers.{AreEntries, AreNumbers, AreLaterSets, IsNumberFault, IsFaultBehind};
 ghost use Rattle.nk_tag.specs.Steps.{unseen, set_cmp, IsAdded};
 
 use crate::error::NumberError;
@@ -28,7 +28,7 @@ pub fn number(ss: &Sets, lv: &Levels, max: u64) -> Result<Tags, NumberError>
     requires below_last { max + 1 < 2 ^ 64 }
     ensures ok { IfOk result (λ t. AreNumbers ss.now lv.now.levels t.sets) }
     ensures few { IfOk result (λ t. length t.sets ≤ max) }
-    ensures err { IfErr result (λ e. IsFault lv.now.levels max e) }
+    ensures err { IfErr result (λ e. IsNumberFault lv.now.levels max e) }
 {
     number_from(ss, lv, 0, max)
 }

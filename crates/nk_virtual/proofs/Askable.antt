@@ -6,7 +6,7 @@ use Rattle.std.proofs.lemmas.List.{get_or-take}
 use Rattle.nk_field.specs.declared.packet.Packet.{Packet}
 use Rattle.nk_field.specs.Packet.{FieldTable, IsPacket, IsValue}
 use Rattle.nk_policy.specs.Policy.{Policy, Policies, test, range, assign, sum_of, seq_of, not_of, star_of, dup, link, no_part, part, is_predicate, are_predicates, dups_of, dups_of_all, marked_from}
-use Rattle.nk_policy.specs.Ranges.{UsesOnly, AllUseOnly, IsOver}
+use Rattle.nk_policy.specs.Ranges.{UsesOnly, AllUseOnly, IsOverFields}
 use Rattle.nk_policy.specs.Complements.{NegatesPredicates, AllNegatePredicates}
 use Rattle.nk_policy.specs.After.{drop_policy}
 use Rattle.nk_policy.proofs.Remade.{dupless_marked}
@@ -103,7 +103,7 @@ module _ (fields : FieldTable) where
   tests_use x h f (m ∷ ms) e = ((omega (arith, e), h.within f), tests_use x h (f + 1) ms (omega (arith, e)))
 
   -- of one packet in range
-  only_over : (x : Packet) → IsPacket fields x → IsOver fields (only fields x)
+  only_over : (x : Packet) → IsPacket fields x → IsOverFields fields (only fields x)
   only_over x h = tests_use x h 0 fields.maxima (omega arith)
 
   only_is : (x : Packet) → is_predicate (only fields x) ≡ true
@@ -133,20 +133,20 @@ module _ (fields : FieldTable) (k : VirtualLink) (askable : IsAskable fields k) 
   tag_over None e = tt
   tag_over (Some tag) e = (((askable.table.tag_past_port tag e).1, omega arith), tt)
 
-  entry_over : IsOver fields (at_entry fields.tag k)
+  entry_over : IsOverFields fields (at_entry fields.tag k)
   entry_over = (
     place 0 k.ends.from_switch (omega arith) askable.from_switch,
     (place 1 k.ends.from_port (omega arith) askable.from_port, tag_over fields.tag refl),
   )
 
-  move_over : IsOver fields (move k)
+  move_over : IsOverFields fields (move k)
   move_over = (
     place 0 k.ends.to_switch (omega arith) askable.to_switch,
     (place 1 k.ends.to_port (omega arith) askable.to_port, tt),
   )
 
   -- a policy from the entry alone
-  from_over : (p : Policy) → IsOver fields p → IsOver fields (from_entry fields.tag k p)
+  from_over : (p : Policy) → IsOverFields fields p → IsOverFields fields (from_entry fields.tag k p)
   from_over p h = (entry_over, (h, tt))
 
   from_negates : (p : Policy) → NegatesPredicates p → NegatesPredicates (from_entry fields.tag k p)
@@ -156,7 +156,7 @@ module _ (fields : FieldTable) (k : VirtualLink) (askable : IsAskable fields k) 
   from_dups p h = omega (arith, h, tag_dups fields.tag)
 
   -- two such policies without dups
-  from_both : (p q : Policy) → IsOver fields p → IsOver fields q → NegatesPredicates p → NegatesPredicates q
+  from_both : (p q : Policy) → IsOverFields fields p → IsOverFields fields q → NegatesPredicates p → NegatesPredicates q
       → dups_of p ≡ 0 → dups_of q ≡ 0 → AreComparable fields (from_entry fields.tag k p) (from_entry fields.tag k q)
   from_both p q po qo pn qn pd qd = record {
     numbered = dupless_marked (from_entry fields.tag k p) 1 (from_dups p pd);

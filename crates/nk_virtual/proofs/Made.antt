@@ -5,7 +5,7 @@ use Rattle.std.proofs.lemmas.List.Elements.{All-weaker}
 use Rattle.nk_field.specs.Packet.{FieldTable, IsFieldTable, IsValue}
 use Rattle.nk_topo.specs.Topology.{Topology}
 use Rattle.nk_policy.specs.Policy.{Policy, size_of, marked_from}
-use Rattle.nk_policy.specs.Ranges.{IsOver}
+use Rattle.nk_policy.specs.Ranges.{IsOverFields}
 use Rattle.nk_policy.specs.Tree.{tree_of}
 use Rattle.nk_policy.specs.declared.policy.Pol.{Pol}
 use Rattle.nk_policy.specs.Leaves.{has_leaf, is_on_field, is_dup, is_switch_assignment}
@@ -53,8 +53,8 @@ module _ (fields : FieldTable) (topo : Topology) (links : List VirtualLink) (tag
         links_carried = All-weaker (IsUsable fields topo tag) (IsCarried fields) (λ k a. a.carried) links usable;
       }
 
-  over : IsOver fields (physical links p)
-  over = physical_uses (IsValue fields) links (All-weaker (λ k. IsLet fields k.fabric) (λ k. IsOver fields k.fabric) (λ k l. l.over) links fabrics) p fit.over
+  over : IsOverFields fields (physical links p)
+  over = physical_uses (IsValue fields) links (All-weaker (λ k. IsLet fields k.fabric) (λ k. IsOverFields fields k.fabric) (λ k l. l.over) links fabrics) p fit.over
 
   complements : NegatesPredicates (physical links p)
   complements =

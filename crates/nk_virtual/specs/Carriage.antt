@@ -6,7 +6,7 @@ use Rattle.nk_field.specs.Packet.{FieldTable, IsFieldTable, IsPacket, IsUntagged
 use Rattle.nk_field.specs.Order.{Found, Precedes, IsLess}
 use Rattle.nk_policy.specs.Policy.{Policy, marked_from, dups_of}
 use Rattle.nk_policy.specs.Meaning.{Gives}
-use Rattle.nk_policy.specs.Ranges.{IsOver}
+use Rattle.nk_policy.specs.Ranges.{IsOverFields}
 use Rattle.nk_policy.specs.Complements.{NegatesPredicates}
 use Rattle.nk_names.specs.ProgramValue.{IsLet}
 use Rattle.nk_reach.specs.Histories.{IsUpTo}
@@ -95,5 +95,5 @@ pub record AreComparable (fields : FieldTable) (p q : Policy) : Type 0 where
   pub few : 1 + dups_of p + dups_of q < 2 ^ 32
   pub left_complements : NegatesPredicates p
   pub right_complements : NegatesPredicates q
-  pub left_over : IsOver fields p
-  pub right_over : IsOver fields q
+  pub left_over : IsOverFields fields p
+  pub right_over : IsOverFields fields q

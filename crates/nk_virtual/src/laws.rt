@@ -6,7 +6,7 @@ ghost use Rattle.nk_field.specs.declared.packet.Packet.{Packet};
 ghost use Rattle.nk_field.specs.Packet.{FieldTable, IsFieldTable, IsPacket, IsUntagged};
 ghost use Rattle.nk_policy.specs.Policy.{Policy, test, not_of, link, marked_from};
 ghost use Rattle.nk_policy.specs.Meaning.{Gives};
-ghost use Rattle.nk_policy.specs.Ranges.{IsOver};
+ghost use Rattle.nk_policy.specs.Ranges.{IsOverFields};
 ghost use Rattle.nk_policy.specs.Leaves.{has_leaf, is_on_field, is_dup, is_switch_assignment};
 ghost use Rattle.nk_topo.specs.Topology.{Link};
 ghost use Rattle.nk_names.specs.Accepted.{is_link_outside};
@@ -66,8 +66,8 @@ pub fn packets_leave_where_the_virtual_policy_says()
 /// A physical policy is over the fields where the virtual policy and the fabrics are, and its complements are of predicates.
 pub fn physical_policies_stay_fit()
     ensures over { (fields : FieldTable) (links : List VirtualLink) (p : Policy)
-        → IsOver fields p → All (λ k. IsOver fields k.fabric) links
-        → (n : ℕ) → IsOver fields (marked_from (physical links p) n) }
+        → IsOverFields fields p → All (λ k. IsOverFields fields k.fabric) links
+        → (n : ℕ) → IsOverFields fields (marked_from (physical links p) n) }
     ensures complements { (links : List VirtualLink) (p : Policy)
         → NegatesPredicates p → All (λ k. NegatesPredicates k.fabric) links
         → (n : ℕ) → NegatesPredicates (marked_from (physical links p) n) }

@@ -7,7 +7,7 @@ use Rattle.nk_field.proofs.Ascending.{rising_from}
 use Rattle.nk_topo.specs.Topology.{is_edge}
 use Rattle.nk_policy.specs.Meaning.{Gives}
 use Rattle.nk_policy.specs.Progress.{Marked, RecordsAt}
-use Rattle.nk_policy.specs.Labels.{IsAt, IsLabelSet, IsTagSet}
+use Rattle.nk_policy.specs.Labels.{HasRecorded, IsLabelSet, IsTagSet}
 use Rattle.nk_policy.specs.Tags.{AreTags}
 use Rattle.nk_names.specs.Accepted.{IsStartPacket, IsCompilable}
 use Rattle.nk_table.specs.Worked.{one_link}
@@ -49,7 +49,7 @@ compilable = record {
 }
 
 -- after an odd number of records a run is at dup 1
-at_one : (pk : List ℕ) (u : List (List ℕ)) (n l : ℕ) → length u ≡ 2 * n + 1 → IsAt over_one_link pk u l → l ≡ 1
+at_one : (pk : List ℕ) (u : List (List ℕ)) (n l : ℕ) → length u ≡ 2 * n + 1 → HasRecorded over_one_link pk u l → l ≡ 1
 at_one pk u n l odd h =
     ⊎_elim
     (λ a. a.2)

@@ -1,5 +1,5 @@
 use Rattle.std.proofs.Common.{Some, sym, ap, subst, ◌∙◌}
-use Rattle.nk_policy.specs.Ranges.{IsOver}
+use Rattle.nk_policy.specs.Ranges.{IsOverFields}
 use Rattle.nk_policy.specs.Tree.{tree_of}
 use Rattle.nk_names.specs.ProgramValue.{ProgramValue}
 use Rattle.nk_cert.proofs.Named.{let_named, few_of_both}
@@ -25,10 +25,10 @@ compare_policies-requires-clause-right_complements c =
 
 pub compare_policies-requires-clause-left_over : goal.compare_policies-requires-clause-left_over
 compare_policies-requires-clause-left_over c =
-    subst (λ (v : ProgramValue). IsOver v.fields (tree_of c.in_ok-p.p)) (sym c.program.view_is)
+    subst (λ (v : ProgramValue). IsOverFields v.fields (tree_of c.in_ok-p.p)) (sym c.program.view_is)
     (let_named c.args.program.now c.args.left.now (tree_of c.in_ok-p.p) c.find.ensures.is (sym c.in-Some.ensures.found ∙ ap Some (sym c.in_ok-p.ensures))).over
 
 pub compare_policies-requires-clause-right_over : goal.compare_policies-requires-clause-right_over
 compare_policies-requires-clause-right_over c =
-    subst (λ (v : ProgramValue). IsOver v.fields (tree_of c.in_ok-q.q)) (sym c.program.view_is)
+    subst (λ (v : ProgramValue). IsOverFields v.fields (tree_of c.in_ok-q.q)) (sym c.program.view_is)
     (let_named c.args.program.now c.args.right.now (tree_of c.in_ok-q.q) c.find.ensures.is (sym c.in-Some-find.ensures.found ∙ ap Some (sym c.in_ok-q.ensures))).over

@@ -4,7 +4,7 @@ use Rattle.nk_policy.specs.Tree.{tree_of, trees_of}
 use Rattle.nk_policy.specs.After.{after}
 use Rattle.nk_policy.specs.Distinct.{HasDistinct}
 use Rattle.nk_policy.specs.declared.policy.Pol.TheViews.{the_lemmas}
-use Rattle.nk_deriv.specs.Part.{NegatesPredicates, IsPart}
+use Rattle.nk_deriv.specs.Part.{NegatesPredicates, IsPartOfDerivative}
 use Rattle.nk_deriv.specs.Turns.{IsContinued, ArePartsOf, AreRests}
 use Rattle.nk_deriv.proofs.Collected.{sum_tree, seq_tree}
 use Rattle.nk_deriv.proofs.Rests.{rests_not, rests_as_tree, rests_star, rests_dup, rests_link}
@@ -41,7 +41,7 @@ rests-returns-in_ok-rests-in-Star t c =
     let e = ap tree_of c.in-Star.is ∙ ap (λ x. star_of (tree_of x)) (sym c.deref.ensures) in
     rests_as_tree _ _ _ _ _ (sym e)
     (rests_star _ _ c.in_ok-star-in-Star.star _ c.in_ok-again-in-Star.again (tree_of c.deref.result.now)
-    (subst (IsPart c.in_ok-star-in-Star.star) e c.in_ok-star-in-Star.ensures)
+    (subst (IsPartOfDerivative c.in_ok-star-in-Star.star) e c.in_ok-star-in-Star.ensures)
     (subst (λ s. IsContinued c.in_ok-again-in-Star.again s c.args.next.now) c.from_ref.ensures.value c.in_ok-again-in-Star.ensures)
     c.in_ok-rests-in-Star.ensures)
 
