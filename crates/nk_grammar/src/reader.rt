@@ -117,7 +117,9 @@ impl PolicyReader {
     {
         self.terms.reserve(1)?;
         self.factors.reserve(2)?;
-        self.put_last();
+        if let Some(_) = &self.last {
+            self.put_last();
+        }
         Ok(())
     }
 

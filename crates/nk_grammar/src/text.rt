@@ -266,16 +266,14 @@ impl Reader {
         }
     }
 
-    /// Reads one more token, and hands out the declaration that it completes. An error is the first fault of the tokens so far, or that
-    /// memory ran out.
-    pub fn take(&mut self, alloc: Global, token: &Token) -> Result<Option<Decl>, GrammarError>
+    /// One more token outside the policies. It stands apart from what policies take, of which most of a text is made.
+    #[inline(never)]
+    fn take_outside(&mut self, alloc: Global, token: &Token) -> Result<Option<Decl>, GrammarError>
+        requires outside { IsInPolicy self.old.stage → ⊥ }
         ensures read { Returns (λ d. reading (phase_in self.new) (declaration_done d)) result
             (judged token.now.line (read_one (reading (phase_in self.old) []) (terminal_of token.now))) }
         ensures kept { StaysWithoutMemory result (phase_in self.old) (phase_in self.new) }
     {
-        if let Stage::Policy(..) = &self.stage {
-            return self.take_in_policy(alloc, token);
-        }
         match replace(&mut self.stage, Stage::Between) {
             Stage::Between => self.begin(None, token),
             Stage::Name(naming) => self.take_name(alloc, naming, token),
@@ -300,6 +298,20 @@ impl Reader {
             },
             Stage::PolicyNamed(word, name, line) => self.take_sign(alloc, word, name, line, token),
             Stage::Policy(..) => unreachable!(),
+        }
+    }
+
+    /// Reads one more token, and hands out the declaration that it completes. An error is the first fault of the tokens so far, or that
+    /// memory ran out.
+    pub fn take(&mut self, alloc: Global, token: &Token) -> Result<Option<Decl>, GrammarError>
+        ensures read { Returns (λ d. reading (phase_in self.new) (declaration_done d)) result
+            (judged token.now.line (read_one (reading (phase_in self.old) []) (terminal_of token.now))) }
+        ensures kept { StaysWithoutMemory result (phase_in self.old) (phase_in self.new) }
+    {
+        if let Stage::Policy(..) = &self.stage {
+            self.take_in_policy(alloc, token)
+        } else {
+            self.take_outside(alloc, token)
         }
     }
 

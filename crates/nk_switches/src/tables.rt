@@ -32,10 +32,15 @@ fn tag_rows(
     rows_of(st.alloc(), st, d, sw, state.tag)
 }
 
-/// Appends rows.
+/// Appends rows. To none they become the rows, and are moved as a whole.
 fn append_rows(all: &mut Vec<Plain>, more: Vec<Plain>) -> Result<(), AllocError>
     ensures { OnOk result (all.new.items ≡ all.old.items ++ more.items) }
 {
+    if all.is_empty() {
+        *all = more;
+        return Ok(());
+    }
+    all.reserve(more.len())?;
     for row in more {
         all.push(row)?;
     }
