@@ -1,6 +1,6 @@
-//! One diagram, then another one, where both have many parts by their first field. Outs that assign the field go on with the
-//! second diagram at one value. The others go on with what it is at the packet's own value, and with no more of it.
-ghost use Rattle.std.specs.Prelude.{◌≡◌, ℕ, ◌<◌, ◌≤◌, ◌++◌, true, false, List as Items, IfOk, IfSome, OnOk};
+//! One diagram, then another one, where both have many parts by some field. At the first field that they test, outs that assign
+//! it go on with the second diagram at one value. The others go on with what it is at the packet's own value, and with no more of it.
+ghost use Rattle.std.specs.Prelude.{◌≡◌, ℕ, ◌<◌, ◌≤◌, ◌++◌, min, true, false, List as Items, IfOk, IfSome, OnOk};
 ghost use Rattle.std.specs.List.{flat_map};
 ghost use Rattle.nk_store.specs.Nodes.{child_at, Each};
 ghost use Rattle.nk_store.specs.Held.{IsId, IsWhole, look, top, Grows, HasLeaves};
@@ -20,6 +20,9 @@ use std::alloc::{AllocError, Global};
 
 /// From how many parts on, in both diagrams, outs are taken apart: few parts are no trouble, and taking apart takes a walk.
 const MANY: usize = 64;
+
+/// How far below the first node a node with many parts is looked for: behind a few switches, say, and their ports.
+const STEPS: u64 = 2;
 
 /// The outs of a leaf that assign a field, or those that don't.
 #[derive(Drop)]
@@ -75,14 +78,39 @@ fn sets(act: &Act, f: Fid) -> bool
     false
 }
 
-/// How many parts a diagram has by its first field.
-fn part_count(st: &Store, d: Id) -> usize
+/// Whether a node of a diagram has many parts by its field: the first one, or one a few steps below it. It tells which way of putting
+/// a diagram before this one is quick, and no more.
+pub fn is_wide(st: &Store, d: Id) -> bool
+    requires { IsId st.now d }
+{
+    has_many(st, d, STEPS)
+}
+
+/// The same, so many steps below the first node at most.
+#[cycle(has_many)]
+fn has_many(st: &Store, d: Id, steps: u64) -> bool
     requires { IsId st.now d }
 {
     match st.view(d) {
-        Node::Leaf(_) => 0,
-        Node::Case(_, parts) => parts.len(),
+        Node::Leaf(_) => false,
+        Node::Case(_, parts) => parts.len() > MANY || some_has_many(st, parts.as_slice(), steps),
     }
+}
+
+/// The same of some parts, if there is a step left.
+#[cycle(has_many)]
+fn some_has_many(st: &Store, parts: &[(u64, Id)], steps: u64) -> bool
+    requires { Each (IsId st.now) parts.now }
+{
+    if steps == 0 {
+        return false;
+    }
+    for i in 0..parts.len() {
+        if has_many(st, parts[i].1, steps - 1) {
+            return true;
+        }
+    }
+    false
 }
 
 /// Whether some out of a diagram may leave its first field as it is: one of a part that is a leaf, or any of another part.
@@ -127,17 +155,18 @@ fn one_keeps(outs: &[Out], f: Fid) -> bool {
     false
 }
 
-/// The field that both diagrams test first, where both have many parts by it and an out of the first may keep it.
+/// The first field that one of the diagrams tests, where both have many parts by some field and an out of the first may keep its
+/// first field.
 fn wide_field(st: &Store, a: Id, b: Id) -> Option<Fid>
     requires left { IsId st.now a }
     requires right { IsId st.now b }
-    ensures { IfSome result (λ f. (f < 18) × (top st.now a ≡ f) × (top st.now b ≡ f)) }
+    ensures { IfSome result (λ f. (f < 18) × (f ≡ min (top st.now a) (top st.now b)) × (f ≤ top st.now a) × (f ≤ top st.now b)) }
 {
-    if part_count(st, a) <= MANY || part_count(st, b) <= MANY || !may_keep(st, a) {
+    if !is_wide(st, a) || !is_wide(st, b) || !may_keep(st, a) {
         return None;
     }
     match (tested(st, a), tested(st, b)) {
-        (Some(f), Some(g)) => if f == g { Some(f) } else { None },
+        (Some(f), Some(g)) => if f < g { Some(f) } else { Some(g) },
         _ => None,
     }
 }

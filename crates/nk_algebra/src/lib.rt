@@ -23,6 +23,7 @@ mod walks;
 
 pub use again::second_calls;
 pub use aims::{aim, assign};
+pub use apart::is_wide;
 pub use choices::choose;
 pub use constants::{empty, identity};
 pub use leaves::{both, negate, union};

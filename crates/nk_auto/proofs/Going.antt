@@ -125,12 +125,19 @@ pub set_through : (st new : Held) (d k r f n : ℕ) → AreTidy new → Grows st
     HasLeaves new r (λ pk. seq_leaf (look st d pk) (look st k) pk) → IsContinued new r (assign f n) k
 set_through st new d k r f n tidy g a ik h = through st new d k r (assign f n) tidy g a ik (λ pk y t e. e) h
 
+-- a policy without a dup, and then the diagram
+pub dupless_through : (st new : Held) (d k r : ℕ) (p : Policy) → dups_of p ≡ 0 → AreTidy new → Grows st new →
+    IsSilent st d p → IsId st k → HasLeaves new r (λ pk. seq_leaf (look st d pk) (look st k) pk) →
+    IsContinued new r p k
+dupless_through st new d k r p none tidy g a ik h =
+    through st new d k r p tidy g a ik (dupless_records_none p none) h
+
 -- a star in which no round records, continued
 pub star_through : (st new : Held) (d k r : ℕ) (p : Policy) → dups_of p ≡ 0 → AreTidy new → Grows st new →
     IsSilent st d (star_of p) → IsId st k → HasLeaves new r (λ pk. seq_leaf (look st d pk) (look st k) pk) →
     IsContinued new r (star_of p) k
 star_through st new d k r p none tidy g a ik h =
-    through st new d k r (star_of p) tidy g a ik (dupless_records_none (star_of p) none) h
+    dupless_through st new d k r (star_of p) none tidy g a ik h
 
 -- the complement, continued
 pub not_through : (st new : Held) (d k r : ℕ) (p : Policy) → Grows st new → IsSilent st d (not_of p) → IsPredicate st d → IsId st k →

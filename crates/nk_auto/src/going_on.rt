@@ -8,14 +8,18 @@ ghost use Rattle.nk_auto.specs.Guarded.{IsGuarded};
 
 use crate::guards::{Behind, guard_of, guarded_by, put_together, unguarded};
 use crate::silence::{
-    ended_then, silent_not, silent_predicate, silent_range, silent_set, silent_star, silent_test,
+    ended_then, silent, silent_not, silent_predicate, silent_range, silent_set, silent_star,
+    silent_test,
 };
-use nk_algebra::{aim, empty, identity, seq, union, union_all};
+use nk_algebra::{aim, empty, identity, is_wide, seq, union, union_all};
 use nk_field::{Fid, List};
 use nk_policy::{Pol, is_predicate, may_record};
 use nk_sets::at_packets;
 use nk_store::{Id, Store};
 use std::alloc::AllocError;
+
+/// From how many parts on a sum without a dup is drawn alone, where the diagram that it is continued by has many parts too.
+const MANY: usize = 64;
 
 /// The diagram of a policy up to its first record, continued by a diagram: where the policy ends without a record the
 /// diagram says what comes next, and where it records at its dup l the packet is sent to target l. The only error is
@@ -29,6 +33,9 @@ pub fn continued(st: &mut Store, p: &Pol, next: Id) -> Result<Id, AllocError>
 {
     if is_predicate_sum(p) {
         return after_predicate(st, p, next);
+    }
+    if is_wide_sum(st, p, next) {
+        return after_dupless(st, p, next);
     }
     match p {
         Pol::Test(f, n) => after_test(st, *f, *n, next),
@@ -108,6 +115,31 @@ pub fn after_predicate(st: &mut Store, p: &Pol, next: Id) -> Result<Id, AllocErr
     let d = silent_predicate(st, p)?;
     let r = at_packets(st, d, next)?;
     Ok(r)
+}
+
+/// Whether a policy is a sum of many parts, without a dup, in front of a diagram with many parts by a field. Part by part each
+/// assignment would be put before all of that diagram, and all but a few of its parts would then be thrown away.
+pub fn is_wide_sum(st: &Store, p: &Pol, next: Id) -> bool
+    requires { IsId st.now next }
+    ensures { result ≡ true → dups_of (tree_of p.now) ≡ 0 }
+{
+    match p {
+        Pol::Sum(ps) => ps.as_slice().len() > MANY && is_wide(st, next) && !may_record(p),
+        _ => false,
+    }
+}
+
+/// A policy without a dup, drawn alone and put in sequence with a diagram.
+pub fn after_dupless(st: &mut Store, p: &Pol, next: Id) -> Result<Id, AllocError>
+    requires next { IsId st.old next }
+    requires dupless { dups_of (tree_of p.now) ≡ 0 }
+    ensures grows { Grows st.old st.new }
+    ensures ok { IfOk result (λ d. IsContinued st.new d (tree_of p.now) next) }
+{
+    let alone = silent(st, p)?;
+    let d = ended_then(st, alone, next)?;
+    st.laws();
+    Ok(d)
 }
 
 /// A dup, continued by a diagram: the dup records first, so the diagram is never reached.

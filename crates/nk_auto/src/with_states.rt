@@ -7,8 +7,8 @@ ghost use Rattle.nk_auto.specs.Continued.{IsContinued, AreWritten, IsPut};
 ghost use Rattle.nk_auto.specs.Guarded.{IsGuarded};
 
 use crate::going_on::{
-    after_not, after_predicate, after_range, after_set, after_test, before_dup, continued_star,
-    is_predicate_sum, link_rest, link_start,
+    after_dupless, after_not, after_predicate, after_range, after_set, after_test, before_dup,
+    continued_star, is_predicate_sum, is_wide_sum, link_rest, link_start,
 };
 use crate::guards::{Behind, guard_of, guarded_by, put_together, unguarded};
 use nk_algebra::union_all;
@@ -37,6 +37,9 @@ pub fn continued_with_states(
 {
     if is_predicate_sum(p) {
         return after_predicate(st, p, next);
+    }
+    if is_wide_sum(st, p, next) {
+        return after_dupless(st, p, next);
     }
     match p {
         Pol::Test(f, n) => after_test(st, *f, *n, next),

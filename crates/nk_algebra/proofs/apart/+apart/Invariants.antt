@@ -1,11 +1,12 @@
 use Rattle.std.proofs.Common.{◌+◌, ◌*◌, ◌-◌, ◌≤◌}
+use Rattle.std.specs.Prelude.{min}
 use Rattle.nk_store.specs.Held.{Grows, top}
 use Rattle.nk_algebra.proofs.Splits.{kept_leaf}
 use Rattle.nk_algebra.proofs.Chosen.{Serving}
 use Rattle.nk_algebra.proofs.apart.+apart.Given as goal
 
 abbrev pub decreases-seq_leaves : goal.decreases-seq_leaves
-decreases-seq_leaves l = 4 * (18 - top l.st.now l.a) + 3
+decreases-seq_leaves l = 4 * (18 - min (top l.st.now l.a) (top l.st.now l.b)) + 3
 
 abbrev pub decreases-seq_apart : goal.decreases-seq_apart
 decreases-seq_apart l = 4 * (18 - l.f) + 2

@@ -222,3 +222,8 @@ pub continued_with_states-returns-then-is_predicate_sum-clause-written :
     goal.continued_with_states-returns-then-is_predicate_sum-clause-written
 continued_with_states-returns-then-is_predicate_sum-clause-written t c =
     on_any c.after_predicate.result _ (predicate_written c.after_predicate.new.st c.args.states.now c.args.base (tree_of c.args.p.now) c.args.next (c.is_predicate_sum.ensures c.if-is_predicate_sum.true))
+
+pub continued_with_states-returns-then-is_wide_sum-clause-written :
+    goal.continued_with_states-returns-then-is_wide_sum-clause-written
+continued_with_states-returns-then-is_wide_sum-clause-written t c =
+    on_any c.after_dupless.result _ (dupless_written c.after_dupless.new.st c.args.states.now c.args.base (tree_of c.args.p.now) c.args.next (c.is_wide_sum.ensures c.if-is_wide_sum.true))
