@@ -21,5 +21,6 @@ pub mod Shorts
 pub mod PartSums
 pub mod Halved
 pub mod Splits
+pub mod Reaches
 pub mod AtOnce
 pub mod Intervals

@@ -7,7 +7,7 @@ use Rattle.nk_store.specs.declared.node.Out.{Out}
 use Rattle.nk_store.specs.Nodes.{child_at}
 use Rattle.nk_store.specs.Leaves.{Every, Strict, Suits, AreOrdered}
 use Rattle.nk_store.specs.Held.{Held, IsId, IsNodeOf, node_of, look, top, Grows, HasLeaves}
-use Rattle.nk_algebra.specs.Apart.{assigns, passed, apart, Keep}
+use Rattle.nk_algebra.specs.Apart.{assigns, passed, parted, apart, Keep}
 use Rattle.nk_algebra.specs.Leaves.{merged}
 use Rattle.nk_algebra.specs.Seqs.{out_after, prefixed, seq_leaf}
 use Rattle.nk_algebra.specs.Subs.{sub, IsPart, IsSplit}
@@ -51,8 +51,8 @@ passed_one false false p o (inl e) = (e, refl)
 passed_one false false p o (inr k) = absurd k
 
 -- a single out, or none, ascends
-pub passed_strict : (f : ℕ) (b : Bool) (o : Out) → Strict (passed f b o)
-passed_strict f b o = by (assigns f o.act) b
+pub passed_strict : (K : List (ℕ × ℕ) → Bool) (b : Bool) (o : Out) → Strict (passed K b o)
+passed_strict K b o = by (K o.act) b
   where
     by : (s c : Bool) → Strict (cond s (cond c (o ∷ []) []) (cond c [] (o ∷ [])))
     by true true = (tt, tt)
@@ -61,8 +61,8 @@ passed_strict f b o = by (assigns f o.act) b
     by false false = (tt, tt)
 
 -- what holds of the out holds of what is let pass
-passed_every : (P : Out → Type 0) (f : ℕ) (b : Bool) (o : Out) → P o → Every P (passed f b o)
-passed_every P f b o h = by (assigns f o.act) b
+passed_every : (P : Out → Type 0) (K : List (ℕ × ℕ) → Bool) (b : Bool) (o : Out) → P o → Every P (passed K b o)
+passed_every P K b o h = by (K o.act) b
   where
     by : (s c : Bool) → Every P (cond s (cond c (o ∷ []) []) (cond c [] (o ∷ [])))
     by true true = (h, tt)
@@ -71,72 +71,72 @@ passed_every P f b o h = by (assigns f o.act) b
     by false false = (h, tt)
 
 -- an out of its kind is among those taken apart
-apart_has : (f : ℕ) (b : Bool) (os : List Out) (o : Out) → Has os o → assigns f o.act ≡ b → Has (apart f b os) o
-apart_has f b os o h e =
-    gathered_has (passed f b) os o o h
-    (subst (λ c. Has (cond (assigns f o.act) (cond c (o ∷ []) []) (cond c [] (o ∷ []))) o) e (passed_here o (assigns f o.act)))
+parted_has : (K : List (ℕ × ℕ) → Bool) (b : Bool) (os : List Out) (o : Out) → Has os o → K o.act ≡ b → Has (parted K b os) o
+parted_has K b os o h e =
+    gathered_has (passed K b) os o o h
+    (subst (λ c. Has (cond (K o.act) (cond c (o ∷ []) []) (cond c [] (o ∷ []))) o) e (passed_here o (K o.act)))
 
 -- and those are outs of that kind
-has_apart : (f : ℕ) (b : Bool) (os : List Out) (o : Out) → Has (apart f b os) o → Has os o × (assigns f o.act ≡ b)
-has_apart f b os o h =
-    let r = has_gathered (passed f b) os o h in
-    let k = passed_one (assigns f r.0.act) b r.0 o r.2 in
-    (subst (Has os) k.0 r.1, subst (λ (z : Out). assigns f z.act ≡ b) k.0 k.1)
+pub has_parted : (K : List (ℕ × ℕ) → Bool) (b : Bool) (os : List Out) (o : Out) → Has (parted K b os) o → Has os o × (K o.act ≡ b)
+has_parted K b os o h =
+    let r = has_gathered (passed K b) os o h in
+    let k = passed_one (K r.0.act) b r.0 o r.2 in
+    (subst (Has os) k.0 r.1, subst (λ (z : Out). K z.act ≡ b) k.0 k.1)
 
 -- outs that don't assign f keep it
 pub apart_keep : (f : ℕ) (os : List Out) → Keep f (apart f false os)
-apart_keep f os = every_from (λ o. assigns f o.act ≡ false) (apart f false os) (λ o h. (has_apart f false os o h).1)
+apart_keep f os = every_from (λ o. assigns f o.act ≡ false) (apart f false os) (λ o h. (has_parted (assigns f) false os o h).1)
 
 -- outs taken apart, in their order
-pub apart_ordered : (f : ℕ) (b : Bool) (os all : List Out) → all ≡ flat_map (passed f b) os →
-    AreOrdered all (apart f b os)
-apart_ordered f b os all e =
-    subst (λ xs. AreOrdered xs (apart f b os)) (sym e) (flat_ordered (passed f b) os (λ o. passed_strict f b o))
+pub parted_ordered : (K : List (ℕ × ℕ) → Bool) (b : Bool) (os all : List Out) → all ≡ flat_map (passed K b) os →
+    AreOrdered all (parted K b os)
+parted_ordered K b os all e =
+    subst (λ xs. AreOrdered xs (parted K b os)) (sym e) (flat_ordered (passed K b) os (λ o. passed_strict K b o))
 
 -- they suit the highest values
-pub apart_suits : (maxes : List ℕ) (f : ℕ) (b : Bool) (os : List Out) → Every (Suits maxes) os →
-    Every (Suits maxes) (apart f b os)
-apart_suits maxes f b os e = gathered_every (Suits maxes) (Suits maxes) (passed f b) os (λ o k. passed_every (Suits maxes) f b o k) e
+pub parted_suits : (maxes : List ℕ) (K : List (ℕ × ℕ) → Bool) (b : Bool) (os : List Out) → Every (Suits maxes) os →
+    Every (Suits maxes) (parted K b os)
+parted_suits maxes K b os e = gathered_every (Suits maxes) (Suits maxes) (passed K b) os (λ o k. passed_every (Suits maxes) K b o k) e
 
 -- the leaf of a sequence ascends
-seq_strict : (os : List Out) (B : List ℕ → List Out) (pk : List ℕ) → Strict (seq_leaf os B pk)
+pub seq_strict : (os : List Out) (B : List ℕ → List Out) (pk : List ℕ) → Strict (seq_leaf os B pk)
 seq_strict os B pk =
     subst Strict (sym (seq_leaf_is os B pk))
     (gathered_strict (λ o. prefixed o.act (B (applied o.act pk))) os (λ o. prefixed_strict o.act (B (applied o.act pk))))
 
 -- both kinds of outs together make the sequence
-pub apart_whole : (f : ℕ) (os : List Out) (B : List ℕ → List Out) (pk : List ℕ) →
-    merged (seq_leaf (apart f true os) B pk) (seq_leaf (apart f false os) B pk) ≡ seq_leaf os B pk
-apart_whole f os B pk =
-    strict_same (merged (seq_leaf (apart f true os) B pk) (seq_leaf (apart f false os) B pk)) (seq_leaf os B pk)
-    (merged_strict (seq_leaf (apart f true os) B pk) (seq_leaf (apart f false os) B pk) (seq_strict (apart f true os) B pk) (seq_strict (apart f false os) B pk))
+pub parted_whole : (K : List (ℕ × ℕ) → Bool) (os : List Out) (B : List ℕ → List Out) (pk : List ℕ) →
+    merged (seq_leaf (parted K true os) B pk) (seq_leaf (parted K false os) B pk) ≡ seq_leaf os B pk
+parted_whole K os B pk =
+    strict_same (merged (seq_leaf (parted K true os) B pk) (seq_leaf (parted K false os) B pk)) (seq_leaf os B pk)
+    (merged_strict (seq_leaf (parted K true os) B pk) (seq_leaf (parted K false os) B pk) (seq_strict (parted K true os) B pk) (seq_strict (parted K false os) B pk))
     (seq_strict os B pk) to back
   where
-    of_kind : (b : Bool) (o : Out) → Has (seq_leaf (apart f b os) B pk) o → Has (seq_leaf os B pk) o
+    of_kind : (b : Bool) (o : Out) → Has (seq_leaf (parted K b os) B pk) o → Has (seq_leaf os B pk) o
     of_kind b o h =
-        let r = has_seq_leaf (apart f b os) B pk o h in
-        subst (Has (seq_leaf os B pk)) r.4 (seq_leaf_has os B pk r.0 r.1 (has_apart f b os r.0 r.2).0 r.3)
+        let r = has_seq_leaf (parted K b os) B pk o h in
+        subst (Has (seq_leaf os B pk)) r.4 (seq_leaf_has os B pk r.0 r.1 (has_parted K b os r.0 r.2).0 r.3)
 
-    to : (o : Out) → Has (merged (seq_leaf (apart f true os) B pk) (seq_leaf (apart f false os) B pk)) o → Has (seq_leaf os B pk) o
-    to o h = elim (merged_has o (seq_leaf (apart f true os) B pk) (seq_leaf (apart f false os) B pk) h) [
+    to : (o : Out) → Has (merged (seq_leaf (parted K true os) B pk) (seq_leaf (parted K false os) B pk)) o → Has (seq_leaf os B pk) o
+    to o h = elim (merged_has o (seq_leaf (parted K true os) B pk) (seq_leaf (parted K false os) B pk) h) [
       | inl k ↦ of_kind true o k
       | inr k ↦ of_kind false o k
     ]
 
     made : (b : Bool) (p q o : Out) → Has os p → Has (B (applied p.act pk)) q → out_after p.act q ≡ o →
-        assigns f p.act ≡ b → Has (seq_leaf (apart f b os) B pk) o
+        K p.act ≡ b → Has (seq_leaf (parted K b os) B pk) o
     made b p q o h k is e =
-        subst (Has (seq_leaf (apart f b os) B pk)) is (seq_leaf_has (apart f b os) B pk p q (apart_has f b os p h e) k)
+        subst (Has (seq_leaf (parted K b os) B pk)) is (seq_leaf_has (parted K b os) B pk p q (parted_has K b os p h e) k)
 
     by : (b : Bool) (p q o : Out) → Has os p → Has (B (applied p.act pk)) q → out_after p.act q ≡ o →
-        assigns f p.act ≡ b → Has (merged (seq_leaf (apart f true os) B pk) (seq_leaf (apart f false os) B pk)) o
-    by true p q o h k is e = merged_left o (seq_leaf (apart f true os) B pk) (seq_leaf (apart f false os) B pk) (made true p q o h k is e)
-    by false p q o h k is e = merged_right o (seq_leaf (apart f true os) B pk) (seq_leaf (apart f false os) B pk) (made false p q o h k is e)
+        K p.act ≡ b → Has (merged (seq_leaf (parted K true os) B pk) (seq_leaf (parted K false os) B pk)) o
+    by true p q o h k is e = merged_left o (seq_leaf (parted K true os) B pk) (seq_leaf (parted K false os) B pk) (made true p q o h k is e)
+    by false p q o h k is e = merged_right o (seq_leaf (parted K true os) B pk) (seq_leaf (parted K false os) B pk) (made false p q o h k is e)
 
-    back : (o : Out) → Has (seq_leaf os B pk) o → Has (merged (seq_leaf (apart f true os) B pk) (seq_leaf (apart f false os) B pk)) o
+    back : (o : Out) → Has (seq_leaf os B pk) o → Has (merged (seq_leaf (parted K true os) B pk) (seq_leaf (parted K false os) B pk)) o
     back o h =
         let r = has_seq_leaf os B pk o h in
-        by (assigns f r.0.act) r.0 r.1 o r.2 r.3 r.4 refl
+        by (K r.0.act) r.0 r.1 o r.2 r.3 r.4 refl
 
 -- where no out assigns f, a diagram that is the second one at packets with the packet's own value does as well
 kept_seq : (f : ℕ) (os : List Out) (C B : List ℕ → List Out) (pk : List ℕ) → Keep f os →
@@ -221,7 +221,7 @@ apart_made old s1 s2 s3 s4 f a b kept right left d ia ib g h k hk hr hl hd = rec
       let is_right : look s3 right pk ≡ seq_leaf (apart f false (look old a pk)) B pk =
       k.leaves right pk hr.id ∙ hr.leaf pk w ∙ ap (λ C. seq_leaf (look s1 kept pk) C pk) b1 ∙ ap (λ x. seq_leaf x B pk) (hk.leaf pk w) in
       hd.leaf pk w ∙ ap (λ x. merged x (look s3 right pk)) is_left
-      ∙ ap (λ y. merged (seq_leaf (apart f true (look old a pk)) B pk) y) is_right ∙ apart_whole f (look old a pk) B pk;
+      ∙ ap (λ y. merged (seq_leaf (apart f true (look old a pk)) B pk) y) is_right ∙ parted_whole (assigns f) (look old a pk) B pk;
 }
 
 -- the outs that assign f, put through

@@ -1,5 +1,5 @@
--- Outs that assign a field, and outs that leave it as it is.
-use Rattle.std.specs.Prelude.{◌≡◌, ℕ, Bool, true, false, cond, eqb, List, [], ◌∷◌}
+-- Outs of one kind, and the others: those that assign a field, or those that end with a value of it between two.
+use Rattle.std.specs.Prelude.{◌≡◌, ℕ, Bool, true, false, cond, eqb, leb, ◌&&◌, List, [], ◌∷◌}
 use Rattle.nk_store.specs.declared.node.Out.{Out}
 use Rattle.nk_store.specs.Leaves.{Every}
 use Rattle.nk_algebra.specs.Leaves.{gathered}
@@ -9,13 +9,26 @@ abbrev pub assigns : ℕ → List (ℕ × ℕ) → Bool
 assigns f [] = false
 assigns f (s ∷ ss) = cond (eqb s.0 f) true (assigns f ss)
 
--- the out where it assigns f, if b is true, and where it doesn't, if b is false; else nothing
-abbrev pub passed : ℕ → Bool → Out → List Out
-passed f b o = cond (assigns f o.act) (cond b (o ∷ []) []) (cond b [] (o ∷ []))
+-- the last value that an act assigns, to f where it assigns f
+abbrev pub last_value : ℕ → List (ℕ × ℕ) → ℕ
+last_value f [] = 0
+last_value f (s ∷ ss) = cond (assigns f ss) (last_value f ss) s.1
+
+-- whether the act assigns f, at last a value from lo to hi
+abbrev pub ends_between : ℕ → ℕ → ℕ → List (ℕ × ℕ) → Bool
+ends_between f lo hi g = assigns f g && leb lo (last_value f g) && leb (last_value f g) hi
+
+-- the out where its act is of the kind, if b is true, and where it isn't, if b is false; else nothing
+abbrev pub passed : (List (ℕ × ℕ) → Bool) → Bool → Out → List Out
+passed K b o = cond (K o.act) (cond b (o ∷ []) []) (cond b [] (o ∷ []))
+
+-- the outs whose acts are of the kind, or the others
+abbrev pub parted : (List (ℕ × ℕ) → Bool) → Bool → List Out → List Out
+parted K b os = gathered (passed K b) os
 
 -- the outs that assign f, or those that don't
 abbrev pub apart : ℕ → Bool → List Out → List Out
-apart f b os = gathered (passed f b) os
+apart f b os = parted (assigns f) b os
 
 -- no out assigns f
 abbrev pub Keep : ℕ → List Out → Type 0

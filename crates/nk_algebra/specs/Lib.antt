@@ -9,4 +9,5 @@ pub mod PacketSets
 pub mod Choices
 pub mod Halves
 pub mod Apart
+pub mod Kinds
 pub mod Again

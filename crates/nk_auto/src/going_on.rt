@@ -18,7 +18,7 @@ use nk_sets::at_packets;
 use nk_store::{Id, Store};
 use std::alloc::AllocError;
 
-/// From how many parts on a sum without a dup is drawn alone, where the diagram that it is continued by has many parts too.
+/// A sum without a dup that has more parts than this is drawn alone, where the diagram that it is continued by has many parts too.
 const MANY: usize = 64;
 
 /// The diagram of a policy up to its first record, continued by a diagram: where the policy ends without a record the
@@ -118,7 +118,8 @@ pub fn after_predicate(st: &mut Store, p: &Pol, next: Id) -> Result<Id, AllocErr
 }
 
 /// Whether a policy is a sum of many parts, without a dup, in front of a diagram with many parts by a field. Part by part each
-/// assignment would be put before all of that diagram, and all but a few of its parts would then be thrown away.
+/// assignment would be put before all of that diagram; where a test stands before it, all but a few of the diagram's parts
+/// would then be thrown away. What isn't drawn alone is drawn part by part, so only a yes promises something: no dup.
 pub fn is_wide_sum(st: &Store, p: &Pol, next: Id) -> bool
     requires { IsId st.now next }
     ensures { result ≡ true → dups_of (tree_of p.now) ≡ 0 }

@@ -2,7 +2,7 @@
 ghost use Rattle.nk_bisim.specs.Answers.{IsCompared};
 
 use crate::answer::CompareError;
-use nk_cert::{Compared, compare_policies};
+use nk_cert::{Compared, compare_owned};
 use nk_names::Program;
 use std::alloc::Global;
 
@@ -25,5 +25,5 @@ pub fn compare(
     };
     let p = on_left.written(alloc)?;
     let q = on_right.written(alloc)?;
-    Ok(compare_policies(alloc, &program.fields, &p, &q)?)
+    Ok(compare_owned(alloc, &program.fields, p, q)?)
 }

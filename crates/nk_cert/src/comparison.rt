@@ -1,6 +1,8 @@
 //! Two policies compared.
 ghost use Rattle.std.specs.Prelude.{◌≡◌, ◌+◌, ◌<◌, ◌^◌, IfOk};
 ghost use Rattle.nk_field.specs.Packet.{FieldTable};
+ghost use Rattle.nk_store.specs.Held.{IsOver};
+ghost use Rattle.nk_auto.specs.Continued.{IsFit};
 ghost use Rattle.nk_policy.specs.Policy.{Policy, marked_from, dups_of};
 ghost use Rattle.nk_policy.specs.Tree.{tree_of};
 ghost use Rattle.nk_policy.specs.Ranges.{IsInRange, IsOverFields};
@@ -40,10 +42,52 @@ pub fn compare_policies(
     ensures { IfOk result (IsComparison fields.now (tree_of p.now) (tree_of q.now)) }
 {
     let bound = number_behind(p);
-    let q = marked(alloc, q, bound)?;
     let mut st = Store::new(alloc, fields)?;
-    let both = automaton_of_both(&mut st, p, &q)?;
+    let both = numbered_automaton(&mut st, p, q, bound)?;
     compare_by_levels(&mut st, &both, bound as usize)
+}
+
+/// The same of policies that are let go once their automaton is made.
+pub fn compare_owned(alloc: Global, fields: &Fields, p: Pol, q: Pol) -> Result<Compared, AllocError>
+    requires numbered { marked_from (tree_of p) 1 ≡ tree_of p }
+    requires few { 1 + dups_of (tree_of p) + dups_of (tree_of q) < 2 ^ 32 }
+    requires left_complements { NegatesPredicates (tree_of p) }
+    requires right_complements { NegatesPredicates (tree_of q) }
+    requires left_over { IsOverFields fields.now (tree_of p) }
+    requires right_over { IsOverFields fields.now (tree_of q) }
+    ensures { IfOk result (IsComparison fields.now (tree_of p) (tree_of q)) }
+{
+    let bound = number_behind(&p);
+    let mut st = Store::new(alloc, fields)?;
+    let both = owned_automaton(&mut st, p, q, bound)?;
+    compare_by_levels(&mut st, &both, bound as usize)
+}
+
+/// The automaton of two policies together, which are let go then.
+fn owned_automaton(st: &mut Store, p: Pol, q: Pol, bound: u32) -> Result<Both, AllocError>
+    requires left { marked_from (tree_of p) 1 ≡ tree_of p }
+    requires bound { bound ≡ 1 + dups_of (tree_of p) }
+    requires few { 1 + dups_of (tree_of p) + dups_of (tree_of q) < 2 ^ 32 }
+    requires left_fit { IsFit st.old.maxes (tree_of p) }
+    requires right_fit { IsFit st.old.maxes (marked_from (tree_of q) bound) }
+    ensures { IfOk result (λ b. (fields : FieldTable) → IsOver fields st.old
+        → IsAutomatonOfBoth fields st.new b.states b.left b.right (tree_of p) (marked_from (tree_of q) bound)) }
+{
+    numbered_automaton(st, &p, &q, bound)
+}
+
+/// The automaton of two policies together, the right one's dups numbered on from the bound.
+fn numbered_automaton(st: &mut Store, p: &Pol, q: &Pol, bound: u32) -> Result<Both, AllocError>
+    requires left { marked_from (tree_of p.now) 1 ≡ tree_of p.now }
+    requires bound { bound ≡ 1 + dups_of (tree_of p.now) }
+    requires few { 1 + dups_of (tree_of p.now) + dups_of (tree_of q.now) < 2 ^ 32 }
+    requires left_fit { IsFit st.old.maxes (tree_of p.now) }
+    requires right_fit { IsFit st.old.maxes (marked_from (tree_of q.now) bound) }
+    ensures { IfOk result (λ b. (fields : FieldTable) → IsOver fields st.old
+        → IsAutomatonOfBoth fields st.new b.states b.left b.right (tree_of p.now) (marked_from (tree_of q.now) bound)) }
+{
+    let q = marked(st.alloc(), q, bound)?;
+    automaton_of_both(st, p, &q)
 }
 
 /// Two policies compared by their automaton; labels below `bound` are the left one's.

@@ -19,7 +19,7 @@ mod printed;
 pub use certificate::{CertPart, Certificate, Verdict};
 pub use checking::check_policies;
 pub use compared::Compared;
-pub use comparison::compare_policies;
+pub use comparison::{compare_owned, compare_policies};
 pub use error::CheckError;
 pub use leveling::{LevelsOfBoth, levels_of_both};
 pub use naming::check;

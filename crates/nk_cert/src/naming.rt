@@ -1,5 +1,5 @@
 //! What is found of a certificate of two named policies.
-ghost use Rattle.std.specs.Prelude.{◌≡◌, ◌+◌, ◌<◌, ◌^◌, IfOk};
+ghost use Rattle.std.specs.Prelude.{◌≡◌, ◌+◌, ◌<◌, ◌≤◌, ◌^◌, IfOk};
 ghost use Rattle.nk_policy.specs.Policy.{marked_from, dups_of};
 ghost use Rattle.nk_policy.specs.Tree.{tree_of};
 ghost use Rattle.nk_policy.specs.Ranges.{IsOverFields};
@@ -38,7 +38,7 @@ pub fn check(
     };
     let p = on_left.written(alloc)?;
     let q = on_right.written(alloc)?;
-    Ok(check_both(alloc, &program.fields, &p, &q, certificate)?)
+    Ok(check_both(alloc, &program.fields, &p, q, certificate)?)
 }
 
 /// What is found of a certificate of two policies, the right one's dups numbered on from the left one's.
@@ -46,18 +46,27 @@ fn check_both(
     alloc: Global,
     fields: &Fields,
     p: &Pol,
-    q: &Pol,
+    q: Pol,
     certificate: &Certificate,
 ) -> Result<Verdict, AllocError>
     requires numbered { marked_from (tree_of p.now) 1 ≡ tree_of p.now }
-    requires few { 1 + dups_of (tree_of p.now) + dups_of (tree_of q.now) < 2 ^ 32 }
+    requires few { 1 + dups_of (tree_of p.now) + dups_of (tree_of q) < 2 ^ 32 }
     requires left_complements { NegatesPredicates (tree_of p.now) }
     requires left_over { IsOverFields fields.now (tree_of p.now) }
-    requires right_complements { NegatesPredicates (tree_of q.now) }
-    requires right_over { IsOverFields fields.now (tree_of q.now) }
+    requires right_complements { NegatesPredicates (tree_of q) }
+    requires right_over { IsOverFields fields.now (tree_of q) }
     requires predicates { HasPredicates (certificate_value certificate.now) }
-    ensures { IfOk result (λ v. IsFinding fields.now (tree_of p.now) (marked_from (tree_of q.now) (1 + dups_of (tree_of p.now))) (certificate_value certificate.now) (finding_of v)) }
+    ensures { IfOk result (λ v. IsFinding fields.now (tree_of p.now) (marked_from (tree_of q) (1 + dups_of (tree_of p.now))) (certificate_value certificate.now) (finding_of v)) }
 {
-    let behind = marked(alloc, q, number_behind(p))?;
+    let behind = numbered_behind(alloc, q, number_behind(p))?;
     check_policies(alloc, fields, p, &behind, certificate)
+}
+
+/// The policy with its dups numbered from here on; as it was it is let go.
+fn numbered_behind(alloc: Global, q: Pol, first: u32) -> Result<Pol, AllocError>
+    requires positive { 1 ≤ first }
+    requires fit { first + dups_of (tree_of q) ≤ 2 ^ 32 }
+    ensures { IfOk result (λ r. tree_of r ≡ marked_from (tree_of q) first) }
+{
+    marked(alloc, &q, first)
 }

@@ -137,7 +137,7 @@ fn all_written_on(alloc: Global, parts: &[Body], before: &mut u64) -> Result<Vec
     ensures trees { IfOk result (λ qs. trees_of qs.items ≡ all_marked_from (policies_in parts.now) (before.old + 1)) }
     ensures before { OnOk result (before.new ≡ before.old + dups_of_all (policies_in parts.now)) }
 {
-    let mut out = Vec::new(alloc);
+    let mut out = Vec::with_capacity(alloc, parts.len())?;
     for q in parts {
         out.push(written_on(alloc, q, before)?)?;
     }

@@ -72,7 +72,7 @@ fn all_built(
 ) -> Result<Vec<Body>, AllocError>
     ensures { IfOk result (λ bs. policies_in bs.items ≡ policies_for fields.now lets.now.entries.items (all_written_of parts.now)) }
 {
-    let mut out = Vec::new(alloc);
+    let mut out = Vec::with_capacity(alloc, parts.len())?;
     for q in parts {
         out.push(built(alloc, fields, lets, q)?)?;
     }

@@ -53,7 +53,7 @@ fn all_renumbered(alloc: Global, ps: &[Pol], next: &mut u64) -> Result<Vec<Pol>,
     ensures trees { IfOk result (λ qs. trees_of qs.items ≡ all_marked_from (trees_of ps.now) next.old) }
     ensures next { OnOk result (next.new ≡ next.old + dups_of_all (trees_of ps.now)) }
 {
-    let mut out = Vec::new(alloc);
+    let mut out = Vec::with_capacity(alloc, ps.len())?;
     for q in ps {
         out.push(renumbered(alloc, q, next)?)?;
     }

@@ -13,11 +13,11 @@ use Rattle.nk_cert.proofs.naming.check_both.Goals as goal
 
 pub check_policies-requires-clause-numbered : goal.check_policies-requires-clause-numbered
 check_policies-requires-clause-numbered c =
-    numbered_on (tree_of c.args.p.now) (tree_of c.args.q.now) (tree_of c.in_ok-behind.behind) c.number_behind.result c.requires.numbered c.number_behind.ensures c.in_ok-behind.ensures
+    numbered_on (tree_of c.args.p.now) (tree_of c.args.q) (tree_of c.in_ok-behind.behind) c.number_behind.result c.requires.numbered c.number_behind.ensures c.in_ok-behind.ensures
 
 pub check_policies-requires-clause-few : goal.check_policies-requires-clause-few
 check_policies-requires-clause-few c =
-    let same : dups_of (tree_of c.in_ok-behind.behind) ≡ dups_of (tree_of c.args.q.now) = ap dups_of c.in_ok-behind.ensures ∙ marked_dups (tree_of c.args.q.now) c.number_behind.result in
+    let same : dups_of (tree_of c.in_ok-behind.behind) ≡ dups_of (tree_of c.args.q) = ap dups_of c.in_ok-behind.ensures ∙ marked_dups (tree_of c.args.q) c.number_behind.result in
     omega (arith, c.requires.few, same)
 
 pub check_policies-requires-clause-left_range : goal.check_policies-requires-clause-left_range
@@ -25,15 +25,15 @@ check_policies-requires-clause-left_range c = over_in_range c.args.fields.now (t
 
 pub check_policies-requires-clause-right_complements : goal.check_policies-requires-clause-right_complements
 check_policies-requires-clause-right_complements c =
-    subst NegatesPredicates (sym c.in_ok-behind.ensures) (negates_marked (tree_of c.args.q.now) c.number_behind.result c.requires.right_complements)
+    subst NegatesPredicates (sym c.in_ok-behind.ensures) (negates_marked (tree_of c.args.q) c.number_behind.result c.requires.right_complements)
 
 pub check_policies-requires-clause-right_range : goal.check_policies-requires-clause-right_range
 check_policies-requires-clause-right_range c =
     let n = c.number_behind.result in
     subst (λ r. IsInRange r c.args.fields.now) (sym c.in_ok-behind.ensures)
-    (over_in_range c.args.fields.now (marked_from (tree_of c.args.q.now) n) (over_marked c.args.fields.now (tree_of c.args.q.now) n c.requires.right_over))
+    (over_in_range c.args.fields.now (marked_from (tree_of c.args.q) n) (over_marked c.args.fields.now (tree_of c.args.q) n c.requires.right_over))
 
 pub returns : goal.returns
 returns c =
-    let is = c.in_ok-behind.ensures ∙ ap (λ k. marked_from (tree_of c.args.q.now) k) c.number_behind.ensures in
+    let is = c.in_ok-behind.ensures ∙ ap (λ k. marked_from (tree_of c.args.q) k) c.number_behind.ensures in
     subst (λ r. IfOk c.check_policies.result (λ v. IsFinding c.args.fields.now (tree_of c.args.p.now) r (certificate_value c.args.certificate.now) (finding_of v))) is c.check_policies.ensures
