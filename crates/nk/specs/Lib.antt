@@ -11,6 +11,7 @@ pub mod Ends
 pub mod Flying
 pub mod Following
 pub mod Generating
+pub mod Handed
 pub mod JobSteps
 pub mod Judging
 pub mod Messages

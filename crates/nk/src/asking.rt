@@ -46,8 +46,8 @@ pub(crate) fn waypoint_query<'a>(
 }
 
 /// What asking a query answers, over the bytes of a text.
-pub(crate) fn ask_answer(alloc: Global, query: &Query, bytes: &[u8]) -> Result<Said, AllocError>
-    ensures { IfOk result (λ s. IsAskAnswer (asked_in query.now) bytes.now (said s)) }
+pub(crate) fn ask_answer(alloc: Global, query: &Query, bytes: Vec<u8>) -> Result<Said, AllocError>
+    ensures { IfOk result (λ s. IsAskAnswer (asked_in query.now) bytes.items (said s)) }
 {
     match read_program(alloc, bytes)? {
         ReadText::Program(program) => answer_to_program(alloc, query, &program),

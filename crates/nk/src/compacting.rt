@@ -21,8 +21,8 @@ use nk_tabtext::{printed_tables_are_read, table_text};
 use std::alloc::{AllocError, Global};
 
 /// What compacting the policy of this name answers, over the bytes of a text.
-pub(crate) fn compact_answer(alloc: Global, name: &str, bytes: &[u8]) -> Result<Said, AllocError>
-    ensures { IfOk result (λ s. IsCompactAnswer name.now bytes.now (said s)) }
+pub(crate) fn compact_answer(alloc: Global, name: &str, bytes: Vec<u8>) -> Result<Said, AllocError>
+    ensures { IfOk result (λ s. IsCompactAnswer name.now bytes.items (said s)) }
 {
     match read_program(alloc, bytes)? {
         ReadText::Program(program) => answer_to_program(alloc, name, &program),

@@ -19,9 +19,9 @@ pub(crate) fn equal_answer(
     alloc: Global,
     left: &str,
     right: &str,
-    bytes: &[u8],
+    bytes: Vec<u8>,
 ) -> Result<Said, AllocError>
-    ensures { IfOk result (λ s. IsEqualAnswer left.now right.now bytes.now (said s)) }
+    ensures { IfOk result (λ s. IsEqualAnswer left.now right.now bytes.items (said s)) }
 {
     match read_program(alloc, bytes)? {
         ReadText::Program(program) => answer_to_program(alloc, left, right, &program),

@@ -50,12 +50,12 @@ pub(crate) fn job_answer(alloc: Global, size: u64, seed: u64) -> Result<Said, Al
     ensures { IfOk result (λ s. IsJobAnswer size seed (said s)) }
 {
     let text = generate(alloc, size, seed)?;
-    job_over(alloc, &text)
+    job_over(alloc, text)
 }
 
 /// The same over the bytes of a text.
-fn job_over(alloc: Global, bytes: &[u8]) -> Result<Said, AllocError>
-    ensures { IfOk result (λ s. IsJobOver bytes.now (said s)) }
+fn job_over(alloc: Global, bytes: Vec<u8>) -> Result<Said, AllocError>
+    ensures { IfOk result (λ s. IsJobOver bytes.items (said s)) }
 {
     match read_program(alloc, bytes)? {
         ReadText::Program(program) => job_of_program(alloc, &program),

@@ -119,10 +119,10 @@ fn reply_to_whole<S: Source>(alloc: Global, command: &Command, source: &mut S) -
     ensures unread { reads command.now ≡ false → source.new ≡ source.old }
 {
     if !reads_input(command) {
-        return reply_to(alloc, command, &[]);
+        return reply_to(alloc, command, Vec::new(alloc));
     }
     match read_all(alloc, source, LONGEST) {
-        Ok(bytes) => reply_to(alloc, command, &bytes),
+        Ok(bytes) => reply_to(alloc, command, bytes),
         Err(error) => Reply::unread(error),
     }
 }
@@ -138,10 +138,10 @@ fn reads_input(command: &Command) -> bool
 }
 
 /// What the command answers to the input, where memory doesn't run out.
-fn reply_to(alloc: Global, command: &Command, bytes: &[u8]) -> Reply
+fn reply_to(alloc: Global, command: &Command, bytes: Vec<u8>) -> Reply
     requires within { IsWithinLimits command.now }
     requires whole { reads_in_pieces command.now ≡ false }
-    ensures { IsReplyTo command.now bytes.now result }
+    ensures { IsReplyTo command.now bytes.items result }
 {
     match perform(alloc, command, bytes) {
         Ok(said) => Reply::Said(said),
@@ -150,10 +150,10 @@ fn reply_to(alloc: Global, command: &Command, bytes: &[u8]) -> Reply
 }
 
 /// What the command answers to the input.
-fn perform(alloc: Global, command: &Command, bytes: &[u8]) -> Result<Said, AllocError>
+fn perform(alloc: Global, command: &Command, bytes: Vec<u8>) -> Result<Said, AllocError>
     requires within { IsWithinLimits command.now }
     requires whole { reads_in_pieces command.now ≡ false }
-    ensures { IfOk result (λ s. IsOutcome command.now bytes.now (said s)) }
+    ensures { IfOk result (λ s. IsOutcome command.now bytes.items (said s)) }
 {
     match command {
         Command::Compile(name) => compile_answer(alloc, name.as_str(), bytes),

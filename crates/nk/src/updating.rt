@@ -54,9 +54,9 @@ pub(crate) fn update_answer(
     seed: u64,
     steps: u64,
     word: &str,
-    bytes: &[u8],
+    bytes: Vec<u8>,
 ) -> Result<Said, AllocError>
-    ensures { IfOk result (λ s. IsUpdateAnswer old.now new.now seed steps word.now bytes.now (said s)) }
+    ensures { IfOk result (λ s. IsUpdateAnswer old.now new.now seed steps word.now bytes.items (said s)) }
 {
     match read_program(alloc, bytes)? {
         ReadText::Program(program) => {

@@ -20,8 +20,8 @@ use nk_virtual::{VirtualError, physical};
 use std::alloc::{AllocError, Global};
 
 /// What virtualizing the policy of this name answers, over the bytes of a text.
-pub(crate) fn virtual_answer(alloc: Global, name: &str, bytes: &[u8]) -> Result<Said, AllocError>
-    ensures { IfOk result (λ s. IsVirtualizeAnswer name.now bytes.now (said s)) }
+pub(crate) fn virtual_answer(alloc: Global, name: &str, bytes: Vec<u8>) -> Result<Said, AllocError>
+    ensures { IfOk result (λ s. IsVirtualizeAnswer name.now bytes.items (said s)) }
 {
     match read_program(alloc, bytes)? {
         ReadText::Program(program) => answer_to_program(alloc, name, &program),

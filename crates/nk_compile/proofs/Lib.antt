@@ -13,6 +13,7 @@ pub mod Emitted
 pub mod EndLemmas
 pub mod FewTags
 pub mod Fitting
+pub mod Handing
 pub mod Levelled
 pub mod LinkEnds
 pub mod Making

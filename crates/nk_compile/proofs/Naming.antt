@@ -12,12 +12,11 @@ use Rattle.nk_names.specs.WellFormed.{IsWellFormed}
 use Rattle.nk_names.specs.Accepted.{IsAccepted}
 use Rattle.nk_compile.specs.Refusals.{IsRefused, IsReason}
 use Rattle.nk_compile.specs.Answers.{IsMade, IsError}
-use Rattle.nk_compile.specs.Counted.{HasTagSets, IsCountedAnswer, IsCountedPolicyAnswer}
+use Rattle.nk_compile.specs.Counted.{HasTagSets, IsCountedPolicyAnswer}
 use Rattle.nk_compile.specs.declared.counted.Counted.{Counted}
 use Rattle.nk_compile.specs.declared.refusal.Refusal.{Refusal}
 use Rattle.nk_compile.specs.declared.refusal.Refusal.TheVariants.{NoPolicy, NoTag, TagUsed, LooseDup, SwitchSet, NoSuchLink, OffEdge, TooManyTags}
 use Rattle.nk_compile.specs.declared.refusal.CompileError.{CompileError}
-use Rattle.nk_compile.specs.declared.refusal.CompileError.TheVariants.{NoMemory, Refused}
 use Rattle.nk_compile.proofs.Making.{seen_named}
 use Rattle.nk_compile.proofs.Printed.{printed_carries}
 
@@ -32,13 +31,6 @@ reason_named program name p named SwitchSet e = (p, named, e)
 reason_named program name p named NoSuchLink e = (p, named, e)
 reason_named program name p named (OffEdge start history) e = (p, named, e)
 reason_named program name p named (TooManyTags found) e = (p, named, e)
-
--- the answer for the policy is that for its name
-pub answer_named : (program : Program) (name : List ℕ) (p : Policy) (r : Result Counted CompileError) →
-    policy_named program name ≡ Some p → IsCountedPolicyAnswer program p r → IsCountedAnswer program name r
-answer_named program name p (Ok c) named h = ((p, named, h.0.0, h.0.1, h.0.2), (p, named, h.0.0, h.1))
-answer_named program name p (Err NoMemory) named h = tt
-answer_named program name p (Err (Refused r)) named h = reason_named program name p named r h
 
 -- what is made of a policy and counted of it is its answer
 pub counted_answer : (program : Program) (p : Policy) (r : Result Counted CompileError) →

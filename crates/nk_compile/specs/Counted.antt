@@ -7,6 +7,7 @@ use Rattle.nk_policy.specs.Tags.{AreTags}
 use Rattle.nk_names.specs.declared.Program.{Program}
 use Rattle.nk_names.specs.Accepted.{IsStartPacket, IsAccepted}
 use Rattle.nk_names.specs.Named.{policy_named}
+use Rattle.nk_table.specs.declared.Table.{Table}
 use Rattle.nk_compile.specs.declared.refusal.CompileError.{CompileError}
 use Rattle.nk_compile.specs.declared.counted.Counted.{Counted}
 use Rattle.nk_compile.specs.Answers.{IsError, IsNoAnswer}
@@ -39,3 +40,12 @@ IsCountedAnswer program name (Err e) = IsNoAnswer program name e
 abbrev pub IsCountAnswer : Program → List ℕ → Result ℕ CompileError → Type 0
 IsCountAnswer program name (Ok n) = HasTagCount program name n
 IsCountAnswer program name (Err e) = IsNoAnswer program name e
+
+-- the number of the tag sets, where the tables of the name were handed over, or why there are none
+abbrev pub IsHandedAnswer : Program → List ℕ → (List Table → Type 0) → Result ℕ CompileError → Type 0
+IsHandedAnswer program name Taken (Ok n) =
+    (ts : List Table)
+    × Taken ts
+    × IsCompiled program name (record { fields = program.fields; topo = program.topo; tables = ts })
+    × HasTagCount program name n
+IsHandedAnswer program name Taken (Err e) = IsNoAnswer program name e

@@ -10,6 +10,7 @@ mod ends;
 pub mod laws;
 mod merged;
 mod met;
+mod numbered;
 mod pair;
 mod prepared;
 mod refusal;
@@ -19,7 +20,8 @@ mod tagging;
 mod wrong_ends;
 
 pub use compact::{Apart, Compact, compile_compact};
-pub use compilation::{compile, compile_counted, compile_policy, tag_count};
+pub use compilation::{compile, compile_counted, compile_policy, compile_to, tag_count};
 pub use counted::Counted;
+pub use nk_switches::TableSink;
 pub use pair::{TablePair, compile_pair};
 pub use refusal::{CompileError, Refusal};

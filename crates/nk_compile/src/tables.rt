@@ -12,15 +12,11 @@ ghost use Rattle.nk_tag.specs.Numbers.{AreNumbers};
 ghost use Rattle.nk_compile.specs.Levelled.{IsLevelled, IsOffFault, IsTagFault, compile_fault};
 ghost use Rattle.nk_compile.specs.declared.refusal.CompileError.TheVariants as compile;
 ghost use Rattle.nk_compile.specs.declared.refusal.Refusal.TheVariants as refusal;
-ghost use Rattle.nk_compile.specs.Answers.{IsMade, IsError};
-ghost use Rattle.nk_compile.specs.Counted.{HasTagSets};
 ghost use Rattle.nk_compile.specs.Preparing.{IsPrepared, IsEarlyError};
 ghost use Rattle.nk_compile.specs.Refusals.{refusal_of};
 
-use crate::counted::Counted;
 use crate::prepared::Prepared;
 use crate::refusal::{CompileError, Refusal};
-use crate::tagging::printed;
 use crate::wrong_ends::wrong_ends;
 use nk_auto::policy_automaton;
 use nk_determ::{SetId, Sets};
@@ -161,28 +157,4 @@ pub fn prepare(
         sets,
         levels,
     })
-}
-
-/// The printed tables of a policy and the number of its tag sets, or the first reason to refuse it.
-pub fn policy_tables(
-    alloc: Global,
-    fields: &Fields,
-    topo: &Topo,
-    p: &Pol,
-) -> Result<Counted, CompileError>
-    requires held { IsWellFormed fields.now (tree_of p.now) }
-    requires room { (f : ℕ) → slice_index fields.now.maxima f + 1 < 2 ^ 64 }
-    ensures made { IfOk result (λ c. IsMade fields.now topo.now (tree_of p.now) c.tables) }
-    ensures counted { IfOk result (λ c. HasTagSets fields.now topo.now (tree_of p.now) c.tag_sets) }
-    ensures error { IfErr result (IsError fields.now topo.now (tree_of p.now)) }
-{
-    let Some(tag) = fields.tag() else {
-        return Err(CompileError::Refused(Refusal::NoTag));
-    };
-    let _few = fields.declared();
-    let prepared = prepare(alloc, fields, topo, tag, p)?;
-    let tags = numbers(&prepared, 0, fields.max(tag))?;
-    let tag_sets = tags.len() as u64;
-    let tables = printed(prepared, fields, topo, p, 0, tags.as_slice())?;
-    Ok(Counted { tables, tag_sets })
 }

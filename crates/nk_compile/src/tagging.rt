@@ -1,13 +1,15 @@
 //! The tables of all switches, by a policy's states and tag sets.
-ghost use Rattle.std.specs.Prelude.{◌≡◌, ◌<◌, ℕ, All, IfOk, length, ◌++◌, replicate};
+ghost use Rattle.std.specs.Prelude.{◌≡◌, ◌<◌, ℕ, All, IfOk, List as Items, OnOk, length, ◌++◌, replicate};
 ghost use Rattle.nk_field.specs.Packet.{FieldTable};
+ghost use Rattle.nk_policy.specs.Policy.{Policy};
 ghost use Rattle.nk_policy.specs.Tree.{tree_of};
+ghost use Rattle.nk_table.specs.declared.Table.{Table};
 ghost use Rattle.nk_table.specs.declared.Tables.{Tables};
 ghost use Rattle.nk_names.specs.Accepted.{IsStartPacket};
 ghost use Rattle.nk_determ.specs.Sets.{SetsGrow};
 ghost use Rattle.nk_tag.specs.Numbers.{AreNumbers};
 ghost use Rattle.nk_compile.specs.NumberedBehind.{tags_behind, IsTableBehind};
-ghost use Rattle.nk_compile.specs.Preparing.{IsPrepared};
+ghost use Rattle.nk_compile.specs.Preparing.{AreEnds, IsPrepared};
 ghost use Rattle.nk_compile.specs.Ready.{sets_of, IsClear, IsReady};
 
 use crate::ends::link_ends;
@@ -17,31 +19,32 @@ use nk_determ::{SetId, Sets};
 use nk_field::{Fields, List};
 use nk_policy::Pol;
 use nk_store::{Id, Store};
-use nk_switches::switch_tables;
-use nk_table::{Table, Tables};
+use nk_switches::{TableSink, switch_tables};
+use nk_table::Tables;
 use nk_topo::Topo;
 use std::alloc::{AllocError, Global};
 
-/// The printed tables of all switches for a policy, by its automaton's states and the numbers of its tags' sets: the set without
-/// labels for the first so many tags, and behind them the tag sets.
-fn tag_tables(
+/// The printed tables of all switches for a policy, one after the other, by its automaton's states, where its links end, and the
+/// numbers of its tags' sets: the set without labels for the first so many tags, and behind them the tag sets.
+fn tag_tables<S: TableSink>(
     st: &mut Store,
     ss: &mut Sets,
     topo: &Topo,
-    p: &Pol,
+    ends: &[Option<u16>],
     states: &[Id],
     tags: &[SetId],
-) -> Result<List<Table>, AllocError>
-    requires ready { (first : ℕ) × (fields : FieldTable) × (tag : ℕ) × IsClear fields topo.now tag (tree_of p.now)
-        × IsReady first fields topo.now (tree_of p.now) st.old ss.old states.now tags.now }
-    ensures { IfOk result (λ ts. (first : ℕ) (fields : FieldTable) (tag : ℕ) → IsClear fields topo.now tag (tree_of p.now)
-        → IsReady first fields topo.now (tree_of p.now) st.old ss.old states.now tags.now
+    sink: &mut S,
+) -> Result<(), AllocError>
+    requires ready { (first : ℕ) × (fields : FieldTable) × (p : Policy) × (tag : ℕ) × IsClear fields topo.now tag p
+        × AreEnds p (length states.now) ends.now × IsReady first fields topo.now p st.old ss.old states.now tags.now }
+    ensures { OnOk result ((ts : Items Table) × S.takes sink.old ts sink.new
+        × ((first : ℕ) (fields : FieldTable) (p : Policy) (tag : ℕ) → IsClear fields topo.now tag p
+        → AreEnds p (length states.now) ends.now → IsReady first fields topo.now p st.old ss.old states.now tags.now
         → (t : Tables) → t.fields ≡ fields → t.topo ≡ topo.now → t.tables ≡ ts
-        → IsTableBehind first fields topo.now (IsStartPacket fields topo.now) (tree_of p.now) t) }
+        → IsTableBehind first fields topo.now (IsStartPacket fields topo.now) p t)) }
 {
-    let ends = link_ends(st.alloc(), p, states.len())?;
-    let stops = stops(st.alloc(), topo, ends.as_slice(), ss, tags)?;
-    switch_tables(st, ss, states, tags, stops.as_slice())
+    let stops = stops(st.alloc(), topo, ends, ss, tags)?;
+    switch_tables(st, ss, states, tags, stops.as_slice(), sink)
 }
 
 /// So many times one set, and these behind.
@@ -74,6 +77,33 @@ fn behind(
     padded(alloc, none, first, tags)
 }
 
+/// The printed tables of a prepared policy, one after the other, its tags behind so many others. These are where its links end, and
+/// the numbers of its tag sets in order.
+pub fn print_to<S: TableSink>(
+    prepared: Prepared,
+    ends: &[Option<u16>],
+    topo: &Topo,
+    first: u64,
+    tags: &[SetId],
+    sink: &mut S,
+) -> Result<(), AllocError>
+    requires prepared { (fields : FieldTable) × (p : Policy) × (tag : ℕ) × IsPrepared fields topo.now tag p prepared
+        × AreEnds p (length prepared.states) ends.now }
+    requires numbers { AreNumbers prepared.sets prepared.levels.levels tags.now }
+    ensures { OnOk result ((ts : Items Table) × S.takes sink.old ts sink.new
+        × ((fields : FieldTable) (p : Policy) (tag : ℕ) → IsPrepared fields topo.now tag p prepared
+        → AreEnds p (length prepared.states) ends.now → (t : Tables) → t.fields ≡ fields → t.topo ≡ topo.now → t.tables ≡ ts
+        → IsTableBehind first fields topo.now (IsStartPacket fields topo.now) p t)) }
+{
+    let mut st = prepared.store;
+    let mut ss = prepared.sets;
+    let all = behind(st.alloc(), &mut ss, first, tags)?;
+    ss.differ();
+    st.laws();
+    let states = prepared.states.as_slice();
+    tag_tables(&mut st, &mut ss, topo, ends, states, all.as_slice(), sink)
+}
+
 /// The printed tables of a prepared policy, its tags behind so many others. These are the numbers of its tag sets in order.
 pub fn printed(
     prepared: Prepared,
@@ -87,13 +117,10 @@ pub fn printed(
     requires numbers { AreNumbers prepared.sets prepared.levels.levels tags.now }
     ensures { IfOk result (IsTableBehind first fields.now topo.now (IsStartPacket fields.now topo.now) (tree_of p.now)) }
 {
-    let mut st = prepared.store;
-    let mut ss = prepared.sets;
-    let all = behind(st.alloc(), &mut ss, first, tags)?;
-    ss.differ();
-    st.laws();
-    let states = prepared.states.as_slice();
-    let tables = tag_tables(&mut st, &mut ss, topo, p, states, all.as_slice())?;
+    let alloc = prepared.store.alloc();
+    let ends = link_ends(alloc, p, prepared.states.len())?;
+    let mut tables = List::new(alloc);
+    print_to(prepared, ends.as_slice(), topo, first, tags, &mut tables)?;
     let fields = fields.copy()?;
     let topo = topo.copy()?;
     Ok(Tables {

@@ -127,12 +127,11 @@ together_on old new ds F g h = record {
 }
 
 -- the first of these diagrams, and the others put together with a new one
-pub put_together : (old s1 s2 : Held) (ds ls : List ℕ) (kept some last new : ℕ) → Grows old s1 → Grows s1 s2 → AreTidy old →
-    AreTidy s2 → AreIds old ds → IsId old new → kept ≤ length ds → ls ≡ take kept ds ++ last ∷ [] →
-    HasLeaves s1 some (λ pk. unions old (drop kept ds) 0 (length (drop kept ds)) pk) →
-    HasLeaves s2 last (λ pk. merged (look s1 some pk) (look s1 new pk)) →
+pub put_together : (old s2 : Held) (ds ls : List ℕ) (kept last new : ℕ) → Grows old s2 → AreTidy old →
+    AreTidy s2 → AreIds old ds → kept ≤ length ds → ls ≡ take kept ds ++ last ∷ [] →
+    HasLeaves s2 last (λ pk. merged (unions old (drop kept ds) 0 (length (drop kept ds)) pk) (look old new pk)) →
     AreTogether s2 ls (λ pk. merged (unions old ds 0 (length ds) pk) (look old new pk))
-put_together old s1 s2 ds ls kept some last new g h t u ids id few is gs gl =
+put_together old s2 ds ls kept last new h t u ids few is gl =
     subst (λ xs. AreTogether s2 xs (λ pk. merged (unions old ds 0 (length ds) pk) (look old new pk))) (sym is) (record { ids = there; leaf = λ pk w. whole pk w })
   where
     first : length (take kept ds) ≡ kept
@@ -150,14 +149,14 @@ put_together old s1 s2 ds ls kept some last new g h t u ids id few is gs gl =
     there : AreIds s2 (take kept ds ++ last ∷ [])
     there k l = elim (leb_tells kept k) [
       | inl past ↦ let e : kept ≡ k = omega (arith, past.1, l, long) in subst (λ j. IsId s2 (get_or (take kept ds ++ last ∷ []) j 0)) e (subst (IsId s2) (sym end) gl.id)
-      | inr less ↦ subst (IsId s2) (sym (before k less.1)) (h.ids (get_or ds k 0) (g.ids (get_or ds k 0) (ids k (omega (arith, less.1, few)))))
+      | inr less ↦ subst (IsId s2) (sym (before k less.1)) (h.ids (get_or ds k 0) (ids k (omega (arith, less.1, few))))
     ]
 
     front : (pk : List ℕ) → unions s2 (take kept ds ++ last ∷ []) 0 kept pk ≡ unions old ds 0 kept pk
     front pk = unions_alike old s2 (take kept ds ++ last ∷ []) ds 0 0 kept pk (λ k l.
         let e : k + 0 ≡ k = omega arith in
         subst (λ m. look s2 (get_or (take kept ds ++ last ∷ []) m 0) pk ≡ look old (get_or ds m 0) pk) (sym e)
-        (ap (λ i. look s2 i pk) (before k l) ∙ h.leaves (get_or ds k 0) pk (g.ids (get_or ds k 0) (ids k (omega (arith, l, few)))) ∙ g.leaves (get_or ds k 0) pk (ids k (omega (arith, l, few)))))
+        (ap (λ i. look s2 i pk) (before k l) ∙ h.leaves (get_or ds k 0) pk (ids k (omega (arith, l, few)))))
 
     rest : (pk : List ℕ) → unions old (drop kept ds) 0 (length (drop kept ds)) pk ≡ unions old ds kept (length ds - kept) pk
     rest pk =
@@ -168,7 +167,7 @@ put_together old s1 s2 ds ls kept some last new g h t u ids id few is gs gl =
         ∙ ap (λ n. unions old ds kept n pk) (length-drop kept ds)
 
     tail : (pk : List ℕ) → IsWhole pk → look s2 last pk ≡ merged (unions old ds kept (length ds - kept) pk) (look old new pk)
-    tail pk w = gl.leaf pk w ∙ ap (λ x. merged x (look s1 new pk)) (gs.leaf pk w ∙ rest pk) ∙ ap (λ y. merged (unions old ds kept (length ds - kept) pk) y) (g.leaves new pk id)
+    tail pk w = gl.leaf pk w ∙ ap (λ x. merged x (look old new pk)) (rest pk)
 
     whole : (pk : List ℕ) → IsWhole pk → unions s2 (take kept ds ++ last ∷ []) 0 (length (take kept ds ++ last ∷ [])) pk ≡ merged (unions old ds 0 (length ds) pk) (look old new pk)
     whole pk w =
@@ -183,6 +182,23 @@ put_together old s1 s2 ds ls kept some last new g h t u ids id few is gs gl =
         ∙ ap (λ y. merged A y) (tail pk w)
         ∙ sym (merged_assoc A B (look old new pk) (unions_strict old ds 0 kept pk t) (unions_strict old ds kept (length ds - kept) pk t) ((t new).sorted pk))
         ∙ ap (λ x. merged x (look old new pk)) (ap (λ m. merged A (unions old ds m (length ds - kept) pk)) (sym z) ∙ unions_halves old ds 0 kept (length ds - kept) pk t ∙ ap (λ m. unions old ds 0 m pk) n)
+
+-- one diagram more before those that are put together with a new one already
+pub one_before : (old st on : Held) (ds : List ℕ) (d one all more k : ℕ) → Grows old st → AreTidy old → AreIds old ds → k < length ds →
+    one ≡ get_or ds k 0 → HasLeaves st all (λ pk. merged (unions old ds (k + 1) (length ds - (k + 1)) pk) (look old d pk)) →
+    HasLeaves on more (λ pk. merged (look st one pk) (look st all pk)) →
+    HasLeaves on more (λ pk. merged (unions old ds k (length ds - k) pk) (look old d pk))
+one_before old st on ds d one all more k g t ids l is h gl = record {
+  id = gl.id;
+  leaf = λ pk w.
+      let first = look old (get_or ds k 0) pk in
+      let rest = unions old ds (k + 1) (length ds - (k + 1)) pk in
+      let at : look st one pk ≡ first = ap (λ i. look st i pk) is ∙ g.leaves (get_or ds k 0) pk (ids k l) in
+      let count : suc (length ds - (k + 1)) ≡ length ds - k = omega (arith, l) in
+      gl.leaf pk w ∙ ap (λ x. merged x (look st all pk)) at ∙ ap (λ y. merged first y) (h.leaf pk w)
+      ∙ sym (merged_assoc first rest (look old d pk) ((t (get_or ds k 0)).sorted pk) (unions_strict old ds (k + 1) (length ds - (k + 1)) pk t) ((t d).sorted pk))
+      ∙ ap (λ n. merged (unions old ds k n pk) (look old d pk)) count;
+}
 
 -- what a further copy makes of the outs that the last round added, and that no round has
 pub record IsAdded (st : Held) (new : ℕ) (D : List ℕ → List Out) (n : ℕ) : Type 0 where

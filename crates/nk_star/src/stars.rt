@@ -93,12 +93,29 @@ fn put_to(st: &mut Store, all: &[Id], new: Id, n: usize) -> Result<List<Id>, All
     let kept = (n.count_ones() as usize).min(all.len());
     let (first, behind) = all.split_at(kept);
     st.laws();
-    let some = union_all(st, behind)?;
-    let last = union(st, some, new)?;
+    let last = from_the_last(st, behind, new)?;
     st.laws();
     let mut next = List::from_vec(Vec::from_slice(st.alloc(), first)?);
     next.push(last)?;
     Ok(next)
+}
+
+/// These diagrams and one more together, from the last of them on: that has the fewest outs, so few are copied twice.
+fn from_the_last(st: &mut Store, ds: &[Id], d: Id) -> Result<Id, AllocError>
+    requires ids { AreIds st.old ds.now }
+    requires id { IsId st.old d }
+    ensures grows { Grows st.old st.new }
+    ensures ok { IfOk result (λ r. HasLeaves st.new r (λ pk. merged (unions st.old ds.now 0 (length ds.now) pk) (look st.old d pk))) }
+{
+    st.laws();
+    let mut all = d;
+    let mut k = ds.len();
+    while k > 0 {
+        k -= 1;
+        let more = union(st, ds[k], all)?;
+        all = more;
+    }
+    Ok(all)
 }
 
 /// States a law, and does nothing: what a diagram makes of a packet of the fields is a packet of the fields too.

@@ -47,5 +47,7 @@ pub fn class_tables(
     let table = class_targets(st.alloc(), by_tag.as_slice(), classes)?;
     ss.differ();
     st.laws();
-    all_tables(st, table.as_slice(), class_states.as_slice())
+    let mut tables = List::new(st.alloc());
+    all_tables(st, table.as_slice(), class_states.as_slice(), &mut tables)?;
+    Ok(tables)
 }

@@ -5,6 +5,7 @@ mod acting;
 mod at_switch;
 mod classes;
 mod members;
+mod sink;
 mod stop;
 mod switches;
 mod tables;
@@ -12,5 +13,6 @@ mod tag_states;
 mod targets;
 
 pub use classes::class_tables;
+pub use sink::TableSink;
 pub use stop::{ActingTag, ClassHere, ClassStop, Stop};
 pub use switches::switch_tables;

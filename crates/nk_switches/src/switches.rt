@@ -1,5 +1,6 @@
 //! The tables of all switches.
-ghost use Rattle.std.specs.Prelude.{◌≡◌, ℕ, ◌<◌, Some, All, IfOk, length};
+ghost use Rattle.std.specs.Prelude.{◌≡◌, ℕ, ◌<◌, Some, All, List as Items, OnOk, length};
+ghost use Rattle.nk_table.specs.declared.Table.{Table};
 ghost use Rattle.nk_algebra.specs.Unions.{AreIds};
 ghost use Rattle.nk_extract.specs.RowsOf.{IsFrame};
 ghost use Rattle.nk_switches.specs.Matched.{Matched};
@@ -7,39 +8,39 @@ ghost use Rattle.nk_switches.specs.Made.{IsStop, IsTableAt};
 ghost use Rattle.nk_switches.specs.Tagged.{AreOnce};
 
 use crate::members::tag_table;
+use crate::sink::TableSink;
 use crate::stop::Stop;
 use crate::tables::all_tables;
 use crate::tag_states::all_states;
 use nk_determ::{SetId, Sets};
-use nk_field::List;
 use nk_store::{Id, Store};
-use nk_table::Table;
 use std::alloc::AllocError;
 
-/// The table of each switch. Its rows do for each of its tags what the tag's states do together at the switch. A copy at
+/// The table of each switch, one after the other, so that no more than one need be kept. Its rows do for each of its tags what the tag's states do together at the switch. A copy at
 /// which they end leaves with tag 0; one that they record next leaves with the tag of the set of all labels that record
 /// it, and is left out where that set has no tag. Equal bucket lists of a switch are one group.
 ///
 /// `states` are the diagrams of an automaton, `tags` the numbers of the tags' sets of labels in order: a set with labels
 /// once, the one without any as often as tags are left free. The only error is that memory ran out.
-pub fn switch_tables(
+pub fn switch_tables<S: TableSink>(
     st: &mut Store,
     ss: &mut Sets,
     states: &[Id],
     tags: &[SetId],
     stops: &[Stop],
-) -> Result<List<Table>, AllocError>
+    sink: &mut S,
+) -> Result<(), AllocError>
     requires frame { (tag : ℕ) × (st.old.tag ≡ Some tag) × IsFrame st.old st.old.width tag }
     requires states { AreIds st.old states.now }
     requires known { All (λ s. s < length ss.old) tags.now }
     requires once { AreOnce ss.old tags.now }
     requires stops { (tag : ℕ) → st.old.tag ≡ Some tag → All (IsStop st.old ss.old states.now tags.now tag) stops.now }
-    ensures { IfOk result (λ ts. (tag : ℕ) → st.old.tag ≡ Some tag →
-        Matched (IsTableAt st.old ss.old states.now tags.now tag) stops.now ts) }
+    ensures { OnOk result ((ts : Items Table) × S.takes sink.old ts sink.new
+        × ((tag : ℕ) → st.old.tag ≡ Some tag → Matched (IsTableAt st.old ss.old states.now tags.now tag) stops.now ts)) }
 {
     let tag_states = all_states(st, ss, states, tags, stops)?;
     let table = tag_table(st.alloc(), ss, tags)?;
     ss.differ();
     st.laws();
-    all_tables(st, table.as_slice(), tag_states.as_slice())
+    all_tables(st, table.as_slice(), tag_states.as_slice(), sink)
 }

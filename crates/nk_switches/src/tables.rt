@@ -1,11 +1,13 @@
 //! The tables of switches, by the diagrams of their tags.
-ghost use Rattle.std.specs.Prelude.{◌≡◌, ℕ, Some, All, IfOk, OnOk, ◌++◌, take};
+ghost use Rattle.std.specs.Prelude.{◌≡◌, ℕ, Some, All, IfOk, List as Items, OnOk, ◌++◌, take};
+ghost use Rattle.nk_table.specs.declared.Table.{Table};
 ghost use Rattle.nk_store.specs.Held.{Grows};
 ghost use Rattle.nk_extract.specs.RowsOf.{IsFrame};
 ghost use Rattle.nk_extract.specs.RuleTree.{rows_for};
 ghost use Rattle.nk_switches.specs.Matched.{Matched};
 ghost use Rattle.nk_switches.specs.Made.{TagTree, IsPrintableState, ArePrintableStates, IsTreeBy, AreRowsBy, IsTableBy};
 
+use crate::sink::TableSink;
 use crate::stop::{SwitchStates, TagState};
 use nk_determ::retarget;
 use nk_extract::rows_of;
@@ -87,21 +89,22 @@ fn switch_table(
     })
 }
 
-/// The table of each switch.
-pub fn all_tables(
+/// The table of each switch, one after the other.
+pub fn all_tables<S: TableSink>(
     st: &mut Store,
     table: &[Option<u64>],
     all: &[SwitchStates],
-) -> Result<List<Table>, AllocError>
+    sink: &mut S,
+) -> Result<(), AllocError>
     requires frame { (tag : ℕ) × (st.old.tag ≡ Some tag) × IsFrame st.old st.old.width tag }
     requires printable { (tag : ℕ) → st.old.tag ≡ Some tag → All (ArePrintableStates st.old tag) all.now }
     ensures grows { Grows st.old st.new }
-    ensures tables { IfOk result (λ ts. (tag : ℕ) → st.old.tag ≡ Some tag → Matched (IsTableBy st.old table.now tag) all.now ts) }
+    ensures tables { OnOk result ((ts : Items Table) × S.takes sink.old ts sink.new
+        × ((tag : ℕ) → st.old.tag ≡ Some tag → Matched (IsTableBy st.old table.now tag) all.now ts)) }
 {
-    let mut tables = List::new(st.alloc());
     for s in all {
         let t = switch_table(st, table, s)?;
-        tables.push(t)?;
+        sink.take(t)?;
     }
-    Ok(tables)
+    Ok(())
 }

@@ -1,4 +1,4 @@
--- The lines of switches by their numbers, and the parts of the text one behind the other.
+-- The lines of switches by their numbers, and the tables behind the other lines.
 use Rattle.std.proofs.Common.{◌≡◌, ℕ, ◌<◌, ◌++◌, ◌||◌, Bool, true, false, inl, inr, ⊎_elim, List, [], ◌∷◌, refl, sym, ap, ◌∙◌, arith, append_assoc}
 use Rattle.std.specs.Prelude.{◌==◌, map, if◌then◌else◌}
 use Rattle.std.specs.List.{flat_map, list_any}
@@ -9,7 +9,8 @@ use Rattle.nk_table.proofs.Crossing.{joined_mapped}
 use Rattle.nk_topo.specs.Inside.{link_of}
 use Rattle.nk_table.specs.declared.Tables.{Tables}
 use Rattle.nk_table.specs.Rules.{rows_of}
-use Rattle.nk_tabtext.specs.Text.{switch_text, link_text, topology_text, fields_text, tag_text, section_text, have_prefix, version_of, version_text, table_bytes}
+use Rattle.nk_tabtext.specs.Text.{switch_text, link_text, topology_text, section_text, have_prefix, version_of, table_bytes}
+use Rattle.nk_tabtext.specs.Written.{head_text}
 
 -- a switch has the ports that its number has among switches that ascend
 own_ports : (ss : List SwitchPorts) (s : SwitchPorts) → InOrder (λ q r. q.switch < r.switch) ss → In ss s →
@@ -29,7 +30,7 @@ own_ports (r ∷ ss) s up i = ⊎_elim this (λ j. later j (own_ports ss s up.1 
         ap (λ b. if b then r.ports else ports_among ss s.switch) other ∙ rest
 
 -- functions that agree on each element make the same
-joined_each : {X Y : Type 0} (f g : X → List Y) (xs : List X) → ((x : X) → In xs x → f x ≡ g x) → flat_map f xs ≡ flat_map g xs
+pub joined_each : {X Y : Type 0} (f g : X → List Y) (xs : List X) → ((x : X) → In xs x → f x ≡ g x) → flat_map f xs ≡ flat_map g xs
 joined_each f g [] h = refl
 joined_each f g (x ∷ xs) h =
     ap (λ l. l ++ flat_map f xs) (h x (inl refl)) ∙ ap (λ l. g x ++ l) (joined_each f g xs (λ y i. h y (inr i)))
@@ -51,10 +52,10 @@ topology_lines t a b ls e f =
     ∙ append_assoc a (flat_map switch_text t.switches) (flat_map (λ k. link_text (link_of k)) ls)
     ∙ ap (λ l. a ++ (flat_map switch_text t.switches ++ l)) (sym (joined_mapped link_of link_text ls) ∙ ap (flat_map link_text) f)
 
--- what is found at a switch is found at its number
-found_over_numbers : (p : ℕ → Bool) (ss : List SwitchPorts) → list_any (λ s. p s.switch) ss ≡ list_any p (map (λ s. s.switch) ss)
-found_over_numbers p [] = refl
-found_over_numbers p (s ∷ ss) = ap (λ b. p s.switch || b) (found_over_numbers p ss)
+-- what is found at an element's number is found at that of one of the numbers
+pub found_over_numbers : {X : Type 0} (f : X → ℕ) (p : ℕ → Bool) (xs : List X) → list_any (λ x. p (f x)) xs ≡ list_any p (map f xs)
+found_over_numbers f p [] = refl
+found_over_numbers f p (x ∷ xs) = ap (λ b. p (f x) || b) (found_over_numbers f p xs)
 
 -- the version, by the numbers of the switches
 pub version_is : (t : Tables) (numbers : List ℕ) (b : Bool) → b ≡ list_any (λ n. have_prefix t.fields (rows_of t.tables n)) numbers →
@@ -62,23 +63,14 @@ pub version_is : (t : Tables) (numbers : List ℕ) (b : Bool) → b ≡ list_any
 version_is t numbers b is same =
     ap (λ v. if v then 2 else 1)
     (is ∙ ap (list_any (λ n. have_prefix t.fields (rows_of t.tables n))) same
-    ∙ sym (found_over_numbers (λ n. have_prefix t.fields (rows_of t.tables n)) t.topo.switches))
+    ∙ sym (found_over_numbers (λ (s : SwitchPorts). s.switch) (λ n. have_prefix t.fields (rows_of t.tables n)) t.topo.switches))
 
--- the parts of the text, one behind the other
-pub whole : (t : Tables) (numbers a b d e f : List ℕ) → a ≡ version_text (version_of t) → b ≡ a ++ fields_text t.fields →
-    d ≡ b ++ tag_text t.fields → e ≡ d ++ topology_text t.topo →
-    f ≡ e ++ flat_map (λ n. section_text t.fields t.tables n) numbers → numbers ≡ numbers_of t.topo → f ≡ table_bytes t
-whole t numbers a b d e f first second third fourth fifth same =
-    let tables = flat_map (λ n. section_text t.fields t.tables n) numbers in
-    let first_line = version_text (version_of t) in
-    let sections : flat_map (λ n. section_text t.fields t.tables n) numbers
-    ≡ flat_map (λ s. section_text t.fields t.tables s.switch) t.topo.switches =
-    ap (flat_map (λ n. section_text t.fields t.tables n)) same
-    ∙ joined_mapped (λ (s : SwitchPorts). s.switch) (λ n. section_text t.fields t.tables n) t.topo.switches in
-    fifth
-    ∙ ap (λ l. l ++ tables) (fourth ∙ ap (λ l. l ++ topology_text t.topo) (third ∙ ap (λ l. l ++ tag_text t.fields) (second ∙ ap (λ l. l ++ fields_text t.fields) first)))
-    ∙ regroup first_line (fields_text t.fields) (tag_text t.fields) (topology_text t.topo) tables
-    ∙ ap (λ l. first_line ++ fields_text t.fields ++ tag_text t.fields ++ topology_text t.topo ++ l) sections
-  where
-    regroup : (v w x y z : List ℕ) → (((v ++ w) ++ x) ++ y) ++ z ≡ v ++ w ++ x ++ y ++ z
-    regroup v w x y z = simp append_assoc
+-- the tables behind the lines before them
+pub whole : (t : Tables) (numbers a b : List ℕ) → a ≡ head_text (version_of t) t.fields t.topo →
+    b ≡ a ++ flat_map (λ n. section_text t.fields t.tables n) numbers → numbers ≡ numbers_of t.topo → b ≡ table_bytes t
+whole t numbers a b first second same =
+    second
+    ∙ ap (λ l. l ++ flat_map (λ n. section_text t.fields t.tables n) numbers) first
+    ∙ ap (λ l. head_text (version_of t) t.fields t.topo ++ l)
+    (ap (flat_map (λ n. section_text t.fields t.tables n)) same
+    ∙ joined_mapped (λ (s : SwitchPorts). s.switch) (λ n. section_text t.fields t.tables n) t.topo.switches)

@@ -28,3 +28,4 @@ pub mod TablesBack
 pub mod TablesKept
 pub mod Valued
 pub mod Whole
+pub mod Writing

@@ -1,18 +1,44 @@
-//! The lines of fields, tag, switches and links, each put behind a text.
+//! The first line and the lines of fields, tag, switches and links, each put behind a text.
 ghost use Rattle.std.specs.Prelude.{◌≡◌, ◌++◌, ◌<◌, length, slice_index, codes, OnOk};
 ghost use Rattle.std.specs.Fmt.{decimal};
 ghost use Rattle.std.specs.List.{flat_map};
 ghost use Rattle.nk_topo.specs.Topology.{ports_of};
 ghost use Rattle.nk_topo.specs.Inside.{link_of};
-ghost use Rattle.nk_tabtext.specs.Text.{name_of, field_text, fields_text, tag_text, ports_text, switch_text, link_text, topology_text};
+ghost use Rattle.nk_tabtext.specs.Text.{name_of, field_text, fields_text, tag_text, ports_text, switch_text, link_text, topology_text, version_text};
+ghost use Rattle.nk_tabtext.specs.Written.{head_text};
 
 use crate::number;
 use nk_field::{Fid, Fields};
 use nk_topo::Topo;
 use std::alloc::AllocError;
 
+/// The lines before the tables.
+pub(crate) fn head(
+    out: &mut Vec<u8>,
+    version: u64,
+    fs: &Fields,
+    topo: &Topo,
+) -> Result<(), AllocError>
+    ensures { OnOk result (out.new.items ≡ out.old.items ++ head_text version fs.now topo.now) }
+{
+    first_line(out, version)?;
+    fields(out, fs)?;
+    tag(out, fs)?;
+    topology(out, topo)
+}
+
+/// The first line, with the number of the version.
+fn first_line(out: &mut Vec<u8>, version: u64) -> Result<(), AllocError>
+    ensures { OnOk result (out.new.items ≡ out.old.items ++ version_text version) }
+{
+    out.extend_from_slice(b"tables ")?;
+    number(out, version)?;
+    out.extend_from_slice(b"\n")?;
+    Ok(())
+}
+
 /// The lines of the declared fields, in order.
-pub(crate) fn fields(out: &mut Vec<u8>, fs: &Fields) -> Result<(), AllocError>
+fn fields(out: &mut Vec<u8>, fs: &Fields) -> Result<(), AllocError>
     ensures { OnOk result (out.new.items ≡ out.old.items ++ fields_text fs.now) }
 {
     for place in 2..fs.declared() + 2 {
@@ -35,7 +61,7 @@ fn field(out: &mut Vec<u8>, fs: &Fields, f: Fid) -> Result<(), AllocError>
 }
 
 /// The line of the tag.
-pub(crate) fn tag(out: &mut Vec<u8>, fs: &Fields) -> Result<(), AllocError>
+fn tag(out: &mut Vec<u8>, fs: &Fields) -> Result<(), AllocError>
     ensures { OnOk result (out.new.items ≡ out.old.items ++ tag_text fs.now) }
 {
     if let Some(f) = fs.tag() {
@@ -47,7 +73,7 @@ pub(crate) fn tag(out: &mut Vec<u8>, fs: &Fields) -> Result<(), AllocError>
 }
 
 /// The lines of the switches, then those of the links.
-pub(crate) fn topology(out: &mut Vec<u8>, topo: &Topo) -> Result<(), AllocError>
+fn topology(out: &mut Vec<u8>, topo: &Topo) -> Result<(), AllocError>
     ensures { OnOk result (out.new.items ≡ out.old.items ++ topology_text topo.now) }
 {
     switches(out, topo)?;

@@ -10,7 +10,7 @@ ghost use Rattle.std.specs.Prelude.{◌≡◌, ◌++◌, IfOk, OnOk};
 ghost use Rattle.std.specs.Fmt.{decimal};
 ghost use Rattle.std.specs.List.{flat_map};
 ghost use Rattle.nk_tabtext.specs.InOrder.{AreInOrder};
-ghost use Rattle.nk_tabtext.specs.Text.{table_bytes, section_text, version_text};
+ghost use Rattle.nk_tabtext.specs.Text.{table_bytes, section_text};
 
 mod declaring;
 mod filling;
@@ -21,6 +21,7 @@ mod reading;
 mod rules;
 mod tables;
 mod values;
+mod writer;
 
 use itoa::Buffer;
 pub use laws::{
@@ -31,6 +32,7 @@ pub use nk_tabgrammar::ReadError;
 use nk_table::Tables;
 pub use reading::{TableReader, read_tables};
 use std::alloc::{AllocError, Global};
+pub use writer::TableWriter;
 
 /// The printed text of tables: `tables 2` where some match is a prefix, else `tables 1`; then a line for each declared
 /// field, for the tag, each switch and each link, and the table of each switch with its groups and rows. Switches, ports
@@ -41,22 +43,9 @@ pub fn table_text(alloc: Global, t: &Tables) -> Result<Vec<u8>, AllocError>
     ensures { IfOk result (λ v. v.items ≡ table_bytes t.now) }
 {
     let mut out = Vec::new(alloc);
-    first_line(&mut out, rules::version(t))?;
-    head::fields(&mut out, &t.fields)?;
-    head::tag(&mut out, &t.fields)?;
-    head::topology(&mut out, &t.topo)?;
+    head::head(&mut out, rules::version(t), &t.fields, &t.topo)?;
     sections(&mut out, t, t.topo.switches())?;
     Ok(out)
-}
-
-/// The first line, with the number of the version.
-fn first_line(out: &mut Vec<u8>, version: u64) -> Result<(), AllocError>
-    ensures { OnOk result (out.new.items ≡ out.old.items ++ version_text version) }
-{
-    out.extend_from_slice(b"tables ")?;
-    number(out, version)?;
-    out.extend_from_slice(b"\n")?;
-    Ok(())
 }
 
 /// The tables of the switches with these numbers. Where both ascend, they are gone through together.

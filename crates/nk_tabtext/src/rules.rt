@@ -4,6 +4,7 @@ ghost use Rattle.std.specs.List.{flat_map, list_any};
 ghost use Rattle.nk_table.specs.Rules.{rows_of};
 ghost use Rattle.nk_tabtext.specs.Text as text;
 ghost use Rattle.nk_tabtext.specs.Text.{is_tag, length_text, match_text, set_text, where_same, matches_text, sets_text, exit_text, bucket_text, target_text, row_text, group_text, rules_text, section_text, version_of, AreTablesFrom};
+ghost use Rattle.nk_tabtext.specs.Written.{own_rules_text, own_section_text, switch_line_text};
 
 use crate::number;
 use nk_field::{Fid, Fields};
@@ -41,7 +42,7 @@ fn some_prefix(fs: &Fields, ms: &[(Fid, u64, u8)]) -> bool
 }
 
 /// Whether some match of these rows is a prefix.
-fn have_prefix(fs: &Fields, rows: &[Row]) -> bool
+pub(crate) fn have_prefix(fs: &Fields, rows: &[Row]) -> bool
     ensures { result ≡ text.have_prefix fs.now rows.now }
 {
     for row in rows {
@@ -302,10 +303,27 @@ fn rules(out: &mut Vec<u8>, fs: &Fields, tables: &[Table], sw: u16) -> Result<()
 {
     for table in tables {
         if table.switch == sw {
-            groups(out, fs, table.groups.as_slice())?;
-            return rows(out, fs, table.rows.as_slice());
+            return own_rules(out, fs, table);
         }
     }
+    Ok(())
+}
+
+/// The groups and rows of a table.
+fn own_rules(out: &mut Vec<u8>, fs: &Fields, table: &Table) -> Result<(), AllocError>
+    ensures { OnOk result (out.new.items ≡ out.old.items ++ own_rules_text fs.now table.now) }
+{
+    groups(out, fs, table.groups.as_slice())?;
+    rows(out, fs, table.rows.as_slice())
+}
+
+/// The first line of a switch's table.
+fn switch_line(out: &mut Vec<u8>, sw: u16) -> Result<(), AllocError>
+    ensures { OnOk result (out.new.items ≡ out.old.items ++ switch_line_text sw) }
+{
+    out.extend_from_slice(b"table ")?;
+    number(out, sw as u64)?;
+    out.push(b'\n')?;
     Ok(())
 }
 
@@ -318,8 +336,14 @@ pub(crate) fn section(
 ) -> Result<(), AllocError>
     ensures { OnOk result (out.new.items ≡ out.old.items ++ section_text fs.now tables.now sw) }
 {
-    out.extend_from_slice(b"table ")?;
-    number(out, sw as u64)?;
-    out.push(b'\n')?;
+    switch_line(out, sw)?;
     rules(out, fs, tables, sw)
+}
+
+/// A table with its first line.
+pub(crate) fn own_section(out: &mut Vec<u8>, fs: &Fields, table: &Table) -> Result<(), AllocError>
+    ensures { OnOk result (out.new.items ≡ out.old.items ++ own_section_text fs.now table.now) }
+{
+    switch_line(out, table.switch)?;
+    own_rules(out, fs, table)
 }

@@ -6,4 +6,4 @@ use Rattle.nk.proofs.generating.job_answer.Goals as goal
 pub returns : goal.returns
 returns c =
     subst (λ (t : List ℕ). IfOk c.job_over.result (λ s. IsJobOver t (said s)))
-    (c.deref.ensures.value ∙ c.in_ok-text.ensures) c.job_over.ensures
+    c.in_ok-text.ensures c.job_over.ensures

@@ -6,4 +6,4 @@ use Rattle.nk.proofs.top.perform.Goals as goal
 
 pub returns-in-Job : goal.returns-in-Job
 returns-in-Job c =
-    subst (λ (k : Command). IfOk c.job_answer.result (λ s. IsOutcome k c.args.bytes.now (said s))) (sym c.in-Job.is) c.job_answer.ensures
+    subst (λ (k : Command). IfOk c.job_answer.result (λ s. IsOutcome k c.args.bytes.items (said s))) (sym c.in-Job.is) c.job_answer.ensures

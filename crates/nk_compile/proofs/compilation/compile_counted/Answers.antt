@@ -1,12 +1,9 @@
-use Rattle.std.proofs.Common.{Some, sym, ap, ◌∙◌}
-use Rattle.nk_policy.specs.Tree.{tree_of}
-use Rattle.nk_compile.proofs.Naming.{named_well_formed, answer_named}
+use Rattle.nk_compile.specs.Headline.{IsCompiled}
+use Rattle.nk_compile.proofs.Handing.{tables_same}
 use Rattle.nk_compile.proofs.compilation.compile_counted.Goals as goal
-
-pub counted_tables-requires : goal.counted_tables-requires
-counted_tables-requires c =
-    named_well_formed c.args.program.now c.args.name.now (tree_of c.in_ok-p.p) c.find.ensures.is (sym c.in-Some.ensures.found ∙ ap Some (sym c.in_ok-p.ensures))
 
 pub returns : goal.returns
 returns c =
-    answer_named c.args.program.now c.args.name.now (tree_of c.in_ok-p.p) c.counted_tables.result (sym c.in-Some.ensures.found ∙ ap Some (sym c.in_ok-p.ensures)) c.counted_tables.ensures
+    let made = c.in_ok-tag_sets.ensures in
+    (tables_same (IsCompiled c.args.program.now c.args.name.now) c.args.program.now.fields _ c.args.program.now.topo _ made.0 _
+    c.in_ok-fields.ensures c.in_ok-topo.ensures made.1 made.2, made.3)

@@ -1,44 +1,39 @@
-use Rattle.std.proofs.Common.{◌≡◌, ℕ, ◌<◌, ◌∙◌, None, sym, subst, ap, length, get_or}
+use Rattle.std.proofs.Common.{◌∙◌, sym, subst, ap, length, get_or}
 use Rattle.std.specs.Prelude.{All, map}
-use Rattle.std.proofs.lemmas.Result.{IfOk-weaker}
-use Rattle.nk_policy.specs.Tree.{tree_of}
+use Rattle.std.proofs.lemmas.Result.{on_ok_weaker}
 use Rattle.nk_switches.specs.declared.stop.Stop.{Stop}
 use Rattle.nk_switches.specs.Made.{IsStop}
 use Rattle.nk_compile.specs.Comings.{HasComing}
-use Rattle.nk_compile.specs.WholeTable.{link_end}
 use Rattle.nk_compile.proofs.Reached.{same_some}
 use Rattle.nk_compile.proofs.Standing.{state_ids}
 use Rattle.nk_compile.proofs.TagTables.{tags_once, stop_is, tables_are}
 use Rattle.nk_compile.proofs.tagging.tag_tables.Goals as goal
 
--- where the links end
-each_end : (c : goal.After-as_slice-2) → (l : ℕ) → l < length c.args.states.now → get_or c.as_slice.result.now l None ≡ link_end (tree_of c.args.p.now) l
-each_end c l lt = ap (λ e. get_or e l None) c.as_slice.ensures ∙ c.in_ok-ends.ensures.each l lt
-
--- which tags come to the switches
-all_coming : (c : goal.After-as_slice-2) → All (HasComing c.as_slice.result.now c.args.ss.now c.args.tags.now (length c.args.tags.now)) c.as_slice-2.result.now
-all_coming c = subst (All (HasComing c.as_slice.result.now c.args.ss.now c.args.tags.now (length c.args.tags.now))) (sym c.as_slice-2.ensures.value) c.in_ok-stops.ensures.coming
-
 pub switch_tables-requires-clause-states : goal.switch_tables-requires-clause-states
-switch_tables-requires-clause-states c = state_ids c.args.st.now c.args.states.now (tree_of c.args.p.now) c.requires.ready.4.automaton
+switch_tables-requires-clause-states g c = let r = c.requires.ready in state_ids c.args.st.now c.args.states.now r.2 r.6.automaton
+
+pub switch_tables-requires-clause-known : goal.switch_tables-requires-clause-known
+switch_tables-requires-clause-known g c = c.requires.ready.6.known
 
 pub switch_tables-requires-clause-once : goal.switch_tables-requires-clause-once
-switch_tables-requires-clause-once c =
-    tags_once c.requires.ready.0 c.requires.ready.1 c.args.topo.now c.requires.ready.2 (tree_of c.args.p.now) c.args.st.now c.args.ss.now c.args.states.now c.args.tags.now c.requires.ready.3 c.requires.ready.4
+switch_tables-requires-clause-once g c =
+    let r = c.requires.ready in
+    tags_once r.0 r.1 c.args.topo.now r.3 r.2 c.args.st.now c.args.ss.now c.args.states.now c.args.tags.now r.4 r.6
 
 pub switch_tables-requires-clause-stops : goal.switch_tables-requires-clause-stops
-switch_tables-requires-clause-stops c = λ tag is k d lt.
+switch_tables-requires-clause-stops g c = λ tag is k d lt.
     let r = c.requires.ready in
-    let one = same_some r.2 tag (sym (r.4.over.tag ∙ r.3.tag_is) ∙ is) in
-    subst (λ t. IsStop c.args.st.now c.args.ss.now c.args.states.now c.args.tags.now t (get_or c.as_slice-2.result.now k d)) one
-    (stop_is r.0 r.1 c.args.topo.now r.2 (tree_of c.args.p.now) c.args.st.now c.args.ss.now c.args.states.now c.args.tags.now r.3 r.4 c.as_slice.result.now (each_end c)
-    (get_or c.as_slice-2.result.now k d) (all_coming c k d lt))
+    let one = same_some r.3 tag (sym (r.6.over.tag ∙ r.4.tag_is) ∙ is) in
+    let coming = subst (All (HasComing c.args.ends.now c.args.ss.now c.args.tags.now (length c.args.tags.now))) (sym c.as_slice.ensures.value) c.in_ok-stops.ensures.coming in
+    subst (λ t. IsStop c.args.st.now c.args.ss.now c.args.states.now c.args.tags.now t (get_or c.as_slice.result.now k d)) one
+    (stop_is r.0 r.1 c.args.topo.now r.3 r.2 c.args.st.now c.args.ss.now c.args.states.now c.args.tags.now r.4 r.6 c.args.ends.now r.5.each
+    (get_or c.as_slice.result.now k d) (coming k d lt))
 
 pub returns : goal.returns
-returns c =
-    IfOk-weaker c.switch_tables.result _ _ (λ ts m first fields tag clear ready.
-    tables_are first fields c.args.topo.now tag (tree_of c.args.p.now) c.args.st.now c.args.ss.now c.args.states.now c.args.tags.now clear ready c.as_slice.result.now
-    (λ l lt. ap (λ e. get_or e l None) c.as_slice.ensures ∙ c.in_ok-ends.ensures.each l lt)
-    c.as_slice-2.result.now ts (ap (map (λ (s : Stop). s.switch)) c.as_slice-2.ensures.value ∙ c.in_ok-stops.ensures.switches)
-    (subst (All (HasComing c.as_slice.result.now c.args.ss.now c.args.tags.now (length c.args.tags.now))) (sym c.as_slice-2.ensures.value) c.in_ok-stops.ensures.coming)
-    (m tag (ready.over.tag ∙ clear.tag_is))) c.switch_tables.ensures
+returns g c =
+    on_ok_weaker c.switch_tables.result (λ made.
+    (made.0, made.1, λ first fields p tag clear ends ready.
+    tables_are first fields c.args.topo.now tag p c.args.st.now c.args.ss.now c.args.states.now c.args.tags.now clear ready c.args.ends.now ends.each
+    c.as_slice.result.now made.0 (ap (map (λ (s : Stop). s.switch)) c.as_slice.ensures.value ∙ c.in_ok-stops.ensures.switches)
+    (subst (All (HasComing c.args.ends.now c.args.ss.now c.args.tags.now (length c.args.tags.now))) (sym c.as_slice.ensures.value) c.in_ok-stops.ensures.coming)
+    (made.2 tag (ready.over.tag ∙ clear.tag_is)))) c.switch_tables.ensures

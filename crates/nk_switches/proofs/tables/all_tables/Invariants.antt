@@ -1,12 +1,13 @@
-use Rattle.std.proofs.Common.{◌≡◌, ℕ, Some, take}
+use Rattle.std.proofs.Common.{◌≡◌, ℕ, Some, List, take}
 use Rattle.nk_store.specs.Held.{Grows}
+use Rattle.nk_table.specs.declared.Table.{Table}
 use Rattle.nk_switches.specs.Matched.{Matched}
 use Rattle.nk_switches.specs.Made.{IsTableBy}
 use Rattle.nk_switches.proofs.tables.all_tables.Given as goal
 
--- the tables of the switches so far
+-- the tables of the switches so far were taken
 abbrev pub invariant-loop-s : goal.invariant-loop-s
-invariant-loop-s l = record {
+invariant-loop-s g l = record {
   grows : Grows l.fn.st l.st;
-  made : (tag : ℕ) → l.fn.st.tag ≡ Some tag → Matched (IsTableBy l.fn.st l.table tag) (take l.s-index l.all) l.tables;
+  made : (ts : List Table) × g.S.TableSink.takes l.fn.sink ts l.sink × ((tag : ℕ) → l.fn.st.tag ≡ Some tag → Matched (IsTableBy l.fn.st l.table tag) (take l.s-index l.all) ts);
 }

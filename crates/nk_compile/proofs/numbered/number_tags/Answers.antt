@@ -1,21 +1,15 @@
-use Rattle.std.proofs.Common.{◌∙◌, sym, subst, arith}
+use Rattle.std.proofs.Common.{◌∙◌, sym, arith}
 use Rattle.nk_policy.specs.Tree.{tree_of}
-use Rattle.nk_names.specs.Accepted.{IsStartPacket}
 use Rattle.nk_compile.specs.Answers.{IsError}
-use Rattle.nk_compile.specs.Counted.{HasTagSets}
-use Rattle.nk_compile.proofs.Levelled.{prepared_unopposed, prepared_many, prepared_compilable, prepared_counted, prepared_few}
+use Rattle.nk_compile.proofs.Levelled.{prepared_unopposed, prepared_many}
 use Rattle.nk_compile.proofs.Making.{refused_with, early_error, many_error}
-use Rattle.nk_compile.proofs.Padding.{table_alone}
-use Rattle.nk_compile.proofs.tables.policy_tables.Goals as goal
+use Rattle.nk_compile.proofs.numbered.number_tags.Goals as goal
 
 pub max-requires : goal.max-requires
 max-requires c = (c.declared-few.ensures.is.tag_past_port c.in-Some.tag (sym c.tag.ensures ∙ c.in-Some.is)).1
 
 pub numbers-requires-clause-prepared : goal.numbers-requires-clause-prepared
 numbers-requires-clause-prepared c = (c.args.fields.now, c.args.topo.now, c.in-Some.tag, tree_of c.args.p.now, c.in_ok-prepared.ensures.ok)
-
-pub printed-requires-clause-prepared : goal.printed-requires-clause-prepared
-printed-requires-clause-prepared c = (c.in-Some.tag, c.in_ok-prepared.ensures.ok)
 
 pub returns-in_err-prepared-clause-error : goal.returns-in_err-prepared-clause-error
 returns-in_err-prepared-clause-error c =
@@ -31,17 +25,13 @@ returns-in_err-tags-clause-error c =
     c.in_ok-prepared.prepared.levels.levels c.max.result c.in_err-tags.field-0.0 c.max.ensures
     (prepared_many c.args.fields.now c.args.topo.now c.in-Some.tag (tree_of c.args.p.now) c.in_ok-prepared.prepared k) c.in_err-tags.ensures.err)
 
-pub returns-clause-made : goal.returns-clause-made
-returns-clause-made c =
-    let k = c.in_ok-prepared.ensures.ok in
+pub returns-clause-ok : goal.returns-clause-ok
+returns-clause-ok c =
     let few = c.in_ok-tags.ensures.few in
     record {
-      compilable = prepared_compilable c.args.fields.now c.args.topo.now c.in-Some.tag (tree_of c.args.p.now) c.in_ok-prepared.prepared k;
-      few = prepared_few c.args.fields.now c.args.topo.now c.in-Some.tag (tree_of c.args.p.now) c.in_ok-prepared.prepared k c.in_ok-tags.tags c.in_ok-tags.ensures.ok c.max.result c.max.ensures (omega (arith, few));
-      printed = table_alone c.args.fields.now c.args.topo.now (IsStartPacket c.args.fields.now c.args.topo.now) (tree_of c.args.p.now) c.in_ok-tables.tables c.in_ok-tables.ensures;
+      tag = c.in-Some.tag;
+      prepared = c.in_ok-prepared.ensures.ok;
+      ends = record { len = c.in_ok-ends.ensures.len; each = c.in_ok-ends.ensures.each; };
+      numbers = c.in_ok-tags.ensures.ok;
+      few = omega (arith, few, c.max.ensures);
     }
-
-pub returns-clause-counted : goal.returns-clause-counted
-returns-clause-counted c =
-    subst (λ n. HasTagSets c.args.fields.now c.args.topo.now (tree_of c.args.p.now) n) (sym c.len-tag_sets.ensures)
-    (prepared_counted c.args.fields.now c.args.topo.now c.in-Some.tag (tree_of c.args.p.now) c.in_ok-prepared.prepared c.in_ok-prepared.ensures.ok c.in_ok-tags.tags c.in_ok-tags.ensures.ok)
