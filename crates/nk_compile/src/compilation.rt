@@ -96,11 +96,7 @@ pub fn compile_to<S: TableSink>(
 }
 
 /// A named policy with the numbers of its tag sets, or the first reason to refuse it. Its written form goes with this call.
-fn numbered_by_name(
-    alloc: Global,
-    program: &Program,
-    name: &str,
-) -> Result<Numbered, CompileError>
+fn numbered_by_name(alloc: Global, program: &Program, name: &str) -> Result<Numbered, CompileError>
     ensures ok { IfOk result (λ n. (p : Policy) × (policy_named program.now name.now ≡ Some p) × IsWellFormed program.now.fields p
         × IsNumbered program.now.fields program.now.topo p n) }
     ensures is { IsProgram program.now.fields program.now.topo program.now.lets }

@@ -74,7 +74,14 @@ pub fn tables_to<S: TableSink>(
     let ends = numbered.ends;
     let tags = numbered.tags;
     let count = tags.len() as u64;
-    print_to(numbered.prepared, ends.as_slice(), topo, 0, tags.as_slice(), sink)?;
+    print_to(
+        numbered.prepared,
+        ends.as_slice(),
+        topo,
+        0,
+        tags.as_slice(),
+        sink,
+    )?;
     Ok(count)
 }
 

@@ -4,6 +4,8 @@ use Rattle.nk_compile.proofs.compilation.compile_counted.Goals as goal
 
 pub returns : goal.returns
 returns c =
-    let made = c.in_ok-tag_sets.ensures in
-    (tables_same (IsCompiled c.args.program.now c.args.name.now) c.args.program.now.fields _ c.args.program.now.topo _ made.0 _
-    c.in_ok-fields.ensures c.in_ok-topo.ensures made.1 made.2, made.3)
+    let made = c.in_ok-tag_sets.ensures in (
+      tables_same (IsCompiled c.args.program.now c.args.name.now) c.args.program.now.fields _ c.args.program.now.topo _ made.0 _
+          c.in_ok-fields.ensures c.in_ok-topo.ensures made.1 made.2,
+      made.3,
+    )

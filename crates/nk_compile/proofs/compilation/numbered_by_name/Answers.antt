@@ -22,9 +22,12 @@ number_tags-requires-clause-room c =
 pub returns-clause-ok : goal.returns-clause-ok
 returns-clause-ok c =
     let named = sym c.in-Some.ensures.found ∙ ap Some (sym c.in_ok-p.ensures) in
-    IfOk-weaker c.number_tags.result _ _ (λ n is.
-    (tree_of c.in_ok-p.p, named, named_well_formed c.args.program.now c.args.name.now (tree_of c.in_ok-p.p) c.laws.ensures named,
-    subst (λ (v : ProgramValue). IsNumbered v.fields v.topo (tree_of c.in_ok-p.p) n) c.program.view_is is)) c.number_tags.ensures.ok
+    IfOk-weaker c.number_tags.result _ _ (λ n is. (
+      tree_of c.in_ok-p.p,
+      named,
+      named_well_formed c.args.program.now c.args.name.now (tree_of c.in_ok-p.p) c.laws.ensures named,
+      subst (λ (v : ProgramValue). IsNumbered v.fields v.topo (tree_of c.in_ok-p.p) n) c.program.view_is is,
+    )) c.number_tags.ensures.ok
 
 pub returns-clause-error : goal.returns-clause-error
 returns-clause-error c =

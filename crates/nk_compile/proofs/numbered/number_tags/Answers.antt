@@ -31,7 +31,7 @@ returns-clause-ok c =
     record {
       tag = c.in-Some.tag;
       prepared = c.in_ok-prepared.ensures.ok;
-      ends = record { len = c.in_ok-ends.ensures.len; each = c.in_ok-ends.ensures.each; };
+      ends = record { len = c.in_ok-ends.ensures.len; each = c.in_ok-ends.ensures.each };
       numbers = c.in_ok-tags.ensures.ok;
       few = omega (arith, few, c.max.ensures);
     }

@@ -16,12 +16,15 @@ print_to-requires-clause-numbers g c = c.requires.2.numbers
 pub returns-in_ok-print_to-clause-made : goal.returns-in_ok-print_to-clause-made
 returns-in_ok-print_to-clause-made g c = λ fields p n.
     let made = c.in_ok-print_to.ensures in
-    let few = n.few in
-    (made.0, made.1, record {
-      compilable = prepared_compilable fields c.args.topo.now n.tag p c.args.numbered.prepared n.prepared;
-      few = prepared_few fields c.args.topo.now n.tag p c.args.numbered.prepared n.prepared c.args.numbered.tags n.numbers _ refl few;
-      printed = table_alone fields c.args.topo.now (IsStartPacket fields c.args.topo.now) p _ (made.2 fields p n.tag n.prepared n.ends _ refl refl refl);
-    })
+    let few = n.few in (
+      made.0,
+      made.1,
+      record {
+        compilable = prepared_compilable fields c.args.topo.now n.tag p c.args.numbered.prepared n.prepared;
+        few = prepared_few fields c.args.topo.now n.tag p c.args.numbered.prepared n.prepared c.args.numbered.tags n.numbers _ refl few;
+        printed = table_alone fields c.args.topo.now (IsStartPacket fields c.args.topo.now) p _ (made.2 fields p n.tag n.prepared n.ends _ refl refl refl);
+      },
+    )
 
 pub returns-in_ok-print_to-clause-counted : goal.returns-in_ok-print_to-clause-counted
 returns-in_ok-print_to-clause-counted g c = λ fields p n.

@@ -31,9 +31,12 @@ switch_tables-requires-clause-stops g c = λ tag is k d lt.
 
 pub returns : goal.returns
 returns g c =
-    on_ok_weaker c.switch_tables.result (λ made.
-    (made.0, made.1, λ first fields p tag clear ends ready.
-    tables_are first fields c.args.topo.now tag p c.args.st.now c.args.ss.now c.args.states.now c.args.tags.now clear ready c.args.ends.now ends.each
-    c.as_slice.result.now made.0 (ap (map (λ (s : Stop). s.switch)) c.as_slice.ensures.value ∙ c.in_ok-stops.ensures.switches)
-    (subst (All (HasComing c.args.ends.now c.args.ss.now c.args.tags.now (length c.args.tags.now))) (sym c.as_slice.ensures.value) c.in_ok-stops.ensures.coming)
-    (made.2 tag (ready.over.tag ∙ clear.tag_is)))) c.switch_tables.ensures
+    on_ok_weaker c.switch_tables.result (λ made. (
+      made.0,
+      made.1,
+      λ first fields p tag clear ends ready.
+          tables_are first fields c.args.topo.now tag p c.args.st.now c.args.ss.now c.args.states.now c.args.tags.now clear ready c.args.ends.now ends.each
+          c.as_slice.result.now made.0 (ap (map (λ (s : Stop). s.switch)) c.as_slice.ensures.value ∙ c.in_ok-stops.ensures.switches)
+          (subst (All (HasComing c.args.ends.now c.args.ss.now c.args.tags.now (length c.args.tags.now))) (sym c.as_slice.ensures.value) c.in_ok-stops.ensures.coming)
+          (made.2 tag (ready.over.tag ∙ clear.tag_is)),
+    )) c.switch_tables.ensures

@@ -31,11 +31,14 @@ all_tables-requires-clause-printable g c = λ tag is.
     c.differ.ensures.differ c.differ.ensures.ascend past c.laws.ensures.tidy c.args.stops.now c.in_ok-tag_states.tag_states (c.requires.stops tag before) c.in_ok-tag_states.ensures.tag_states)
 
 pub returns : goal.returns
-returns g c = on_ok_weaker c.all_tables.result (λ made.
-    (made.0, made.1, λ tag is.
-    tables_are c.args.st.now c.all_states.new.st c.args.ss.now c.all_states.new.ss c.args.states.now c.args.tags.now tag c.all_states.ensures.grows c.all_states.ensures.sets c.requires.states c.requires.known
-    c.differ.ensures.differ c.differ.ensures.ascend c.as_slice.result.now
-    (subst (IsTagTable (length c.args.tags.now) c.all_states.new.ss c.args.tags.now) (sym c.as_slice.ensures) c.in_ok-table.ensures)
-    c.args.stops.now c.as_slice-2.result.now made.0 (c.requires.stops tag is)
-    (subst (Matched (AreStatesAt c.all_states.new.st c.all_states.new.ss c.args.states.now c.args.tags.now) c.args.stops.now) (sym c.as_slice-2.ensures) c.in_ok-tag_states.ensures.tag_states)
-    (made.2 tag (c.all_states.ensures.grows.tag ∙ is)))) c.all_tables.ensures.tables
+returns g c = on_ok_weaker c.all_tables.result (λ made. (
+  made.0,
+  made.1,
+  λ tag is.
+      tables_are c.args.st.now c.all_states.new.st c.args.ss.now c.all_states.new.ss c.args.states.now c.args.tags.now tag c.all_states.ensures.grows c.all_states.ensures.sets c.requires.states c.requires.known
+      c.differ.ensures.differ c.differ.ensures.ascend c.as_slice.result.now
+      (subst (IsTagTable (length c.args.tags.now) c.all_states.new.ss c.args.tags.now) (sym c.as_slice.ensures) c.in_ok-table.ensures)
+      c.args.stops.now c.as_slice-2.result.now made.0 (c.requires.stops tag is)
+      (subst (Matched (AreStatesAt c.all_states.new.st c.all_states.new.ss c.args.states.now c.args.tags.now) c.args.stops.now) (sym c.as_slice-2.ensures) c.in_ok-tag_states.ensures.tag_states)
+      (made.2 tag (c.all_states.ensures.grows.tag ∙ is)),
+)) c.all_tables.ensures.tables
