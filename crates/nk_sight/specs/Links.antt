@@ -17,4 +17,4 @@ is_place (Some p) b n = (p.0 == b) && (p.1 == n)
 -- the links themselves
 abbrev pub links_of : Links → List Link
 links_of (Declared topo) = topo.now.links
-links_of (Listed links) = map link_of links.now
+links_of (Listed links) = map link_of links.now.keys

@@ -4,15 +4,16 @@ ghost use Rattle.std.specs.List.{list_any};
 ghost use Rattle.nk_topo.specs.Inside.{link_of};
 ghost use Rattle.nk_sight.specs.Links.{links_of, is_link_of, is_place};
 
+use indexmap::IndexSet;
 use nk_topo::Topo;
 
-/// Links: those of a topology, where one begins at each port at most, or any list of them.
+/// Links: those of a topology, where one begins at each port at most, or any others.
 #[derive(Clone, Copy)]
 pub enum Links<'a> {
     /// The links that a topology declares.
     Declared(&'a Topo),
     /// These links, each told by the switch and port that it begins at and those that it ends at.
-    Listed(&'a [(u16, u16, u16, u16)]),
+    Listed(&'a IndexSet<(u16, u16, u16, u16)>),
 }
 
 /// Whether one of the links leads from one place to another.
@@ -44,20 +45,8 @@ fn is_at(found: Option<(u16, u16)>, sw: u16, pt: u16) -> bool
 }
 
 /// Whether one of the listed links leads from one place to another.
-fn is_listed(listed: &[(u16, u16, u16, u16)], from: (u16, u16), to: (u16, u16)) -> bool
-    ensures { result ≡ list_any (is_link_of from.0 from.1 to.0 to.1) (map link_of listed.now) }
+fn is_listed(listed: &IndexSet<(u16, u16, u16, u16)>, from: (u16, u16), to: (u16, u16)) -> bool
+    ensures { result ≡ list_any (is_link_of from.0 from.1 to.0 to.1) (map link_of listed.now.keys) }
 {
-    for link in listed {
-        if leads(link, from, to) {
-            return true;
-        }
-    }
-    false
-}
-
-/// Whether a link leads from one place to another.
-fn leads(link: &(u16, u16, u16, u16), from: (u16, u16), to: (u16, u16)) -> bool
-    ensures { result ≡ is_link_of from.0 from.1 to.0 to.1 (link_of link.now) }
-{
-    link.0 == from.0 && link.1 == from.1 && link.2 == to.0 && link.3 == to.1
+    listed.contains(&(from.0, from.1, to.0, to.1))
 }

@@ -7,6 +7,7 @@ ghost use Rattle.nk_sight.specs.Seen.{seen_of};
 
 use crate::links::Links;
 use crate::sought::{Sought, holds_leaf};
+use indexmap::IndexSet;
 use nk_field::Fid;
 use nk_policy::Pol;
 use nk_topo::Topo;
@@ -37,8 +38,8 @@ pub fn seen(p: &Pol, topo: &Topo, tag: Fid) -> Option<Sight>
 }
 
 /// What is seen of a policy over these links, each told by the switch and port that it begins at and those that it ends at.
-pub fn seen_among(p: &Pol, links: &[(u16, u16, u16, u16)], tag: Fid) -> Option<Sight>
-    ensures { result ≡ seen_of tag (map link_of links.now) (tree_of p.now) }
+pub fn seen_among(p: &Pol, links: &IndexSet<(u16, u16, u16, u16)>, tag: Fid) -> Option<Sight>
+    ensures { result ≡ seen_of tag (map link_of links.now.keys) (tree_of p.now) }
 {
     first_seen(p, &Links::Listed(links), tag)
 }
