@@ -1,11 +1,12 @@
 //! The answer of `compile NAME`.
-ghost use Rattle.std.specs.Prelude.{◌≡◌, IfOk, MatchResult};
+ghost use Rattle.std.specs.Prelude.{◌≡◌, ℕ, List, IfOk};
 ghost use Rattle.nk_names.specs.ProgramOf.{said_by};
 ghost use Rattle.nk_names.specs.ProgramValue.{IsProgram};
 ghost use Rattle.nk_table.specs.declared.Tables.{Tables};
 ghost use Rattle.nk_tabtext.specs.Text.{table_bytes};
-ghost use Rattle.nk_compile.specs.Answers.{IsNoAnswer};
 ghost use Rattle.nk_compile.specs.Headline.{IsCompiled};
+ghost use Rattle.nk_compile.specs.Preparing.{IsNumberedByName};
+ghost use Rattle.nk_names.specs.declared.Program.{Program};
 ghost use Rattle.nk.specs.Compiling.{IsCompileAnswer, ToProgram};
 ghost use Rattle.nk.specs.Declarable.{CanBeDeclared};
 ghost use Rattle.nk.specs.Reply.{said};
@@ -14,10 +15,12 @@ use crate::Said;
 use crate::laws::compiled_tables_are_printable;
 use crate::messages::refusal_message;
 use crate::program_text::{ReadText, read_program};
-use nk_compile::{CompileError, TableSink, compile_to};
+use nk_compile::{CompileError, Numbered, TableSink, hand_tables, number};
+use nk_field::Fields;
 use nk_names::Program;
 use nk_table::Table;
 use nk_tabtext::{TableWriter, printed_tables_are_read};
+use nk_topo::Topo;
 use std::alloc::{AllocError, Global};
 
 /// What compiling the policy of this name answers, over the bytes of a text.
@@ -25,22 +28,25 @@ pub(crate) fn compile_answer(alloc: Global, name: &str, bytes: Vec<u8>) -> Resul
     ensures { IfOk result (λ s. IsCompileAnswer name.now bytes.items (said s)) }
 {
     match read_program(alloc, bytes)? {
-        ReadText::Program(program) => answer_to_program(alloc, name, &program),
+        ReadText::Program(program) => answer_to_program(alloc, name, program),
         ReadText::Fault(line) => Ok(Said::Text(line)),
     }
 }
 
 /// The same over a program.
-fn answer_to_program(alloc: Global, name: &str, program: &Program) -> Result<Said, AllocError>
-    requires is { IsProgram program.now.fields program.now.topo program.now.lets }
-    requires declared { CanBeDeclared (said_by program.now) }
-    ensures { IfOk result (λ s. ToProgram (said_by program.now) name.now (said s)) }
+fn answer_to_program(alloc: Global, name: &str, program: Program) -> Result<Said, AllocError>
+    requires is { IsProgram program.fields program.topo program.lets }
+    requires declared { CanBeDeclared (said_by program) }
+    ensures { IfOk result (λ s. ToProgram (said_by program) name.now (said s)) }
 {
     // These are laws: what is compiled is such as is read back, and that is read back.
     compiled_tables_are_printable();
     printed_tables_are_read();
-    match compiled_text(alloc, name, program) {
-        Ok(text) => Ok(Said::Done(text)),
+    match number(alloc, &program, name) {
+        Ok(numbered) => {
+            let (fields, topo) = declarations(program);
+            Ok(Said::Done(text_of(alloc, numbered, &fields, &topo)?))
+        }
         Err(CompileError::Refused(reason)) => {
             Ok(Said::Refused(refusal_message(alloc, &program.fields, &reason)?))
         }
@@ -48,17 +54,30 @@ fn answer_to_program(alloc: Global, name: &str, program: &Program) -> Result<Sai
     }
 }
 
-/// The text of the printed tables of the policy of this name. Each table is written as soon as it is made, and none is kept.
-fn compiled_text(alloc: Global, name: &str, program: &Program) -> Result<Vec<u8>, CompileError>
-    requires { IsProgram program.now.fields program.now.topo program.now.lets }
-    ensures { MatchResult result
-        (λ text. (t : Tables) × IsCompiled program.now name.now t × (text.items ≡ table_bytes t))
-        (IsNoAnswer program.now name.now) }
+/// The fields and the topology of a program. Its policies are let go.
+fn declarations(program: Program) -> (Fields, Topo)
+    ensures fields { result.0 ≡ program.fields }
+    ensures topo { result.1 ≡ program.topo }
 {
-    let mut sink = TextSink {
-        writer: TableWriter::new(alloc, &program.fields, &program.topo)?,
-    };
-    compile_to(alloc, program, name, &mut sink)?;
+    (program.fields, program.topo)
+}
+
+/// The text of the printed tables of a named policy. Each table is written as soon as it is made, and none is kept.
+fn text_of(
+    alloc: Global,
+    numbered: Numbered,
+    fields: &Fields,
+    topo: &Topo,
+) -> Result<Vec<u8>, AllocError>
+    requires { (program : Program) × (name : List ℕ) × (program.fields ≡ fields.now) × (program.topo ≡ topo.now)
+        × IsNumberedByName program name numbered }
+    ensures { (program : Program) (name : List ℕ) → program.fields ≡ fields.now → program.topo ≡ topo.now
+        → IsNumberedByName program name numbered
+        → IfOk result (λ text. (t : Tables) × IsCompiled program name t × (text.items ≡ table_bytes t)) }
+{
+    let writer = TableWriter::new(alloc, fields, topo)?;
+    let mut sink = TextSink { writer };
+    hand_tables(numbered, topo, &mut sink)?;
     Ok(sink.writer.end())
 }
 

@@ -1,5 +1,6 @@
 -- Tables that are handed over one by one.
-use Rattle.std.proofs.Common.{◌≡◌, ℕ, List, Some, sym, subst, ap}
+use Rattle.std.proofs.Common.{◌≡◌, ℕ, List, Some, sym, subst}
+use Rattle.std.specs.Prelude.{Result, Ok, Err, IfOk, OnOk}
 use Rattle.nk_field.specs.Packet.{FieldTable}
 use Rattle.nk_topo.specs.Topology.{Topology}
 use Rattle.nk_policy.specs.Policy.{Policy}
@@ -12,7 +13,10 @@ use Rattle.nk_names.specs.ProgramValue.{IsProgram}
 use Rattle.nk_names.specs.WellFormed.{IsWellFormed}
 use Rattle.nk_names.specs.Accepted.{IsAccepted}
 use Rattle.nk_compile.specs.Answers.{IsMade, IsError, IsNoAnswer}
+use Rattle.nk_compile.specs.Counted.{HasTagSets, IsHanded}
 use Rattle.nk_compile.specs.Headline.{IsCompiled}
+use Rattle.nk_compile.specs.Preparing.{IsNumbered, IsNumberedByName}
+use Rattle.nk_compile.specs.declared.numbered.Numbered.{Numbered}
 use Rattle.nk_compile.specs.declared.refusal.CompileError.{CompileError}
 use Rattle.nk_compile.specs.declared.refusal.CompileError.TheVariants.{NoMemory, Refused}
 use Rattle.nk_compile.proofs.Naming.{reason_named}
@@ -38,3 +42,19 @@ pub error_named : (program : Program) (name : List ℕ) (p : Policy) → policy_
     (e : CompileError) → IsError program.fields program.topo p e → IsNoAnswer program name e
 error_named program name p named NoMemory h = tt
 error_named program name p named (Refused r) h = reason_named program name p named r h
+
+-- a named policy's numbers stand over this topology
+pub numbered_at : (program : Program) (name : List ℕ) (n : Numbered) (topo : Topology) → program.topo ≡ topo → (is : IsNumberedByName program name n)
+    → IsNumbered program.fields topo is.policy n
+numbered_at program name n topo same is = subst (λ t. IsNumbered program.fields t is.policy n) same is.numbered
+
+-- what is made of them over it was handed over for the name
+pub handed : {E : Type 0} (program : Program) (name : List ℕ) (n : Numbered) (r : Result ℕ E) (topo : Topology) → program.topo ≡ topo →
+    (is : IsNumberedByName program name n) → {Taken : List Table → Type 0} →
+    OnOk r ((ts : List Table) × Taken ts × IsMade program.fields topo is.policy (record { fields = program.fields; topo = topo; tables = ts })) →
+    IfOk r (HasTagSets program.fields topo is.policy) → IfOk r (IsHanded program name Taken)
+handed program name n (Ok count) topo same is made counted =
+    let there = subst (λ t. IsMade program.fields t is.policy (record { fields = program.fields; topo = t; tables = made.0 })) (sym same) made.2 in
+    let compiled = made_named program name is.policy _ is.is is.named is.held there in
+    (made.0, made.1, compiled, (is.policy, is.named, compiled.2, subst (λ t. HasTagSets program.fields t is.policy count) (sym same) counted))
+handed program name n (Err e) topo same is made counted = tt

@@ -41,11 +41,10 @@ abbrev pub IsCountAnswer : Program → List ℕ → Result ℕ CompileError → 
 IsCountAnswer program name (Ok n) = HasTagCount program name n
 IsCountAnswer program name (Err e) = IsNoAnswer program name e
 
--- the number of the tag sets, where the tables of the name were handed over, or why there are none
-abbrev pub IsHandedAnswer : Program → List ℕ → (List Table → Type 0) → Result ℕ CompileError → Type 0
-IsHandedAnswer program name Taken (Ok n) =
+-- the tables that compiling the name gives were taken, and so many tag sets are theirs
+abbrev pub IsHanded : Program → List ℕ → (List Table → Type 0) → ℕ → Type 0
+IsHanded program name Taken n =
     (ts : List Table)
     × Taken ts
     × IsCompiled program name (record { fields = program.fields; topo = program.topo; tables = ts })
     × HasTagCount program name n
-IsHandedAnswer program name Taken (Err e) = IsNoAnswer program name e

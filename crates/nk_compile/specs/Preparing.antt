@@ -1,8 +1,12 @@
 -- A policy whose tags can be numbered, and why there is none.
-use Rattle.std.specs.Prelude.{◌≡◌, ℕ, ◌+◌, ◌<◌, ◌≤◌, ⊤, false, Option, None, List, length, slice_index, slice_index_or}
+use Rattle.std.specs.Prelude.{◌≡◌, ℕ, ◌+◌, ◌<◌, ◌≤◌, ⊤, false, Option, Some, None, List, length, slice_index, slice_index_or}
 use Rattle.nk_field.specs.Packet.{FieldTable}
 use Rattle.nk_topo.specs.Topology.{Topology}
 use Rattle.nk_policy.specs.Policy.{Policy}
+use Rattle.nk_names.specs.declared.Program.{Program}
+use Rattle.nk_names.specs.Named.{policy_named}
+use Rattle.nk_names.specs.ProgramValue.{IsProgram}
+use Rattle.nk_names.specs.WellFormed.{IsWellFormed}
 use Rattle.nk_store.specs.Held.{Held}
 use Rattle.nk_determ.specs.Sets.{HasEachSetOnce}
 use Rattle.nk_tag.specs.Numbers.{AreNumbers}
@@ -37,6 +41,14 @@ pub record IsNumbered (fields : FieldTable) (topo : Topology) (p : Policy) (n : 
   pub ends : AreEnds p (length n.prepared.states) n.ends
   pub numbers : AreNumbers n.prepared.sets n.prepared.levels.levels n.tags
   pub few : length n.tags ≤ slice_index fields.maxima tag
+
+-- so is the policy of this name of a program
+pub record IsNumberedByName (program : Program) (name : List ℕ) (n : Numbered) : Type 0 where
+  pub is : IsProgram program.fields program.topo program.lets
+  pub policy : Policy
+  pub named : policy_named program name ≡ Some policy
+  pub held : IsWellFormed program.fields policy
+  pub numbered : IsNumbered program.fields program.topo policy n
 
 -- why a policy is refused before its tags are numbered; want of memory says nothing
 abbrev pub IsEarlyError : FieldTable → Topology → Policy → CompileError → Type 0

@@ -1,15 +1,11 @@
 //! The tables of a policy of a program, named or not, and the number of its tag sets.
-ghost use Rattle.std.specs.Prelude.{◌≡◌, Some, IfOk, IfErr};
-ghost use Rattle.nk_policy.specs.Policy.{Policy};
+ghost use Rattle.std.specs.Prelude.{◌≡◌, ℕ, List as Items, IfOk, IfErr};
 ghost use Rattle.nk_policy.specs.Tree.{tree_of};
-ghost use Rattle.nk_names.specs.Named.{policy_named};
-ghost use Rattle.nk_names.specs.ProgramValue.{IsProgram};
+ghost use Rattle.nk_names.specs.declared.Program.{Program};
 ghost use Rattle.nk_names.specs.WellFormed.{IsWellFormed};
-ghost use Rattle.nk_compile.specs.declared.refusal.CompileError.TheVariants.{Refused};
-ghost use Rattle.nk_compile.specs.declared.refusal.Refusal.{Refusal};
 ghost use Rattle.nk_compile.specs.Answers.{IsAnswer, IsNoAnswer, IsPolicyAnswer};
-ghost use Rattle.nk_compile.specs.Counted.{IsCountAnswer, IsCountedAnswer, IsCountedPolicyAnswer, IsHandedAnswer};
-ghost use Rattle.nk_compile.specs.Preparing.{IsNumbered};
+ghost use Rattle.nk_compile.specs.Counted.{IsCountAnswer, IsCountedAnswer, IsCountedPolicyAnswer, IsHanded};
+ghost use Rattle.nk_compile.specs.Preparing.{IsNumberedByName};
 
 use crate::counted::Counted;
 use crate::numbered::{Numbered, number_tags, policy_tables, tables_to};
@@ -19,7 +15,8 @@ use nk_names::Program;
 use nk_policy::Pol;
 use nk_switches::TableSink;
 use nk_table::Tables;
-use std::alloc::Global;
+use nk_topo::Topo;
+use std::alloc::{AllocError, Global};
 
 /// The printed tables of a named policy: a table for each declared switch, which together carry the policy.
 ///
@@ -64,8 +61,9 @@ pub fn compile_counted(
 ) -> Result<Counted, CompileError>
     ensures { IsCountedAnswer program.now name.now result }
 {
+    let numbered = number(alloc, program, name)?;
     let mut tables = List::new(alloc);
-    let tag_sets = compile_to(alloc, program, name, &mut tables)?;
+    let tag_sets = hand_tables(numbered, &program.topo, &mut tables)?;
     let fields = program.fields.copy()?;
     let topo = program.topo.copy()?;
     let tables = Tables {
@@ -76,30 +74,10 @@ pub fn compile_counted(
     Ok(Counted { tables, tag_sets })
 }
 
-/// Hands the printed tables of a named policy to a sink, one after the other, in the order of their switches: so no more than one of
-/// them need be kept. Answers the number of the policy's tag sets. It is refused in the same way as by `compile`, before the first
-/// table; where memory runs out the sink may have taken some of them.
-pub fn compile_to<S: TableSink>(
-    alloc: Global,
-    program: &Program,
-    name: &str,
-    sink: &mut S,
-) -> Result<u64, CompileError>
-    ensures answer { IsHandedAnswer program.now name.now (λ ts. S.takes sink.old ts sink.new) result }
-    ensures refused { IfErr result (λ e. (r : Refusal) → e ≡ Refused r → sink.new ≡ sink.old) }
-{
-    let numbered = numbered_by_name(alloc, program, name)?;
-    match tables_to(numbered, &program.topo, sink) {
-        Ok(tag_sets) => Ok(tag_sets),
-        Err(_) => Err(CompileError::NoMemory),
-    }
-}
-
-/// A named policy with the numbers of its tag sets, or the first reason to refuse it. Its written form goes with this call.
-fn numbered_by_name(alloc: Global, program: &Program, name: &str) -> Result<Numbered, CompileError>
-    ensures ok { IfOk result (λ n. (p : Policy) × (policy_named program.now name.now ≡ Some p) × IsWellFormed program.now.fields p
-        × IsNumbered program.now.fields program.now.topo p n) }
-    ensures is { IsProgram program.now.fields program.now.topo program.now.lets }
+/// A named policy whose tag sets have their numbers: what is left to do is to print its tables, for which neither the policy nor the
+/// program's other policies are needed. It is refused in the same way as by `compile`.
+pub fn number(alloc: Global, program: &Program, name: &str) -> Result<Numbered, CompileError>
+    ensures ok { IfOk result (IsNumberedByName program.now name.now) }
     ensures error { IfErr result (IsNoAnswer program.now name.now) }
 {
     program.laws();
@@ -108,6 +86,21 @@ fn numbered_by_name(alloc: Global, program: &Program, name: &str) -> Result<Numb
     };
     let p = named.written(alloc)?;
     number_tags(alloc, &program.fields, &program.topo, &p)
+}
+
+/// Hands the printed tables of a named policy to a sink, one after the other, in the order of its program's switches: so no more than
+/// one of them need be kept. Answers the number of the policy's tag sets. The only error is that memory ran out; the sink may
+/// have taken some of the tables then.
+pub fn hand_tables<S: TableSink>(
+    numbered: Numbered,
+    topo: &Topo,
+    sink: &mut S,
+) -> Result<u64, AllocError>
+    requires { (program : Program) × (name : Items ℕ) × (program.topo ≡ topo.now) × IsNumberedByName program name numbered }
+    ensures { (program : Program) (name : Items ℕ) → program.topo ≡ topo.now → IsNumberedByName program name numbered
+        → IfOk result (IsHanded program name (λ ts. S.takes sink.old ts sink.new)) }
+{
+    tables_to(numbered, topo, sink)
 }
 
 /// The printed tables of a policy over a program's fields and topology, and the number of its tag sets.

@@ -20,8 +20,9 @@ mod tagging;
 mod wrong_ends;
 
 pub use compact::{Apart, Compact, compile_compact};
-pub use compilation::{compile, compile_counted, compile_policy, compile_to, tag_count};
+pub use compilation::{compile, compile_counted, compile_policy, hand_tables, number, tag_count};
 pub use counted::Counted;
 pub use nk_switches::TableSink;
+pub use numbered::Numbered;
 pub use pair::{TablePair, compile_pair};
 pub use refusal::{CompileError, Refusal};

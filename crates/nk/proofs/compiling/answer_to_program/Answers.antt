@@ -1,11 +1,12 @@
+use Rattle.std.proofs.Common.{sym}
 use Rattle.nk.proofs.Printing.{is_printed}
 use Rattle.nk.proofs.compiling.answer_to_program.Goals as goal
 
-pub returns-in_ok-table_text-in-Ok : goal.returns-in_ok-table_text-in-Ok
-returns-in_ok-table_text-in-Ok c =
-    is_printed c.compiled_tables_are_printable.ensures c.printed_tables_are_read.ensures c.args.program.now c.args.name.now
-    c.in_ok-table_text-in-Ok.field-0.items c.in-Ok.tables c.requires.is c.requires.declared c.in-Ok.ensures c.in_ok-table_text-in-Ok.ensures
+pub text_of-requires : goal.text_of-requires
+text_of-requires c = (c.args.program, c.args.name.now, sym c.declarations.ensures.fields, sym c.declarations.ensures.topo, c.in-Ok.ensures)
 
-pub table_text-requires : goal.table_text-requires
-table_text-requires c =
-    c.compiled_tables_are_in_order.ensures c.args.program.now c.args.name.now c.in-Ok.tables c.requires.is c.requires.declared.fields c.requires.declared.topology c.in-Ok.ensures
+pub returns-in_ok-text_of-in-Ok : goal.returns-in_ok-text_of-in-Ok
+returns-in_ok-text_of-in-Ok c =
+    let made = c.in_ok-text_of-in-Ok.ensures c.args.program c.args.name.now (sym c.declarations.ensures.fields) (sym c.declarations.ensures.topo) c.in-Ok.ensures in
+    is_printed c.compiled_tables_are_printable.ensures c.printed_tables_are_read.ensures c.args.program c.args.name.now
+    c.in_ok-text_of-in-Ok.field-0.items made.0 c.requires.is c.requires.declared made.1 made.2

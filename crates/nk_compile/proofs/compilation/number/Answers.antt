@@ -8,7 +8,7 @@ use Rattle.nk_compile.specs.Answers.{IsError}
 use Rattle.nk_compile.specs.Preparing.{IsNumbered}
 use Rattle.nk_compile.proofs.Handing.{error_named}
 use Rattle.nk_compile.proofs.Naming.{named_well_formed, has_room}
-use Rattle.nk_compile.proofs.compilation.numbered_by_name.Goals as goal
+use Rattle.nk_compile.proofs.compilation.number.Goals as goal
 
 pub number_tags-requires-clause-held : goal.number_tags-requires-clause-held
 number_tags-requires-clause-held c =
@@ -22,12 +22,13 @@ number_tags-requires-clause-room c =
 pub returns-clause-ok : goal.returns-clause-ok
 returns-clause-ok c =
     let named = sym c.in-Some.ensures.found ∙ ap Some (sym c.in_ok-p.ensures) in
-    IfOk-weaker c.number_tags.result _ _ (λ n is. (
-      tree_of c.in_ok-p.p,
-      named,
-      named_well_formed c.args.program.now c.args.name.now (tree_of c.in_ok-p.p) c.laws.ensures named,
-      subst (λ (v : ProgramValue). IsNumbered v.fields v.topo (tree_of c.in_ok-p.p) n) c.program.view_is is,
-    )) c.number_tags.ensures.ok
+    IfOk-weaker c.number_tags.result _ _ (λ n is. record {
+      is = c.laws.ensures;
+      policy = tree_of c.in_ok-p.p;
+      named = named;
+      held = named_well_formed c.args.program.now c.args.name.now (tree_of c.in_ok-p.p) c.laws.ensures named;
+      numbered = subst (λ (v : ProgramValue). IsNumbered v.fields v.topo (tree_of c.in_ok-p.p) n) c.program.view_is is;
+    }) c.number_tags.ensures.ok
 
 pub returns-clause-error : goal.returns-clause-error
 returns-clause-error c =
