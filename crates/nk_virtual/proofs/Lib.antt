@@ -13,6 +13,7 @@ pub mod OneReason
 pub mod Only
 pub mod Over
 pub mod Parts
+pub mod Places
 pub mod Seen
 pub mod Sight
 pub mod Staying

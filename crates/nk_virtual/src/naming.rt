@@ -57,8 +57,8 @@ fn answer_over(alloc: Global, program: &Program, tag: Fid, p: &Pol) -> Result<Po
 {
     let links = program.virtual_links();
     let ends = ends_of(alloc, links)?;
-    if let Some(sight) = seen_among(p, ends.as_slice(), tag) {
+    if let Some(sight) = seen_among(p, &ends, tag) {
         return Err(VirtualError::Refused(VirtualRefusal::Seen(sight)));
     }
-    expanded(alloc, links, p)
+    expanded(alloc, links, &ends, p)
 }

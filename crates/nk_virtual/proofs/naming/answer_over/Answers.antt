@@ -1,12 +1,16 @@
 use Rattle.std.proofs.Common.{◌≡◌, None, sym, ap, subst, ◌∙◌}
-use Rattle.std.specs.Prelude.{map}
+use Rattle.std.specs.Prelude.{map, AllPairs}
 use Rattle.nk_policy.specs.Tree.{tree_of}
-use Rattle.nk_topo.specs.Inside.{link_of}
 use Rattle.nk_sight.specs.Seen.{seen_of}
+use Rattle.nk_names.specs.ProgramValue.{HaveOneSource}
 use Rattle.nk_virtual.specs.Answers.{IsBuilding}
 use Rattle.nk_virtual.specs.Physical.{physical}
 use Rattle.nk_virtual.proofs.Made.{built_answer}
 use Rattle.nk_virtual.proofs.naming.answer_over.Goals as goal
+
+pub ends_of-requires : goal.ends_of-requires
+ends_of-requires c =
+    subst (AllPairs (λ k l. ¬ (HaveOneSource k l))) (sym c.virtual_links-links.ensures.links) c.virtual_links-links.ensures.virtuals.one_from
 
 pub returns : goal.returns
 returns c =
@@ -15,7 +19,7 @@ returns c =
     let plain : seen_of c.args.tag (map (λ k. k.ends) program.virtuals) p ≡ None =
     ap
     (λ ls. seen_of c.args.tag ls p)
-    (sym (ap (map link_of) c.as_slice.ensures.value ∙ c.in_ok-ends.ensures ∙ ap (map (λ k. k.ends)) c.virtual_links-links.ensures.links))
+    (sym (c.in_ok-ends.ensures ∙ ap (map (λ k. k.ends)) c.virtual_links-links.ensures.links))
     ∙ sym c.seen_among.ensures
     ∙ c.in_default.is in
     built_answer program.fields program.topo program.virtuals c.args.tag p c.virtual_links-links.ensures.is.table c.requires.declared c.requires.usable c.virtual_links-links.ensures.virtuals.over c.requires.fit plain c.expanded.result
