@@ -1,6 +1,6 @@
 -- Tables that are handed over one by one.
-use Rattle.std.proofs.Common.{◌≡◌, ℕ, List, Some, sym, subst}
-use Rattle.std.specs.Prelude.{Result, Ok, Err, IfOk, OnOk}
+use Rattle.std.proofs.Common.{◌≡◌, ℕ, ◌<◌, List, None, Some, length, get_or, sym, subst}
+use Rattle.std.specs.Prelude.{Option, Result, Ok, Err, IfOk, OnOk}
 use Rattle.nk_field.specs.Packet.{FieldTable}
 use Rattle.nk_topo.specs.Topology.{Topology}
 use Rattle.nk_policy.specs.Policy.{Policy}
@@ -15,7 +15,8 @@ use Rattle.nk_names.specs.Accepted.{IsAccepted}
 use Rattle.nk_compile.specs.Answers.{IsMade, IsError, IsNoAnswer}
 use Rattle.nk_compile.specs.Counted.{HasTagSets, IsHanded}
 use Rattle.nk_compile.specs.Headline.{IsCompiled}
-use Rattle.nk_compile.specs.Preparing.{IsNumbered, IsNumberedByName}
+use Rattle.nk_compile.specs.Preparing.{AreEnds, IsNumbered, IsNumberedByName}
+use Rattle.nk_compile.specs.WholeTable.{link_end}
 use Rattle.nk_compile.specs.declared.numbered.Numbered.{Numbered}
 use Rattle.nk_compile.specs.declared.refusal.CompileError.{CompileError}
 use Rattle.nk_compile.specs.declared.refusal.CompileError.TheVariants.{NoMemory, Refused}
@@ -50,11 +51,17 @@ numbered_at program name n topo same is = subst (λ t. IsNumbered program.fields
 
 -- what is made of them over it was handed over for the name
 pub handed : {E : Type 0} (program : Program) (name : List ℕ) (n : Numbered) (r : Result ℕ E) (topo : Topology) → program.topo ≡ topo →
-    (is : IsNumberedByName program name n) → {Taken : List Table → Type 0} →
+    (is : IsNumberedByName program name n) → (Taken : List Table → Type 0) →
     OnOk r ((ts : List Table) × Taken ts × IsMade program.fields topo is.policy (record { fields = program.fields; topo = topo; tables = ts })) →
     IfOk r (HasTagSets program.fields topo is.policy) → IfOk r (IsHanded program name Taken)
-handed program name n (Ok count) topo same is made counted =
+handed program name n (Ok count) topo same is Taken made counted =
     let there = subst (λ t. IsMade program.fields t is.policy (record { fields = program.fields; topo = t; tables = made.0 })) (sym same) made.2 in
     let compiled = made_named program name is.policy _ is.is is.named is.held there in
-    (made.0, made.1, compiled, (is.policy, is.named, compiled.2, subst (λ t. HasTagSets program.fields t is.policy count) (sym same) counted))
-handed program name n (Err e) topo same is made counted = tt
+    let accepted : IsAccepted program is.policy = (there.compilable, there.few) in
+    (made.0, made.1, compiled, (is.policy, is.named, accepted, subst (λ t. HasTagSets program.fields t is.policy count) (sym same) counted))
+handed program name n (Err e) topo same is Taken made counted = tt
+
+-- where a policy's links end, for as many marks as are counted
+pub ends_for : (p : Policy) (n count : ℕ) (ends : List (Option ℕ)) → n ≡ count → length ends ≡ n →
+    ((l : ℕ) → l < n → get_or ends l None ≡ link_end p l) → AreEnds p count ends
+ends_for p n count ends same len each = subst (λ m. AreEnds p m ends) same (record { len = len; each = each })

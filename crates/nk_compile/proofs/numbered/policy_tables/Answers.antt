@@ -1,3 +1,4 @@
+use Rattle.std.proofs.Common.{◌++◌, ap, ◌∙◌}
 use Rattle.nk_policy.specs.Tree.{tree_of}
 use Rattle.nk_compile.specs.Answers.{IsError, IsMade}
 use Rattle.nk_compile.proofs.Handing.{tables_same}
@@ -5,13 +6,13 @@ use Rattle.nk_compile.proofs.Making.{refused_with}
 use Rattle.nk_compile.proofs.numbered.policy_tables.Goals as goal
 
 pub tables_to-requires : goal.tables_to-requires
-tables_to-requires c = (c.args.fields.now, tree_of c.args.p.now, c.in_ok-numbered.ensures.ok)
+tables_to-requires c = record { numbered = (c.args.fields.now, tree_of c.args.p.now, c.in_ok-numbered.ensures.ok) }
 
 pub returns-clause-made : goal.returns-clause-made
 returns-clause-made c =
     let made = c.in_ok-tag_sets.ensures.made c.args.fields.now (tree_of c.args.p.now) c.in_ok-numbered.ensures.ok in
     tables_same (IsMade c.args.fields.now c.args.topo.now (tree_of c.args.p.now)) c.args.fields.now _ c.args.topo.now _ made.0 _
-    c.in_ok-fields.ensures c.in_ok-topo.ensures made.1 made.2
+    c.in_ok-fields.ensures c.in_ok-topo.ensures (made.1 ∙ ap (λ l. l ++ made.0) c.new-tables.ensures) made.2
 
 pub returns-clause-counted : goal.returns-clause-counted
 returns-clause-counted c = c.in_ok-tag_sets.ensures.counted c.args.fields.now (tree_of c.args.p.now) c.in_ok-numbered.ensures.ok

@@ -1,9 +1,7 @@
-use Rattle.std.proofs.Common.{ℕ, ◌<◌, ◌∙◌, sym, subst, ap, length}
+use Rattle.std.proofs.Common.{◌<◌, ◌∙◌, sym, subst, ap, length}
 use Rattle.std.specs.Prelude.{All}
 use Rattle.std.proofs.lemmas.Result.{on_ok_weaker}
-use Rattle.nk_field.specs.Packet.{FieldTable}
-use Rattle.nk_policy.specs.Policy.{Policy}
-use Rattle.nk_compile.specs.Preparing.{AreEnds, IsPrepared}
+use Rattle.nk_compile.specs.Preparing.{AreEnds}
 use Rattle.nk_compile.specs.Ready.{sets_of, IsReady}
 use Rattle.nk_compile.proofs.Levelled.{prepared_known, prepared_ready}
 use Rattle.nk_compile.proofs.tagging.print_to.Goals as goal
