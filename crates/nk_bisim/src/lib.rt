@@ -6,4 +6,4 @@ mod comparison;
 
 pub use answer::CompareError;
 pub use comparison::compare;
-pub use nk_cert::{Compared, compare_policies};
+pub use nk_cert::Compared;

@@ -13,8 +13,8 @@ use nk_topo::Topo;
 use std::alloc::{AllocError, Global};
 
 /// A text of tables that is written table by table, so that nobody has to keep the rows of all. The tables are to come in the
-/// order of the topology's switches, one for each; then the text is that of all of them. The only error is that memory ran
-/// out.
+/// order of the topology's switches, one for each; then the text is that of all of them. Groups, matches and assignments are
+/// written as they stand. The only error is that memory ran out; the text may end anywhere then.
 #[derive(Drop)]
 pub struct TableWriter<'a> {
     fields: &'a Fields,
