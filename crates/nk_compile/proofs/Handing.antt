@@ -1,5 +1,5 @@
 -- Tables that are handed over one by one.
-use Rattle.std.proofs.Common.{◌≡◌, ℕ, ◌<◌, List, None, Some, length, get_or, sym, subst}
+use Rattle.std.proofs.Common.{◌≡◌, ℕ, ◌<◌, List, None, Some, length, get_or, refl, sym, subst}
 use Rattle.std.specs.Prelude.{Option, Result, Ok, Err, IfOk, OnOk}
 use Rattle.nk_field.specs.Packet.{FieldTable}
 use Rattle.nk_topo.specs.Topology.{Topology}
@@ -13,23 +13,30 @@ use Rattle.nk_names.specs.ProgramValue.{IsProgram}
 use Rattle.nk_names.specs.WellFormed.{IsWellFormed}
 use Rattle.nk_names.specs.Accepted.{IsAccepted}
 use Rattle.nk_compile.specs.Answers.{IsMade, IsError, IsNoAnswer}
-use Rattle.nk_compile.specs.Counted.{HasTagSets, IsHanded}
+use Rattle.nk_compile.specs.Counted.{HasTagCount, HasTagSets, IsHanded}
 use Rattle.nk_compile.specs.Headline.{IsCompiled}
 use Rattle.nk_compile.specs.Preparing.{AreEnds, IsNumbered, IsNumberedByName}
 use Rattle.nk_compile.specs.WholeTable.{link_end}
 use Rattle.nk_compile.specs.declared.numbered.Numbered.{Numbered}
 use Rattle.nk_compile.specs.declared.refusal.CompileError.{CompileError}
 use Rattle.nk_compile.specs.declared.refusal.CompileError.TheVariants.{NoMemory, Refused}
+use Rattle.nk_compile.proofs.Levelled.{prepared_compilable, prepared_counted, prepared_few}
 use Rattle.nk_compile.proofs.Naming.{reason_named}
 use Rattle.nk_compile.proofs.Printed.{printed_carries}
 
 -- tables with equal parts are the same
-pub tables_same : (P : Tables → Type 0) (f g : FieldTable) (t u : Topology) (ts us : List Table) → g ≡ f → u ≡ t → us ≡ ts
+tables_same : (P : Tables → Type 0) (f g : FieldTable) (t u : Topology) (ts us : List Table) → g ≡ f → u ≡ t → us ≡ ts
     → P (record { fields = f; topo = t; tables = ts }) → P (record { fields = g; topo = u; tables = us })
 tables_same P f g t u ts us e h i k =
     subst (λ l. P (record { fields = g; topo = u; tables = l })) (sym i)
     (subst (λ o. P (record { fields = g; topo = o; tables = ts })) (sym h)
     (subst (λ x. P (record { fields = x; topo = t; tables = ts })) (sym e) k))
+
+-- what holds of tables with these parts holds of tables over equal ones
+pub tables_at : (P : Tables → Type 0) (all : Tables) (f g : FieldTable) (t u : Topology) (ts us : List Table)
+    → all ≡ record { fields = g; topo = u; tables = us } → g ≡ f → u ≡ t → us ≡ ts
+    → P (record { fields = f; topo = t; tables = ts }) → P all
+tables_at P all f g t u ts us is e h i k = subst P (sym is) (tables_same P f g t u ts us e h i k)
 
 -- the tables that are made of a named policy are those that compiling the name gives
 pub made_named : (program : Program) (name : List ℕ) (p : Policy) (t : Tables) → IsProgram program.fields program.topo program.lets
@@ -65,3 +72,19 @@ handed program name n (Err e) topo same is Taken made counted = tt
 pub ends_for : (p : Policy) (n count : ℕ) (ends : List (Option ℕ)) → n ≡ count → length ends ≡ n →
     ((l : ℕ) → l < n → get_or ends l None ≡ link_end p l) → AreEnds p count ends
 ends_for p n count ends same len each = subst (λ m. AreEnds p m ends) same (record { len = len; each = each })
+
+-- a named policy's numbers are as many as its tag sets
+pub counted_by_name : (program : Program) (name : List ℕ) (n : Numbered) (k : ℕ) → k ≡ length n.tags → IsNumberedByName program name n
+    → HasTagCount program name k
+counted_by_name program name n k same is =
+    let i = is.numbered in
+    let accepted : IsAccepted program is.policy = (
+      prepared_compilable program.fields program.topo i.tag is.policy n.prepared i.prepared,
+      prepared_few program.fields program.topo i.tag is.policy n.prepared i.prepared n.tags i.numbers _ refl i.few,
+    ) in (
+      is.policy,
+      is.named,
+      accepted,
+      subst (HasTagSets program.fields program.topo is.policy) (sym same)
+          (prepared_counted program.fields program.topo i.tag is.policy n.prepared i.prepared n.tags i.numbers),
+    )

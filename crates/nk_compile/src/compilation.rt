@@ -10,6 +10,7 @@ ghost use Rattle.nk_compile.specs.Preparing.{IsNumberedByName};
 use crate::counted::Counted;
 use crate::numbered::{Numbered, number_tags, policy_tables, tables_to};
 use crate::refusal::{CompileError, Refusal};
+use crate::tagging::tables_over;
 use nk_field::List;
 use nk_names::Program;
 use nk_policy::Pol;
@@ -42,13 +43,13 @@ pub fn compile_policy(alloc: Global, program: &Program, p: &Pol) -> Result<Table
     }
 }
 
-/// The number of a named policy's tag sets: how many set states it needs behind links. It does the work of `compile` and
-/// is refused in the same way.
+/// The number of a named policy's tag sets: how many set states it needs behind links. It is refused in the same way as by
+/// `compile`, and no table is made.
 pub fn tag_count(alloc: Global, program: &Program, name: &str) -> Result<u64, CompileError>
     ensures { IsCountAnswer program.now name.now result }
 {
-    match compile_counted(alloc, program, name) {
-        Ok(counted) => Ok(counted.tag_sets),
+    match number(alloc, program, name) {
+        Ok(numbered) => Ok(numbered.tags.len() as u64),
         Err(e) => Err(e),
     }
 }
@@ -64,13 +65,7 @@ pub fn compile_counted(
     let numbered = number(alloc, program, name)?;
     let mut tables = List::new(alloc);
     let tag_sets = hand_tables(numbered, &program.topo, &mut tables)?;
-    let fields = program.fields.copy()?;
-    let topo = program.topo.copy()?;
-    let tables = Tables {
-        fields,
-        topo,
-        tables,
-    };
+    let tables = tables_over(&program.fields, &program.topo, tables)?;
     Ok(Counted { tables, tag_sets })
 }
 

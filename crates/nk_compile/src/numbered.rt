@@ -14,12 +14,11 @@ use crate::ends::link_ends;
 use crate::prepared::Prepared;
 use crate::refusal::{CompileError, Refusal};
 use crate::tables::{numbers, prepare};
-use crate::tagging::print_to;
+use crate::tagging::{print_to, tables_over};
 use nk_determ::SetId;
 use nk_field::{Fields, List};
 use nk_policy::Pol;
 use nk_switches::TableSink;
-use nk_table::Tables;
 use nk_topo::Topo;
 use std::alloc::{AllocError, Global};
 
@@ -101,12 +100,6 @@ pub fn policy_tables(
     let numbered = number_tags(alloc, fields, topo, p)?;
     let mut tables = List::new(alloc);
     let tag_sets = tables_to(numbered, topo, &mut tables)?;
-    let fields = fields.copy()?;
-    let topo = topo.copy()?;
-    let tables = Tables {
-        fields,
-        topo,
-        tables,
-    };
+    let tables = tables_over(fields, topo, tables)?;
     Ok(Counted { tables, tag_sets })
 }

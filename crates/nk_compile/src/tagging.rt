@@ -20,7 +20,7 @@ use nk_field::{Fields, List};
 use nk_policy::Pol;
 use nk_store::{Id, Store};
 use nk_switches::{TableSink, switch_tables};
-use nk_table::Tables;
+use nk_table::{Table, Tables};
 use nk_topo::Topo;
 use std::alloc::{AllocError, Global};
 
@@ -104,6 +104,19 @@ pub fn print_to<S: TableSink>(
     tag_tables(&mut st, &mut ss, topo, ends, states, all.as_slice(), sink)
 }
 
+/// Tables over copies of these fields and of this topology.
+pub fn tables_over(fields: &Fields, topo: &Topo, tables: List<Table>) -> Result<Tables, AllocError>
+    ensures { IfOk result (λ t. t ≡ record { fields = fields.now; topo = topo.now; tables = tables }) }
+{
+    let fields = fields.copy()?;
+    let topo = topo.copy()?;
+    Ok(Tables {
+        fields,
+        topo,
+        tables,
+    })
+}
+
 /// The printed tables of a prepared policy, its tags behind so many others. These are the numbers of its tag sets in order.
 pub fn printed(
     prepared: Prepared,
@@ -121,11 +134,5 @@ pub fn printed(
     let ends = link_ends(alloc, p, prepared.states.len())?;
     let mut tables = List::new(alloc);
     print_to(prepared, ends.as_slice(), topo, first, tags, &mut tables)?;
-    let fields = fields.copy()?;
-    let topo = topo.copy()?;
-    Ok(Tables {
-        fields,
-        topo,
-        tables,
-    })
+    tables_over(fields, topo, tables)
 }

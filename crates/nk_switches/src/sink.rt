@@ -13,7 +13,7 @@ pub trait TableSink {
     /// Between the first state and the second these tables were taken, in this order.
     ghost takes: { Self → List Table → Self → Type 0 };
 
-    /// One more table. The only error is that memory ran out.
+    /// One more table. The only error is that memory ran out; nothing is said of what was taken then.
     fn take(&mut self, table: Table) -> Result<(), AllocError>
         ensures { OnOk result (takes self.old (table ∷ []) self.new) };
 

@@ -16,9 +16,10 @@ use nk_determ::{SetId, Sets};
 use nk_store::{Id, Store};
 use std::alloc::AllocError;
 
-/// The table of each switch, one after the other, so that no more than one need be kept. Its rows do for each of its tags what the tag's states do together at the switch. A copy at
-/// which they end leaves with tag 0; one that they record next leaves with the tag of the set of all labels that record
-/// it, and is left out where that set has no tag. Equal bucket lists of a switch are one group.
+/// The table of each switch, one after the other, so that no more than one need be kept. Its rows do for each of its tags what
+/// the tag's states do together at the switch. A copy at which they end leaves with tag 0; one that they record next leaves
+/// with the tag of the set of all labels that record it, and is left out where that set has no tag. Equal bucket lists of a
+/// switch are one group.
 ///
 /// `states` are the diagrams of an automaton, `tags` the numbers of the tags' sets of labels in order: a set with labels
 /// once, the one without any as often as tags are left free. The only error is that memory ran out.

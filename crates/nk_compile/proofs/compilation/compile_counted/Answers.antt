@@ -1,7 +1,7 @@
 use Rattle.std.proofs.Common.{◌++◌, ap, sym, ◌∙◌}
 use Rattle.nk_names.specs.ProgramValue.{ProgramValue}
 use Rattle.nk_compile.specs.Headline.{IsCompiled}
-use Rattle.nk_compile.proofs.Handing.{tables_same}
+use Rattle.nk_compile.proofs.Handing.{tables_at}
 use Rattle.nk_compile.proofs.compilation.compile_counted.Goals as goal
 
 pub hand_tables-requires : goal.hand_tables-requires
@@ -12,8 +12,8 @@ pub returns : goal.returns
 returns c =
     let is = c.program.view_is in
     let made = c.in_ok-tag_sets.ensures c.args.program.now c.args.name.now (ap (λ (v : ProgramValue). v.topo) (sym is)) c.in_ok-numbered.ensures.ok in (
-      tables_same (IsCompiled c.args.program.now c.args.name.now) c.args.program.now.fields _ c.args.program.now.topo _ made.0 _
-          (c.in_ok-fields.ensures ∙ ap (λ (v : ProgramValue). v.fields) is) (c.in_ok-topo.ensures ∙ ap (λ (v : ProgramValue). v.topo) is)
+      tables_at (IsCompiled c.args.program.now c.args.name.now) c.in_ok-tables.tables c.args.program.now.fields _ c.args.program.now.topo _ made.0 _
+          c.in_ok-tables.ensures (ap (λ (v : ProgramValue). v.fields) is) (ap (λ (v : ProgramValue). v.topo) is)
           (made.1 ∙ ap (λ l. l ++ made.0) c.new-tables.ensures) made.2,
       made.3,
     )

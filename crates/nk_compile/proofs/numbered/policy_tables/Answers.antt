@@ -1,7 +1,7 @@
-use Rattle.std.proofs.Common.{◌++◌, ap, ◌∙◌}
+use Rattle.std.proofs.Common.{◌++◌, ap, refl, ◌∙◌}
 use Rattle.nk_policy.specs.Tree.{tree_of}
 use Rattle.nk_compile.specs.Answers.{IsError, IsMade}
-use Rattle.nk_compile.proofs.Handing.{tables_same}
+use Rattle.nk_compile.proofs.Handing.{tables_at}
 use Rattle.nk_compile.proofs.Making.{refused_with}
 use Rattle.nk_compile.proofs.numbered.policy_tables.Goals as goal
 
@@ -11,8 +11,8 @@ tables_to-requires c = record { numbered = (c.args.fields.now, tree_of c.args.p.
 pub returns-clause-made : goal.returns-clause-made
 returns-clause-made c =
     let made = c.in_ok-tag_sets.ensures.made c.args.fields.now (tree_of c.args.p.now) c.in_ok-numbered.ensures.ok in
-    tables_same (IsMade c.args.fields.now c.args.topo.now (tree_of c.args.p.now)) c.args.fields.now _ c.args.topo.now _ made.0 _
-    c.in_ok-fields.ensures c.in_ok-topo.ensures (made.1 ∙ ap (λ l. l ++ made.0) c.new-tables.ensures) made.2
+    tables_at (IsMade c.args.fields.now c.args.topo.now (tree_of c.args.p.now)) c.in_ok-tables.tables c.args.fields.now _ c.args.topo.now _ made.0 _
+    c.in_ok-tables.ensures refl refl (made.1 ∙ ap (λ l. l ++ made.0) c.new-tables.ensures) made.2
 
 pub returns-clause-counted : goal.returns-clause-counted
 returns-clause-counted c = c.in_ok-tag_sets.ensures.counted c.args.fields.now (tree_of c.args.p.now) c.in_ok-numbered.ensures.ok

@@ -1,5 +1,7 @@
 use Rattle.std.proofs.Common.{◌++◌, ap, sym, subst, length, ◌∙◌}
+use Rattle.std.proofs.lemmas.Result.{IfOk-weaker}
 use Rattle.nk_policy.specs.Tree.{tree_of}
+use Rattle.nk_table.specs.declared.Tables.{Tables}
 use Rattle.nk_compile.specs.Preparing.{AreEnds}
 use Rattle.nk_compile.proofs.Handing.{ends_for}
 use Rattle.nk_compile.proofs.tagging.printed.Goals as goal
@@ -22,5 +24,7 @@ returns c =
     let there =
     subst (AreEnds (tree_of c.args.p.now) (length c.args.prepared.states)) (sym c.as_slice.ensures)
     (ends_for (tree_of c.args.p.now) c.len.result (length c.args.prepared.states) c.in_ok-ends.ends c.len.ensures c.in_ok-ends.ensures.len c.in_ok-ends.ensures.each) in
+    IfOk-weaker c.tables_over.result _ _ (λ t is.
     made.2 c.args.fields.now (tree_of c.args.p.now) k.0 k.1 there
-    _ c.in_ok-fields.ensures c.in_ok-topo.ensures (made.1 ∙ ap (λ l. l ++ made.0) c.new-tables.ensures)
+    t (ap (λ (x : Tables). x.fields) is) (ap (λ (x : Tables). x.topo) is)
+    (ap (λ (x : Tables). x.tables) is ∙ (made.1 ∙ ap (λ l. l ++ made.0) c.new-tables.ensures))) c.tables_over.ensures
