@@ -43,15 +43,22 @@ fn answer_to_program(alloc: Global, name: &str, program: Program) -> Result<Said
     compiled_tables_are_printable();
     printed_tables_are_read();
     match number(alloc, &program, name) {
-        Ok(numbered) => {
-            let (fields, topo) = declarations(program);
-            Ok(Said::Done(text_of(alloc, numbered, &fields, &topo)?))
-        }
+        Ok(numbered) => Ok(Said::Done(printed(alloc, numbered, program)?)),
         Err(CompileError::Refused(reason)) => {
             Ok(Said::Refused(refusal_message(alloc, &program.fields, &reason)?))
         }
         Err(CompileError::NoMemory) => Err(AllocError),
     }
+}
+
+/// The text of the printed tables of a program's policy. The program's policies are let go before the first table is made.
+fn printed(alloc: Global, numbered: Numbered, program: Program) -> Result<Vec<u8>, AllocError>
+    requires { (name : List ℕ) × IsNumberedByName program name numbered }
+    ensures { (name : List ℕ) → IsNumberedByName program name numbered
+        → IfOk result (λ text. (t : Tables) × IsCompiled program name t × (text.items ≡ table_bytes t)) }
+{
+    let (fields, topo) = declarations(program);
+    text_of(alloc, numbered, &fields, &topo)
 }
 
 /// The fields and the topology of a program. Its policies are let go.

@@ -27,17 +27,24 @@ pub enum ReadText {
     Fault(Vec<u8>),
 }
 
-/// The program of a text, or the line that tells the text's first fault. Its tokens are taken as they come, and none is kept; the text
-/// goes with this call. The only error is that memory ran out.
+/// The program of a text, or the line that tells the text's first fault. The text goes with this call. The only error is that
+/// memory ran out.
 pub(crate) fn read_program(alloc: Global, bytes: Vec<u8>) -> Result<ReadText, AllocError>
     ensures { IfOk result (λ r. IsReadOf bytes.items r) }
+{
+    read_text(alloc, &bytes)
+}
+
+/// The same of a text that stays. Its tokens are taken as they come, and none is kept.
+fn read_text(alloc: Global, bytes: &[u8]) -> Result<ReadText, AllocError>
+    ensures { IfOk result (λ r. IsReadOf bytes.now r) }
 {
     // These are laws: what any text declares, and that its numbers are small.
     declared_fields_are_writable();
     declared_topologies_are_declarable();
     values_are_small();
     let mut tokens = ProgramTokens::new(alloc)?;
-    match take_text(alloc, &bytes, &mut tokens)? {
+    match take_text(alloc, bytes, &mut tokens)? {
         Lexed::Whole => read_tokens(alloc, tokens),
         Lexed::BadByte { line } => lexical_fault(alloc, LexError::BadByte { line }),
         Lexed::NumberTooLarge { line } => lexical_fault(alloc, LexError::NumberTooLarge { line }),

@@ -1,4 +1,4 @@
-use Rattle.std.proofs.Common.{◌∙◌, IfOk, List, ℕ, subst}
+use Rattle.std.proofs.Common.{IfOk, List, ℕ, subst}
 use Rattle.nk.specs.Generating.{IsJobOver}
 use Rattle.nk.specs.Reply.{said}
 use Rattle.nk.proofs.generating.job_answer.Goals as goal

@@ -6,8 +6,8 @@ use Rattle.nk.proofs.generating.job_over.Goals as goal
 -- the text declares the program
 pub returns-in-Program : goal.returns-in-Program
 returns-in-Program c =
-    let of : IsOfBytes c.args.bytes.now c.in-Program.program = subst (IsReadOf c.args.bytes.now) c.in-Program.is c.in_ok-program.ensures in
-    IfOk-weaker c.job_of_program.result _ _ (λ s h. h c.args.bytes.now (record {
+    let of : IsOfBytes c.args.bytes.items c.in-Program.program = subst (IsReadOf c.args.bytes.items) c.in-Program.is c.in_ok-program.ensures in
+    IfOk-weaker c.job_of_program.result _ _ (λ s h. h c.args.bytes.items (record {
       tokens = of.tokens;
       cut = of.cut;
       declarations = of.of.declarations;
