@@ -274,7 +274,7 @@ link_ends st at_dup at_port d k old b n l x y z ik =
     (cons_continued st at_port at_dup k (assign 1 n) (part (dup (l + 1)) no_part) y (dup_first st at_dup (l + 1) old k no_part x ik))
 
 -- what the body, continued by nothing, does: it records first
-body_records : (st : Held) (nothing e : ℕ) (p : Policy) → IsContinued st e p nothing → HasLeaves st nothing (λ pk. []) →
+pub body_records : (st : Held) (nothing e : ℕ) (p : Policy) → IsContinued st e p nothing → HasLeaves st nothing (λ pk. []) →
     IsFit st.maxes p → (z y : List ℕ) (t : ℕ) → IsPacket st z → Sends st e z y t → RecordsAt p z [] y t
 body_records st nothing e p first none fit z y t z_in s =
     ⊎_elim

@@ -9,6 +9,7 @@ pub mod Going
 pub mod Sums
 pub mod Writing
 pub mod Guarding
+pub mod TwoWays
 pub mod Stating
 pub mod Parts
 pub mod OfParts

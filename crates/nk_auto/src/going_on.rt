@@ -5,8 +5,10 @@ ghost use Rattle.nk_policy.specs.Tree.{tree_of, trees_of};
 ghost use Rattle.nk_store.specs.Held.{IsId, Grows, HasLeaves};
 ghost use Rattle.nk_auto.specs.Continued.{IsContinued};
 ghost use Rattle.nk_auto.specs.Guarded.{IsGuarded};
+ghost use Rattle.nk_auto.specs.TwoWays.{AreWays};
 
 use crate::guards::{Behind, guard_of, guarded_by, put_together, unguarded};
+use crate::nested::{BothWays, around, holds_star, nests, put_before};
 use crate::silence::{
     ended_then, silent, silent_not, silent_predicate, silent_range, silent_set, silent_star,
     silent_test,
@@ -223,12 +225,108 @@ pub fn continued_star(st: &mut Store, q: &Pol, next: Id) -> Result<Id, AllocErro
         return star_without_dup(st, q, next);
     }
     let nothing = empty(st)?;
+    if nests(q) {
+        let body = both_ways(st, q, nothing)?;
+        let ways = around(st, body, next)?;
+        return Ok(ways.records);
+    }
     let records = continued(st, q, nothing)?;
     let rounds = silent_star(st, q)?;
     let onward = union(st, next, records)?;
     let d = seq(st, rounds, onward)?;
     st.laws();
     Ok(d)
+}
+
+/// Both what a policy does without a record and what it records first, in one pass, so that no star is drawn anew inside
+/// each of those around it. A part that holds no star is drawn each way by itself.
+#[cycle(continued)]
+#[tactic(auto, using(nk_policy::proofs::Trees::tree_of_sum, nk_policy::proofs::Trees::tree_of_seq))]
+fn both_ways(st: &mut Store, p: &Pol, nothing: Id) -> Result<BothWays, AllocError>
+    requires { HasLeaves st.old nothing (λ pk. []) }
+    ensures grows { Grows st.old st.new }
+    ensures ok { IfOk result (λ b. AreWays st.new b.silent b.records nothing (tree_of p.now)) }
+{
+    if !holds_star(p) {
+        return each_way(st, p, nothing);
+    }
+    match p {
+        Pol::Sum(ps) => both_any(st, ps.as_slice(), nothing),
+        Pol::Seq(ps) => both_all(st, ps.as_slice(), nothing),
+        Pol::Star(q) => {
+            let body = both_ways(st, q, nothing)?;
+            let ways = around(st, body, nothing)?;
+            Ok(ways)
+        }
+        _ => each_way(st, p, nothing),
+    }
+}
+
+/// The two ways of a policy, one after the other. One without a dup records nothing.
+#[cycle(continued)]
+fn each_way(st: &mut Store, p: &Pol, nothing: Id) -> Result<BothWays, AllocError>
+    requires { HasLeaves st.old nothing (λ pk. []) }
+    ensures grows { Grows st.old st.new }
+    ensures ok { IfOk result (λ b. AreWays st.new b.silent b.records nothing (tree_of p.now)) }
+{
+    let alone = silent(st, p)?;
+    if !may_record(p) {
+        return Ok(BothWays {
+            silent: alone,
+            records: nothing,
+        });
+    }
+    let records = continued(st, p, nothing)?;
+    Ok(BothWays {
+        silent: alone,
+        records,
+    })
+}
+
+/// Both ways of a sum: those of its parts together.
+#[cycle(continued)]
+fn both_any(st: &mut Store, ps: &[Pol], nothing: Id) -> Result<BothWays, AllocError>
+    requires { HasLeaves st.old nothing (λ pk. []) }
+    ensures grows { Grows st.old st.new }
+    ensures ok { IfOk result (λ b. AreWays st.new b.silent b.records nothing (sum_of (trees_of ps.now))) }
+{
+    let mut silents = List::new(st.alloc());
+    let mut records = List::new(st.alloc());
+    let mut i = ps.len();
+    while i > 0 {
+        i -= 1;
+        let ways = both_ways(st, &ps[i], nothing)?;
+        silents.push(ways.silent)?;
+        records.push(ways.records)?;
+    }
+    let alone = union_all(st, silents.as_slice())?;
+    let first = union_all(st, records.as_slice())?;
+    Ok(BothWays {
+        silent: alone,
+        records: first,
+    })
+}
+
+/// Both ways of a sequence, from the last part to the first.
+#[cycle(continued)]
+fn both_all(st: &mut Store, ps: &[Pol], nothing: Id) -> Result<BothWays, AllocError>
+    requires { HasLeaves st.old nothing (λ pk. []) }
+    ensures grows { Grows st.old st.new }
+    ensures ok { IfOk result (λ b. AreWays st.new b.silent b.records nothing (seq_of (trees_of ps.now))) }
+{
+    let passing = identity(st)?;
+    let mut behind = BothWays {
+        silent: passing,
+        records: nothing,
+    };
+    let mut i = ps.len();
+    while i > 0 {
+        i -= 1;
+        let first = both_ways(st, &ps[i], nothing)?;
+        let more = put_before(st, first, behind)?;
+        behind = more;
+    }
+    Ok(behind)
 }
 
 /// A star in which no round records: rounds, and then the diagram.

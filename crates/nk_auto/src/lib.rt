@@ -5,6 +5,7 @@
 mod by_parts;
 mod going_on;
 mod guards;
+mod nested;
 mod one_field;
 mod silence;
 mod states;

@@ -1,19 +1,22 @@
-use Rattle.std.proofs.Common.{◌≡◌, ℕ, Option, arith, sym, subst, length, drop}
+use Rattle.std.proofs.Common.{◌≡◌, ℕ, Option, [], arith, sym, ap, subst, ◌∙◌, length, drop}
 use Rattle.std.specs.Prelude.{IfSome}
 use Rattle.std.proofs.lemmas.List.{drop_all}
 use Rattle.std.proofs.lemmas.Result.{IfOk-weaker}
-use Rattle.nk_policy.specs.Policy.{seq_of, no_part, part}
+use Rattle.nk_policy.specs.Policy.{seq_of, star_of, no_part, part}
 use Rattle.nk_policy.specs.Tree.{tree_of, trees_of}
 use Rattle.nk_store.specs.Held.{IsId}
 use Rattle.nk_store.proofs.Stores.{grows_on}
 use Rattle.nk_algebra.specs.Predicates.{IsPredicate}
 use Rattle.nk_auto.specs.Continued.{IsSilent, IsContinued}
 use Rattle.nk_auto.specs.Guarded.{NeverRecords, IsGuarded}
+use Rattle.nk_auto.specs.TwoWays.{AreWays}
 use Rattle.nk_auto.proofs.Grown.{leaves_grow}
 use Rattle.nk_auto.proofs.Parts.{trees_before}
+use Rattle.nk_auto.proofs.Silences.{silent_grow}
 use Rattle.nk_auto.proofs.Going.{continued_grow, unit_continued, cons_continued, star_continued}
 use Rattle.nk_auto.proofs.Guarding.{guarded_grow}
 use Rattle.nk_auto.proofs.Sums.{AreOf, IsOnward, one_more_of, ids_of, sum_continued}
+use Rattle.nk_auto.proofs.TwoWays.{ways_grow, dupless_ways, sum_ways}
 use Rattle.nk_auto.proofs.going_on.+continued.Goals as goal
 
 pub continued_any-loop-i-preserved : goal.continued_any-loop-i-preserved
@@ -100,3 +103,76 @@ continued-returns-in-Link-clause-ok t c =
     IfOk-weaker c.link_start.result _ _
     (λ r h. subst (λ p. IsContinued c.link_start.new.st r (tree_of p) c.args.next) (sym c.in-Link.is) (h c.in-Link.field-2 c.in-Link.field-3 c.args.next c.requires))
     c.link_start.ensures.ok
+
+pub continued_star-returns-then-nests-clause-ok : goal.continued_star-returns-then-nests-clause-ok
+continued_star-returns-then-nests-clause-ok t c =
+    c.in_ok-ways.ensures.records (tree_of c.args.q.now) c.in_ok-nothing.nothing c.in_ok-body.ensures.ok
+
+pub both_ways-returns-in_ok-ways-in-Star-clause-ok : goal.both_ways-returns-in_ok-ways-in-Star-clause-ok
+both_ways-returns-in_ok-ways-in-Star-clause-ok t c =
+    let q = tree_of c.deref.result.now in
+    subst (λ p. AreWays c.around.new.st c.in_ok-ways-in-Star.ways.silent c.in_ok-ways-in-Star.ways.records c.args.nothing p) (ap (λ x. star_of (tree_of x)) c.deref.ensures ∙ sym (ap tree_of c.in-Star.is))
+    (record {
+      silently = c.in_ok-ways-in-Star.ensures.silent q c.in_ok-body-in-Star.ensures.ok.silently;
+      recording = c.in_ok-ways-in-Star.ensures.records q c.args.nothing c.in_ok-body-in-Star.ensures.ok;
+      none = leaves_grow c.both_ways.new.st c.around.new.st c.args.nothing (λ pk. []) c.around.ensures.grows c.in_ok-body-in-Star.ensures.ok.none;
+    })
+
+pub each_way-returns-then-not-may_record-clause-ok : goal.each_way-returns-then-not-may_record-clause-ok
+each_way-returns-then-not-may_record-clause-ok t c =
+    dupless_ways c.silent.new.st c.in_ok-alone.alone c.args.nothing (tree_of c.args.p.now) (c.may_record.ensures.none c.if-not-may_record.true) c.in_ok-alone.ensures.ok
+    (leaves_grow c.args.st.now c.silent.new.st c.args.nothing (λ pk. []) c.silent.ensures.grows c.requires)
+
+pub each_way-returns-clause-ok : goal.each_way-returns-clause-ok
+each_way-returns-clause-ok t c = record {
+  silently = silent_grow c.silent.new.st c.continued.new.st c.in_ok-alone.alone (tree_of c.args.p.now) c.continued.ensures.grows c.in_ok-alone.ensures.ok;
+  recording = c.in_ok-records.ensures.ok;
+  none = leaves_grow c.args.st.now c.continued.new.st c.args.nothing (λ pk. []) (grows_on _ _ _ c.silent.ensures.grows c.continued.ensures.grows) c.requires;
+}
+
+pub both_any-loop-i-preserved : goal.both_any-loop-i-preserved
+both_any-loop-i-preserved t c =
+    let here = sym (trees_before c.args.ps.now c.loop-i.i c.index-ps-i.result c.loop-i-test.true c.loop-i.invariant.within c.index-ps-i.is) in
+    let others = trees_of (drop c.loop-i.i c.args.ps.now) in
+    record {
+      grows = grows_on _ _ _ c.loop-i.invariant.grows c.both_ways.ensures.grows;
+      within = omega (arith, c.loop-i.invariant.within);
+      none = c.in_ok-ways.ensures.ok.none;
+      silently = subst (AreOf IsSilent c.both_ways.new.st c.push.new.self) here
+          (one_more_of IsSilent silent_grow c.loop-i.st c.both_ways.new.st c.loop-i.silents c.push.new.self others c.in_ok-ways.ways.silent (tree_of c.index-ps-i.result) c.both_ways.ensures.grows c.in_ok-push.ensures.ok c.loop-i.invariant.silently c.in_ok-ways.ensures.ok.silently);
+      recording = subst (AreOf (IsOnward c.args.nothing) c.both_ways.new.st c.push-in-loop-i.new.self) here
+          (one_more_of (IsOnward c.args.nothing) (λ old new d p g h. continued_grow old new d p c.args.nothing g h) c.loop-i.st c.both_ways.new.st c.loop-i.records c.push-in-loop-i.new.self others c.in_ok-ways.ways.records (tree_of c.index-ps-i.result) c.both_ways.ensures.grows c.in_ok-push-2.ensures.ok c.loop-i.invariant.recording c.in_ok-ways.ensures.ok.recording);
+    }
+
+pub both_any-union_all-requires : goal.both_any-union_all-requires
+both_any-union_all-requires t c =
+    ids_of IsSilent (λ st d p h. h.id) c.loop-i.st c.loop-i.silents c.as_slice.result.now (trees_of (drop c.loop-i.i c.args.ps.now)) c.as_slice.ensures c.loop-i.invariant.silently
+
+pub both_any-union_all-requires-2 : goal.both_any-union_all-requires-2
+both_any-union_all-requires-2 t c = λ k lt.
+    c.union_all.ensures.grows.ids _
+    (ids_of (IsOnward c.args.nothing) (λ st d p h. h.id) c.loop-i.st c.loop-i.records c.as_slice-2.result.now (trees_of (drop c.loop-i.i c.args.ps.now)) c.as_slice-2.ensures c.loop-i.invariant.recording k lt)
+
+pub both_any-returns-clause-ok : goal.both_any-returns-clause-ok
+both_any-returns-clause-ok t c =
+    let zero_is : c.loop-i.i ≡ 0 = omega (arith, c.loop-i-test.false) in
+    let silently = subst (λ n. AreOf IsSilent c.loop-i.st c.loop-i.silents (trees_of (drop n c.args.ps.now))) zero_is c.loop-i.invariant.silently in
+    let recording = subst (λ n. AreOf (IsOnward c.args.nothing) c.loop-i.st c.loop-i.records (trees_of (drop n c.args.ps.now))) zero_is c.loop-i.invariant.recording in
+    sum_ways c.loop-i.st c.union_all.new.st c.union_all-2.new.st c.args.nothing c.in_ok-alone.alone c.in_ok-first.first c.loop-i.silents c.as_slice.result.now c.loop-i.records c.as_slice-2.result.now (trees_of c.args.ps.now) c.as_slice.ensures c.as_slice-2.ensures c.union_all.ensures.grows c.union_all-2.ensures.grows c.loop-i.invariant.none silently recording c.in_ok-alone.ensures.ok c.in_ok-first.ensures.ok
+
+pub both_all-loop-i-preserved : goal.both_all-loop-i-preserved
+both_all-loop-i-preserved t c =
+    let others = trees_of (drop c.loop-i.i c.args.ps.now) in
+    record {
+      grows = grows_on _ _ _ c.loop-i.invariant.grows (grows_on _ _ _ c.both_ways.ensures.grows c.put_before.ensures.grows);
+      within = omega (arith, c.loop-i.invariant.within);
+      behind =
+          subst (λ ps. AreWays c.put_before.new.st c.in_ok-more.more.silent c.in_ok-more.more.records c.args.nothing (seq_of ps)) (sym (trees_before c.args.ps.now c.loop-i.i c.index-ps-i.result c.loop-i-test.true c.loop-i.invariant.within c.index-ps-i.is))
+          (c.in_ok-more.ensures.ok (tree_of c.index-ps-i.result) others c.args.nothing c.in_ok-first.ensures.ok
+          (ways_grow c.loop-i.st c.both_ways.new.st c.loop-i.behind.silent c.loop-i.behind.records c.args.nothing (seq_of others) c.both_ways.ensures.grows c.loop-i.invariant.behind));
+    }
+
+pub both_all-returns-clause-ok : goal.both_all-returns-clause-ok
+both_all-returns-clause-ok t c =
+    let zero_is : c.loop-i.i ≡ 0 = omega (arith, c.loop-i-test.false) in
+    subst (λ n. AreWays c.loop-i.st c.loop-i.behind.silent c.loop-i.behind.records c.args.nothing (seq_of (trees_of (drop n c.args.ps.now)))) zero_is c.loop-i.invariant.behind

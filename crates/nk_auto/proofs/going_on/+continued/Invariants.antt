@@ -1,8 +1,10 @@
-use Rattle.std.proofs.Common.{◌≤◌, length, drop}
+use Rattle.std.proofs.Common.{◌≤◌, [], length, drop}
 use Rattle.nk_policy.specs.Policy.{seq_of}
 use Rattle.nk_policy.specs.Tree.{trees_of}
-use Rattle.nk_store.specs.Held.{Grows}
+use Rattle.nk_store.specs.Held.{Grows, HasLeaves}
+use Rattle.nk_auto.specs.Continued.{IsSilent}
 use Rattle.nk_auto.specs.Guarded.{IsGuarded}
+use Rattle.nk_auto.specs.TwoWays.{AreWays}
 use Rattle.nk_auto.proofs.Sums.{AreOf, IsOnward}
 use Rattle.nk_auto.proofs.going_on.+continued.Given as goal
 
@@ -27,3 +29,27 @@ invariant-continued_all-loop-i l = record {
 
 abbrev pub decreases-continued_all-loop-i : goal.decreases-continued_all-loop-i
 decreases-continued_all-loop-i l = l.i
+
+-- the parts from the place on have their diagrams, each way
+abbrev pub invariant-both_any-loop-i : goal.invariant-both_any-loop-i
+invariant-both_any-loop-i l = record {
+  grows : Grows l.fn.st l.st;
+  within : l.i ≤ length l.ps;
+  none : HasLeaves l.st l.nothing (λ pk. []);
+  silently : AreOf IsSilent l.st l.silents (trees_of (drop l.i l.ps));
+  recording : AreOf (IsOnward l.nothing) l.st l.records (trees_of (drop l.i l.ps));
+}
+
+abbrev pub decreases-both_any-loop-i : goal.decreases-both_any-loop-i
+decreases-both_any-loop-i l = l.i
+
+-- the parts from the place on have one diagram each way
+abbrev pub invariant-both_all-loop-i : goal.invariant-both_all-loop-i
+invariant-both_all-loop-i l = record {
+  grows : Grows l.fn.st l.st;
+  within : l.i ≤ length l.ps;
+  behind : AreWays l.st l.behind.silent l.behind.records l.nothing (seq_of (trees_of (drop l.i l.ps)));
+}
+
+abbrev pub decreases-both_all-loop-i : goal.decreases-both_all-loop-i
+decreases-both_all-loop-i l = l.i
