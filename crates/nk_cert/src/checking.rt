@@ -1,12 +1,14 @@
 //! What is found of a certificate of two policies.
 ghost use Rattle.std.specs.Prelude.{◌≡◌, ◌+◌, ◌<◌, ◌^◌, true, IfOk, All, length};
-ghost use Rattle.nk_policy.specs.Policy.{is_predicate, dups_of};
+ghost use Rattle.nk_field.specs.Packet.{FieldTable};
+ghost use Rattle.nk_policy.specs.Policy.{Policy, is_predicate, dups_of};
 ghost use Rattle.nk_policy.specs.Ranges.{IsInRange};
 ghost use Rattle.nk_policy.specs.Tree.{tree_of};
 ghost use Rattle.nk_store.specs.Held.{IsOver, Grows};
 ghost use Rattle.nk_determ.specs.Sets.{SetsGrow};
 ghost use Rattle.nk_names.specs.Complements.{NegatesPredicates};
 ghost use Rattle.nk_auto.specs.Continued.{IsFit};
+ghost use Rattle.nk_cert.specs.Levelled.{IsAutomatonOfBoth};
 ghost use Rattle.nk_cert.specs.Together.{AreNumbered};
 ghost use Rattle.nk_cert.specs.Verdicts.{HasPredicates, IsFinding};
 ghost use Rattle.nk_cert.specs.Values.{certificate_value, finding_of};
@@ -68,6 +70,24 @@ fn verdict_in(
 {
     let both = automaton_of_both(st, left, right)?;
     let bound = number_behind(left) as usize;
+    verdict_by(st, ss, both, bound, certificate)
+}
+
+/// What is found of a certificate, by the automaton of two policies; labels below `bound` are the left one's.
+pub(crate) fn verdict_by(
+    st: &mut Store,
+    ss: &mut Sets,
+    both: Both,
+    bound: usize,
+    certificate: &Certificate,
+) -> Result<Verdict, AllocError>
+    requires automaton { (fields : FieldTable) × (p : Policy) × (q : Policy)
+        × IsAutomatonOfBoth fields st.old both.states both.left both.right p q × (bound ≡ 1 + dups_of p) }
+    requires predicates { HasPredicates (certificate_value certificate.now) }
+    ensures { IfOk result (λ v. (fields : FieldTable) (p q : Policy)
+        → IsAutomatonOfBoth fields st.old both.states both.left both.right p q → bound ≡ 1 + dups_of p
+        → IsFinding fields p q (certificate_value certificate.now) (finding_of v)) }
+{
     let mut goal = OneSide::new(st, both.states.as_slice(), both.left, both.right, bound)?;
     let judge = judge_of(st, ss, both, certificate)?;
     ss.differ();

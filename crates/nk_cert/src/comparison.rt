@@ -1,5 +1,5 @@
 //! Two policies compared.
-ghost use Rattle.std.specs.Prelude.{◌≡◌, ◌+◌, ◌<◌, ◌^◌, IfOk};
+ghost use Rattle.std.specs.Prelude.{◌≡◌, ◌+◌, ◌<◌, ◌≤◌, ◌^◌, IfOk};
 ghost use Rattle.nk_field.specs.Packet.{FieldTable};
 ghost use Rattle.nk_store.specs.Held.{IsOver};
 ghost use Rattle.nk_auto.specs.Continued.{IsFit};
@@ -63,8 +63,14 @@ pub fn compare_owned(alloc: Global, fields: &Fields, p: Pol, q: Pol) -> Result<C
     compare_by_levels(&mut st, &both, bound as usize)
 }
 
-/// The automaton of two policies together, which are let go then.
-fn owned_automaton(st: &mut Store, p: Pol, q: Pol, bound: u32) -> Result<Both, AllocError>
+/// The automaton of two policies together, the right one's dups numbered on from the bound. Both are let go then, and the right one as
+/// it was already once it is numbered.
+pub(crate) fn owned_automaton(
+    st: &mut Store,
+    p: Pol,
+    q: Pol,
+    bound: u32,
+) -> Result<Both, AllocError>
     requires left { marked_from (tree_of p) 1 ≡ tree_of p }
     requires bound { bound ≡ 1 + dups_of (tree_of p) }
     requires few { 1 + dups_of (tree_of p) + dups_of (tree_of q) < 2 ^ 32 }
@@ -73,7 +79,17 @@ fn owned_automaton(st: &mut Store, p: Pol, q: Pol, bound: u32) -> Result<Both, A
     ensures { IfOk result (λ b. (fields : FieldTable) → IsOver fields st.old
         → IsAutomatonOfBoth fields st.new b.states b.left b.right (tree_of p) (marked_from (tree_of q) bound)) }
 {
-    numbered_automaton(st, &p, &q, bound)
+    let behind = numbered_behind(st.alloc(), q, bound)?;
+    automaton_of_both(st, &p, &behind)
+}
+
+/// The policy with its dups numbered from here on; as it was it is let go.
+fn numbered_behind(alloc: Global, q: Pol, first: u32) -> Result<Pol, AllocError>
+    requires positive { 1 ≤ first }
+    requires fit { first + dups_of (tree_of q) ≤ 2 ^ 32 }
+    ensures { IfOk result (λ r. tree_of r ≡ marked_from (tree_of q) first) }
+{
+    marked(alloc, &q, first)
 }
 
 /// The automaton of two policies together, the right one's dups numbered on from the bound.

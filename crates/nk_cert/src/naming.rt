@@ -1,5 +1,5 @@
 //! What is found of a certificate of two named policies.
-ghost use Rattle.std.specs.Prelude.{◌≡◌, ◌+◌, ◌<◌, ◌≤◌, ◌^◌, IfOk};
+ghost use Rattle.std.specs.Prelude.{◌≡◌, ◌+◌, ◌<◌, ◌^◌, IfOk};
 ghost use Rattle.nk_policy.specs.Policy.{marked_from, dups_of};
 ghost use Rattle.nk_policy.specs.Tree.{tree_of};
 ghost use Rattle.nk_policy.specs.Ranges.{IsOverFields};
@@ -9,12 +9,15 @@ ghost use Rattle.nk_cert.specs.Values.{certificate_value, finding_of};
 ghost use Rattle.nk_cert.specs.Answers.{IsChecked};
 
 use crate::certificate::{Certificate, Verdict};
-use crate::checking::check_policies;
+use crate::checking::verdict_by;
+use crate::comparison::owned_automaton;
 use crate::error::CheckError;
 use crate::pairing::number_behind;
+use nk_determ::Sets;
 use nk_field::Fields;
 use nk_names::Program;
-use nk_policy::{Pol, marked};
+use nk_policy::Pol;
+use nk_store::Store;
 use std::alloc::{AllocError, Global};
 
 /// What is found of a certificate of two named policies: that each row meets its four parts, or the first row that fails, and
@@ -38,35 +41,30 @@ pub fn check(
     };
     let p = on_left.written(alloc)?;
     let q = on_right.written(alloc)?;
-    Ok(check_both(alloc, &program.fields, &p, q, certificate)?)
+    Ok(check_both(alloc, &program.fields, p, q, certificate)?)
 }
 
-/// What is found of a certificate of two policies, the right one's dups numbered on from the left one's.
+/// What is found of a certificate of two policies, the right one's dups numbered on from the left one's. Both are let go once their
+/// automaton is made.
 fn check_both(
     alloc: Global,
     fields: &Fields,
-    p: &Pol,
+    p: Pol,
     q: Pol,
     certificate: &Certificate,
 ) -> Result<Verdict, AllocError>
-    requires numbered { marked_from (tree_of p.now) 1 ≡ tree_of p.now }
-    requires few { 1 + dups_of (tree_of p.now) + dups_of (tree_of q) < 2 ^ 32 }
-    requires left_complements { NegatesPredicates (tree_of p.now) }
-    requires left_over { IsOverFields fields.now (tree_of p.now) }
+    requires numbered { marked_from (tree_of p) 1 ≡ tree_of p }
+    requires few { 1 + dups_of (tree_of p) + dups_of (tree_of q) < 2 ^ 32 }
+    requires left_complements { NegatesPredicates (tree_of p) }
+    requires left_over { IsOverFields fields.now (tree_of p) }
     requires right_complements { NegatesPredicates (tree_of q) }
     requires right_over { IsOverFields fields.now (tree_of q) }
     requires predicates { HasPredicates (certificate_value certificate.now) }
-    ensures { IfOk result (λ v. IsFinding fields.now (tree_of p.now) (marked_from (tree_of q) (1 + dups_of (tree_of p.now))) (certificate_value certificate.now) (finding_of v)) }
+    ensures { IfOk result (λ v. IsFinding fields.now (tree_of p) (marked_from (tree_of q) (1 + dups_of (tree_of p))) (certificate_value certificate.now) (finding_of v)) }
 {
-    let behind = numbered_behind(alloc, q, number_behind(p))?;
-    check_policies(alloc, fields, p, &behind, certificate)
-}
-
-/// The policy with its dups numbered from here on; as it was it is let go.
-fn numbered_behind(alloc: Global, q: Pol, first: u32) -> Result<Pol, AllocError>
-    requires positive { 1 ≤ first }
-    requires fit { first + dups_of (tree_of q) ≤ 2 ^ 32 }
-    ensures { IfOk result (λ r. tree_of r ≡ marked_from (tree_of q) first) }
-{
-    marked(alloc, &q, first)
+    let bound = number_behind(&p);
+    let mut st = Store::new(alloc, fields)?;
+    let both = owned_automaton(&mut st, p, q, bound)?;
+    let mut ss = Sets::new(alloc);
+    verdict_by(&mut st, &mut ss, both, bound as usize, certificate)
 }
