@@ -9,6 +9,7 @@ pub mod Steps
 mod ReadLexemes
 pub mod Standing
 pub mod Names
+mod Open
 pub mod Digits
 pub mod Cutting
 pub mod Named

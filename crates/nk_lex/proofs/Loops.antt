@@ -9,8 +9,12 @@ use Rattle.nk_lex.specs.declared.token.LexError.{LexError}
 use Rattle.nk_lex.specs.declared.token.LexError.TheVariants as error
 use Rattle.nk_lex.specs.declared.settling.Next.{Next}
 use Rattle.nk_lex.specs.declared.unfinished.Pending.TheVariants as pending
-use Rattle.nk_lex.specs.Classes.{is_white}
-use Rattle.nk_lex.specs.Lex.{Fails, cut, cut_front, front_of, line_after, HasToken, IsFaultOfText}
+use Rattle.std.specs.Prelude.{min}
+use Rattle.std.proofs.Common.{◌==◌}
+use Rattle.nk_lex.specs.declared.unfinished.Pending.{Pending}
+use Rattle.nk_lex.specs.Classes.{is_digit}
+use Rattle.nk_lex.proofs.Standing.{of_both}
+use Rattle.nk_lex.specs.Lex.{largest, value_of, Fails, cut, cut_front, front_of, line_after, HasToken, IsFaultOfText}
 use Rattle.nk_lex.proofs.Cuts.{settle_after, front_settles, whole_opens}
 use Rattle.nk_lex.specs.Kept.{IsKept, IsPendingWithin, pending_of}
 use Rattle.nk_lex.specs.NextPiece.{Fits, IsNext, has_whole, wanted}
@@ -50,25 +54,6 @@ going_on bytes at first before from line ts n t g w some e =
       rest = step ∙ g.rest;
     }
 
--- a byte of white space is cut off
-blank_cut : (bytes : List ℕ) (line at : ℕ) → has_whole bytes ≡ true → is_white (get_or bytes 0 0) ≡ true
-    → ((0 < 1) × (1 ≤ length bytes)) × (cut_front bytes line at ≡ Ok (1, None))
-blank_cut [] line at w h = absurd cc
-blank_cut (b ∷ rest) line at w h = ((omega arith, omega arith), rw h refl)
-
--- it is passed
-pub passing_on : (bytes : List ℕ) (at first : ℕ) (before : List Token) (from line : ℕ) (ts : List Token)
-    → Going bytes at first before from line ts
-    → has_whole (take (length bytes - from) (drop from bytes)) ≡ true → is_white (get_or bytes from 0) ≡ true
-    → Going bytes at first before (from + 1) (line_after line (get_or bytes from 0)) ts
-passing_on bytes at first before from line ts g w h =
-    let whole : has_whole (drop from bytes) ≡ true = rw take_rest at w in
-    let byte : get_or (drop from bytes) 0 0 ≡ get_or bytes from 0
-    = get_or-drop from bytes 0 0 ∙ ap (λ i. get_or bytes i 0) (add-zero from) in
-    let blank = blank_cut (drop from bytes) line (at + from) whole (ap is_white byte ∙ h) in
-    subst (λ us. Going bytes at first before (from + 1) (line_after line (get_or bytes from 0)) us) (append-nil ts)
-    (going_on bytes at first before from line ts 1 None g w (rw take_rest blank.0) (rw take_rest blank.1))
-
 -- a lexeme with a token makes a list that isn't empty
 token_some : (bytes : List ℕ) (line at : ℕ) → has_whole bytes ≡ true → HasToken (cut_front bytes line at)
     → 0 < length (settle bytes 0 line at).0
@@ -97,11 +82,6 @@ token_wants bytes at first before from line ts g w h =
       length-append ts (settle (drop from bytes) 0 line (at + from)).0,
       length-append before (settle bytes 0 first at).0,
     )
-
-pub some_token : (r : Result (ℕ × Option Token) LexError) (n : ℕ) (t : Option Token) → r ≡ Ok (n, t)
-    → 0 < length (option_to_list t) → HasToken r
-some_token r n (Some t) e h = subst HasToken (sym e) tt
-some_token r n None e h = absurd (omega arith)
 
 whole_rest : (bytes : List ℕ) (line at : ℕ) → has_whole bytes ≡ false → settle bytes 0 line at ≡ ([], Rest line at bytes)
 whole_rest [] line at h = refl
@@ -144,11 +124,6 @@ left_at_fault bytes at first before from line ts e g w h =
     left_so bytes at first before from line ts (Fault e) g (fault_rest (drop from bytes) line (at + from) e whole is)
 
 -- ---- what is answered
-
--- so says an error
-pub err_of : {X E : Type 0} {P : Type 0} (r : Result X E) → P → OnErr r P
-err_of (Ok x) p = tt
-err_of (Err e) p = p
 
 -- a fault that isn't want of memory is the text's
 pub fails_is : {Y : Type 0} (e : LexError) (read : Result Y LexError) → IsFaultOfText e → Fails e read → read ≡ Err e
@@ -196,3 +171,30 @@ pub opened_wants : {E : Type 0} (r : Result Next E) (before ts : List Token) (s 
     → OnErr r (0 < length (held_of slice)) → OnErr r (0 < wanted s)
 opened_wants (Ok n) before ts s line at slice l h = tt
 opened_wants (Err e) before ts s line at slice l h = omega (arith, h, ap (λ m. length (held_in m)) l.1)
+
+held_short : (bytes : List ℕ) → length (held_of bytes) ≤ length bytes
+held_short [] = omega arith
+held_short (b ∷ rest) =
+    of_both P (b == 35) [] _ (omega arith) (of_both P (is_digit b) [] (b ∷ rest) (omega arith) (omega arith))
+  where
+    P : List ℕ → Type 0
+    P held = length held ≤ length (b ∷ rest)
+
+pending_within : (at : ℕ) (bytes : List ℕ) (fed : ℕ) → at ≤ fed → IsPendingWithin (pending_of at bytes) fed
+pending_within at [] fed most = tt
+pending_within at (b ∷ rest) fed most =
+    of_both P (b == 35) pending.Comment _ tt
+    (of_both P (is_digit b) (pending.Number at (min (value_of (b ∷ rest)) (largest + 1))) pending.Held (most, omega arith) tt)
+  where
+    P : Pending → Type 0
+    P p = IsPendingWithin p fed
+
+pub opened_fits : {E : Type 0} (r : Result Next E) (line at fed : ℕ) (slice : List ℕ) → line ≤ at + 1 → at + length slice ≤ fed
+    → IfOk r (λ n. n.line ≡ line) → IfOk r (λ n. n.pending ≡ pending_of at slice) → IfOk r (λ n. n.held.items ≡ held_of slice)
+    → IfOk r (Fits fed)
+opened_fits (Ok n) line at fed slice l f i p h = record {
+  line = rw (i, h) (omega (arith, l, f, held_short slice));
+  held = rw h (omega (arith, f, held_short slice));
+  pending = subst (λ q. IsPendingWithin q fed) (sym p) (pending_within at slice fed (omega (arith, f)));
+}
+opened_fits (Err e) line at fed slice l f i p h = tt

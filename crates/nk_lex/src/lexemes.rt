@@ -10,6 +10,8 @@ ghost use Rattle.std.specs.Prelude.{
   [],
   ◌∷◌,
   length,
+  drop,
+  get_or,
   Option,
   Some,
   None,
@@ -31,6 +33,8 @@ ghost use Rattle.nk_lex.specs.Kinds.{kind_of_name};
 ghost use Rattle.nk_lex.specs.Kept.{value_on};
 ghost use Rattle.nk_lex.specs.Lex.{
   cut_front,
+  front_of,
+  FitsIn,
   largest,
   line_after,
   number_of,
@@ -125,66 +129,11 @@ fn number(alloc: Global, digits: &[u8], at: usize, line: u64) -> Result<Token, L
     }
 }
 
-/// The lexeme at the front: how many bytes it has, and its token, where it has one.
-pub fn lexeme(
-    alloc: Global,
-    bytes: &[u8],
-    at: usize,
-    line: u64,
-) -> Result<(usize, Option<Token>), LexError>
-    requires some { 0 < length bytes.now }
-    requires room { at + length bytes.now < 2 ^ 64 }
-    ensures cut { Returns (λ p. p) result (cut_front bytes.now line at) }
-    ensures token { IfErr result (λ e. e ≡ LexError.NoMemory → HasToken (cut_front bytes.now line at)) }
-    ensures fits { IfOk result (λ p. (0 < p.0) × (p.0 ≤ length bytes.now)) }
-{
-    let [first, rest @ ..] = bytes else {
-        unreachable!()
-    };
-    match front_at(*first, rest) {
-        Front::Blank(len) => Ok((len, None)),
-        Front::Name(len) => match word(alloc, &bytes[..len], at, line) {
-            Ok(token) => Ok((len, Some(token))),
-            Err(AllocError) => Err(LexError::NoMemory),
-        },
-        Front::Number(len) => match number(alloc, &bytes[..len], at, line) {
-            Ok(token) => Ok((len, Some(token))),
-            Err(fault) => Err(fault),
-        },
-        Front::Symbol(len, kind) => Ok((len, Some(plain(alloc, kind, at, len, line, 0)))),
-        Front::Bad => Err(LexError::BadByte { line }),
-    }
-}
-
-/// Puts a token at the end, where there is one. The only error is that memory ran out.
-pub fn put(tokens: &mut Vec<Token>, token: Option<Token>) -> Result<(), AllocError>
-    ensures ok { OnOk result (tokens.new.items ≡ tokens.old.items ++ option_to_list token) }
-    ensures some { OnErr result (0 < length (option_to_list token)) }
-{
-    match token {
-        Some(token) => match tokens.push(token) {
-            Ok(()) => Ok(()),
-            Err(AllocFailed { .. }) => Err(AllocError),
-        },
-        None => Ok(()),
-    }
-}
-
-/// The same as `put`, with the error of a text.
-pub fn add(tokens: &mut Vec<Token>, token: Option<Token>) -> Result<(), LexError>
-    ensures ok { OnOk result (tokens.new.items ≡ tokens.old.items ++ option_to_list token) }
-    ensures err { IfErr result (λ e. e ≡ LexError.NoMemory) }
-{
-    match put(tokens, token) {
-        Ok(()) => Ok(()),
-        Err(AllocError) => Err(LexError::NoMemory),
-    }
-}
-
 /// Puts a token at the end, with the error of a text.
-fn push(tokens: &mut Vec<Token>, token: Token) -> Result<(), LexError>
+pub fn push(tokens: &mut Vec<Token>, token: Token) -> Result<(), LexError>
     ensures ok { OnOk result (tokens.new.items ≡ tokens.old.items ++ token ∷ []) }
     ensures err { IfErr result (λ e. e ≡ LexError.NoMemory) }
+    ensures kept { OnErr result (tokens.new.items ≡ tokens.old.items) }
 {
     match tokens.push(token) {
         Ok(()) => Ok(()),
@@ -192,25 +141,27 @@ fn push(tokens: &mut Vec<Token>, token: Token) -> Result<(), LexError>
     }
 }
 
-/// The same as `lexeme`, which puts the token at the end at once.
-fn read_lexeme(
+/// Puts the token of what stands at the front of the bytes behind the others, where it has one, and answers how many bytes it has.
+pub fn put_front(
     alloc: Global,
     tokens: &mut Vec<Token>,
+    front: Front,
     bytes: &[u8],
     at: usize,
     line: u64,
 ) -> Result<usize, LexError>
     requires some { 0 < length bytes.now }
     requires room { at + length bytes.now < 2 ^ 64 }
+    requires front { front ≡ front_of (get_or bytes.now 0 0) (drop 1 bytes.now) }
+    requires fits { FitsIn front (length bytes.now) }
     ensures ok { IfOk result (λ n. (t : Option Token) × (cut_front bytes.now line at ≡ Ok (n, t))
         × (tokens.new.items ≡ tokens.old.items ++ option_to_list t)) }
     ensures err { IfErr result (λ e. Fails e (cut_front bytes.now line at)) }
+    ensures kept { OnErr result (tokens.new.items ≡ tokens.old.items) }
+    ensures token { IfErr result (λ e. e ≡ LexError.NoMemory → HasToken (cut_front bytes.now line at)) }
     ensures fits { IfOk result (λ n. (0 < n) × (n ≤ length bytes.now)) }
 {
-    let [first, rest @ ..] = bytes else {
-        unreachable!()
-    };
-    match front_at(*first, rest) {
+    match front {
         Front::Blank(len) => Ok(len),
         Front::Name(len) => match word(alloc, &bytes[..len], at, line) {
             Ok(token) => {
@@ -232,6 +183,27 @@ fn read_lexeme(
         }
         Front::Bad => Err(LexError::BadByte { line }),
     }
+}
+
+/// The same of the bytes alone.
+pub fn read_lexeme(
+    alloc: Global,
+    tokens: &mut Vec<Token>,
+    bytes: &[u8],
+    at: usize,
+    line: u64,
+) -> Result<usize, LexError>
+    requires some { 0 < length bytes.now }
+    requires room { at + length bytes.now < 2 ^ 64 }
+    ensures ok { IfOk result (λ n. (t : Option Token) × (cut_front bytes.now line at ≡ Ok (n, t))
+        × (tokens.new.items ≡ tokens.old.items ++ option_to_list t)) }
+    ensures err { IfErr result (λ e. Fails e (cut_front bytes.now line at)) }
+    ensures fits { IfOk result (λ n. (0 < n) × (n ≤ length bytes.now)) }
+{
+    let [first, rest @ ..] = bytes else {
+        unreachable!()
+    };
+    put_front(alloc, tokens, front_at(*first, rest), bytes, at, line)
 }
 
 /// The line behind a byte.

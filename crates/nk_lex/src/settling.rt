@@ -12,6 +12,10 @@ ghost use Rattle.std.specs.Prelude.{
   length,
   Ok,
   IfOk,
+  IfSome,
+  is_some,
+  get_or,
+  drop,
   OnErr,
   OnOk,
   false,
@@ -20,7 +24,7 @@ ghost use Rattle.nk_lex.specs.declared.token.LexError.TheVariants.{NoMemory};
 ghost use Rattle.nk_lex.specs.declared.unfinished.Pending.TheVariants.{Fault, Held};
 ghost use Rattle.std.specs.List.{list_all};
 ghost use Rattle.nk_lex.specs.Classes.{is_digit, is_name_byte, not_line_feed};
-ghost use Rattle.nk_lex.specs.Lex.{largest, IsFaultOfText, Returns};
+ghost use Rattle.nk_lex.specs.Lex.{front_of, largest, FitsIn, IsFaultOfText, Returns};
 ghost use Rattle.nk_lex.specs.Kept.{pending_of, IsPendingWithin};
 ghost use Rattle.nk_lex.specs.NextPiece.{
   end_answer,
@@ -41,7 +45,8 @@ ghost use Rattle.nk_lex.specs.NextPiece.{
 ghost use Rattle.nk_lex.specs.Pieces.{begins_longer, held_of, is_open, settle};
 
 use crate::classes::{digits_len, is_digit, is_name_byte, is_name_start, is_white, line_len};
-use crate::lexemes::{add, lexeme, line_past, plain, put, value_past};
+use crate::front::{Front, front_at};
+use crate::lexemes::{line_past, plain, push, put_front, read_lexeme, value_past};
 use crate::unfinished::Pending;
 use crate::{Kind, LARGEST, LexError, Token};
 use std::alloc::{AllocError, Global};
@@ -84,29 +89,36 @@ fn begins_longer(byte: u8) -> bool
 }
 
 /// The lexeme that begins with this byte takes all the others, and a further one could make it longer.
-fn is_open(first: u8, rest: &[u8]) -> bool
+fn is_open(first: u8, rest: &[u8], front: Front) -> bool
+    requires { front ≡ front_of first rest.now }
     ensures { result ≡ is_open first rest.now }
 {
     if is_white(first) {
-        false
-    } else if first == b'#' {
-        has_no_feed(rest)
-    } else if is_name_start(first) {
-        are_name_bytes(rest)
-    } else if is_digit(first) {
-        are_digits(rest)
-    } else {
-        begins_longer(first) && rest.is_empty()
+        return false;
+    }
+    match front {
+        Front::Blank(len) => len > rest.len(),
+        Front::Name(len) => len > rest.len(),
+        Front::Number(len) => len > rest.len(),
+        Front::Symbol(..) => begins_longer(first) && rest.is_empty(),
+        Front::Bad => begins_longer(first) && rest.is_empty(),
     }
 }
 
-/// A lexeme that no byte makes longer stands at the front.
-fn has_whole(bytes: &[u8]) -> bool
-    ensures { result ≡ has_whole bytes.now }
+/// What stands at the front, where it is a lexeme that no byte makes longer.
+fn whole_front(bytes: &[u8]) -> Option<Front>
+    ensures whole { is_some result ≡ has_whole bytes.now }
+    ensures front { IfSome result (λ f. f ≡ front_of (get_or bytes.now 0 0) (drop 1 bytes.now)) }
+    ensures fits { IfSome result (λ f. FitsIn f (length bytes.now)) }
 {
-    match bytes {
-        [first, rest @ ..] => !is_open(*first, rest),
-        [] => false,
+    let [first, rest @ ..] = bytes else {
+        return None;
+    };
+    let front = front_at(*first, rest);
+    if is_open(*first, rest, front) {
+        None
+    } else {
+        Some(front)
     }
 }
 
@@ -194,19 +206,13 @@ fn settle(
     let mut tokens = before;
     let mut here = line;
     let mut from = 0;
-    'lexemes: while has_whole(&bytes[from..]) {
-        if is_white(bytes[from]) {
-            here = line_past(here, bytes[from]);
-            from += 1;
-        } else {
-            match lexeme(alloc, &bytes[from..], at + from, here) {
-                Ok((len, token)) => {
-                    put(&mut tokens, token)?;
-                    here = line_past(here, bytes[from]);
-                    from += len;
-                }
-                Err(error) => return stop(alloc, tokens, here, error),
+    'lexemes: while let Some(front) = whole_front(&bytes[from..]) {
+        match put_front(alloc, &mut tokens, front, &bytes[from..], at + from, here) {
+            Ok(len) => {
+                here = line_past(here, bytes[from]);
+                from += len;
             }
+            Err(error) => return stop(alloc, tokens, here, error),
         }
     }
     opened(alloc, &bytes[from..], at + from, here, tokens)
@@ -327,8 +333,7 @@ fn number_ends(
     }
     let at = fed + len;
     let mut tokens = Vec::new(alloc);
-    let token = plain(alloc, Kind::Number, start, at - start, line, value);
-    put(&mut tokens, Some(token))?;
+    tokens.push(plain(alloc, Kind::Number, start, at - start, line, value))?;
     settle(alloc, &piece[len..], at, line, tokens)
 }
 
@@ -367,9 +372,9 @@ fn number_alone(
         return Err(LexError::NumberTooLarge { line });
     }
     let mut tokens = Vec::new(alloc);
-    add(
+    push(
         &mut tokens,
-        Some(plain(alloc, Kind::Number, at, len, line, value)),
+        plain(alloc, Kind::Number, at, len, line, value),
     )?;
     Ok(tokens)
 }
@@ -383,7 +388,6 @@ fn held_alone(alloc: Global, held: &[u8], at: usize, line: u64) -> Result<Vec<To
     if held.is_empty() {
         return Ok(tokens);
     }
-    let (_, token) = lexeme(alloc, held, at, line)?;
-    add(&mut tokens, token)?;
+    read_lexeme(alloc, &mut tokens, held, at, line)?;
     Ok(tokens)
 }
