@@ -99,11 +99,11 @@ impl<'a> TableSink for TextSink<'a> {
     ghost use Rattle.nk_field.specs.Packet.{FieldTable};
     ghost use Rattle.nk_topo.specs.Topology.{Topology};
     ghost use Rattle.nk_table.specs.declared.Table.{Table};
-    ghost use Rattle.nk_tabtext.specs.Written.{IsWritten};
+    ghost use Rattle.nk_tabtext.specs.Written.{HasWritten};
     ghost use Rattle.nk.specs.Handed.{none_written, joined_written};
 
-    ghost takes = { λ s more t. (fields : FieldTable) (topo : Topology) (before : List Table) → IsWritten fields topo before s.writer
-        → IsWritten fields topo (before ++ more) t.writer };
+    ghost takes = { λ s more t. (fields : FieldTable) (topo : Topology) (before : List Table) → HasWritten fields topo before s.writer
+        → HasWritten fields topo (before ++ more) t.writer };
 
     fn take(&mut self, table: Table) -> Result<(), AllocError> {
         self.writer.write(&table)

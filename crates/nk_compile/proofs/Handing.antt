@@ -15,7 +15,7 @@ use Rattle.nk_names.specs.Accepted.{IsAccepted}
 use Rattle.nk_compile.specs.Answers.{IsMade, IsError, IsNoAnswer}
 use Rattle.nk_compile.specs.Counted.{HasTagCount, HasTagSets, IsHanded}
 use Rattle.nk_compile.specs.Headline.{IsCompiled}
-use Rattle.nk_compile.specs.Preparing.{AreEnds, IsNumbered, IsNumberedByName}
+use Rattle.nk_compile.specs.Preparing.{AreLinkEnds, IsNumberedPolicy, IsNumberedByName}
 use Rattle.nk_compile.specs.WholeTable.{link_end}
 use Rattle.nk_compile.specs.declared.numbered.Numbered.{Numbered}
 use Rattle.nk_compile.specs.declared.refusal.CompileError.{CompileError}
@@ -53,8 +53,8 @@ error_named program name p named (Refused r) h = reason_named program name p nam
 
 -- a named policy's numbers stand over this topology
 pub numbered_at : (program : Program) (name : List ℕ) (n : Numbered) (topo : Topology) → program.topo ≡ topo → (is : IsNumberedByName program name n)
-    → IsNumbered program.fields topo is.policy n
-numbered_at program name n topo same is = subst (λ t. IsNumbered program.fields t is.policy n) same is.numbered
+    → IsNumberedPolicy program.fields topo is.policy n
+numbered_at program name n topo same is = subst (λ t. IsNumberedPolicy program.fields t is.policy n) same is.numbered
 
 -- what is made of them over it was handed over for the name
 pub handed : {E : Type 0} (program : Program) (name : List ℕ) (n : Numbered) (r : Result ℕ E) (topo : Topology) → program.topo ≡ topo →
@@ -70,8 +70,8 @@ handed program name n (Err e) topo same is Taken made counted = tt
 
 -- where a policy's links end, for as many marks as are counted
 pub ends_for : (p : Policy) (n count : ℕ) (ends : List (Option ℕ)) → n ≡ count → length ends ≡ n →
-    ((l : ℕ) → l < n → get_or ends l None ≡ link_end p l) → AreEnds p count ends
-ends_for p n count ends same len each = subst (λ m. AreEnds p m ends) same (record { len = len; each = each })
+    ((l : ℕ) → l < n → get_or ends l None ≡ link_end p l) → AreLinkEnds p count ends
+ends_for p n count ends same len each = subst (λ m. AreLinkEnds p m ends) same (record { len = len; each = each })
 
 -- a named policy's numbers are as many as its tag sets
 pub counted_by_name : (program : Program) (name : List ℕ) (n : Numbered) (k : ℕ) → k ≡ length n.tags → IsNumberedByName program name n

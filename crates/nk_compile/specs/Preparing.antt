@@ -30,15 +30,15 @@ pub record IsPrepared (fields : FieldTable) (topo : Topology) (tag : ℕ) (p : P
   pub differ : HasEachSetOnce b.sets
 
 -- for each mark below so many the switch where the policy's link literal with it ends, if there is one
-pub record AreEnds (p : Policy) (count : ℕ) (ends : List (Option ℕ)) : Type 0 where
+pub record AreLinkEnds (p : Policy) (count : ℕ) (ends : List (Option ℕ)) : Type 0 where
   pub len : length ends ≡ count
   pub each : (l : ℕ) → l < count → slice_index_or ends l None ≡ link_end p l
 
 -- a prepared policy with the numbers of its tag sets in order, at most as many as the tag has values above 0
-pub record IsNumbered (fields : FieldTable) (topo : Topology) (p : Policy) (n : Numbered) : Type 0 where
+pub record IsNumberedPolicy (fields : FieldTable) (topo : Topology) (p : Policy) (n : Numbered) : Type 0 where
   pub tag : ℕ
   pub prepared : IsPrepared fields topo tag p n.prepared
-  pub ends : AreEnds p (length n.prepared.states) n.ends
+  pub ends : AreLinkEnds p (length n.prepared.states) n.ends
   pub numbers : AreNumbers n.prepared.sets n.prepared.levels.levels n.tags
   pub few : length n.tags ≤ slice_index fields.maxima tag
 
@@ -48,7 +48,7 @@ pub record IsNumberedByName (program : Program) (name : List ℕ) (n : Numbered)
   pub policy : Policy
   pub named : policy_named program name ≡ Some policy
   pub held : IsWellFormed program.fields policy
-  pub numbered : IsNumbered program.fields program.topo policy n
+  pub numbered : IsNumberedPolicy program.fields program.topo policy n
 
 -- why a policy is refused before its tags are numbered; want of memory says nothing
 abbrev pub IsEarlyError : FieldTable → Topology → Policy → CompileError → Type 0

@@ -7,7 +7,7 @@ ghost use Rattle.nk_table.specs.declared.Table.{Table};
 ghost use Rattle.nk_names.specs.WellFormed.{IsWellFormed};
 ghost use Rattle.nk_compile.specs.Answers.{IsMade, IsError};
 ghost use Rattle.nk_compile.specs.Counted.{HasTagSets};
-ghost use Rattle.nk_compile.specs.Preparing.{IsNumbered};
+ghost use Rattle.nk_compile.specs.Preparing.{IsNumberedPolicy};
 
 use crate::counted::Counted;
 use crate::ends::link_ends;
@@ -42,7 +42,7 @@ pub fn number_tags(
 ) -> Result<Numbered, CompileError>
     requires held { IsWellFormed fields.now (tree_of p.now) }
     requires room { (f : ℕ) → slice_index fields.now.maxima f + 1 < 2 ^ 64 }
-    ensures ok { IfOk result (IsNumbered fields.now topo.now (tree_of p.now)) }
+    ensures ok { IfOk result (IsNumberedPolicy fields.now topo.now (tree_of p.now)) }
     ensures error { IfErr result (IsError fields.now topo.now (tree_of p.now)) }
 {
     let Some(tag) = fields.tag() else {
@@ -65,10 +65,10 @@ pub fn tables_to<S: TableSink>(
     topo: &Topo,
     sink: &mut S,
 ) -> Result<u64, AllocError>
-    requires numbered { (fields : FieldTable) × (p : Policy) × IsNumbered fields topo.now p numbered }
-    ensures made { (fields : FieldTable) (p : Policy) → IsNumbered fields topo.now p numbered → OnOk result ((ts : Items Table)
+    requires numbered { (fields : FieldTable) × (p : Policy) × IsNumberedPolicy fields topo.now p numbered }
+    ensures made { (fields : FieldTable) (p : Policy) → IsNumberedPolicy fields topo.now p numbered → OnOk result ((ts : Items Table)
         × S.takes sink.old ts sink.new × IsMade fields topo.now p (record { fields = fields; topo = topo.now; tables = ts })) }
-    ensures counted { (fields : FieldTable) (p : Policy) → IsNumbered fields topo.now p numbered → IfOk result (HasTagSets fields topo.now p) }
+    ensures counted { (fields : FieldTable) (p : Policy) → IsNumberedPolicy fields topo.now p numbered → IfOk result (HasTagSets fields topo.now p) }
 {
     let ends = numbered.ends;
     let tags = numbered.tags;

@@ -9,7 +9,7 @@ ghost use Rattle.nk_names.specs.Accepted.{IsStartPacket};
 ghost use Rattle.nk_determ.specs.Sets.{SetsGrow};
 ghost use Rattle.nk_tag.specs.Numbers.{AreNumbers};
 ghost use Rattle.nk_compile.specs.NumberedBehind.{tags_behind, IsTableBehind};
-ghost use Rattle.nk_compile.specs.Preparing.{AreEnds, IsPrepared};
+ghost use Rattle.nk_compile.specs.Preparing.{AreLinkEnds, IsPrepared};
 ghost use Rattle.nk_compile.specs.Ready.{sets_of, IsClear, IsReady};
 
 use crate::ends::link_ends;
@@ -36,10 +36,10 @@ fn tag_tables<S: TableSink>(
     sink: &mut S,
 ) -> Result<(), AllocError>
     requires ready { (first : ℕ) × (fields : FieldTable) × (p : Policy) × (tag : ℕ) × IsClear fields topo.now tag p
-        × AreEnds p (length states.now) ends.now × IsReady first fields topo.now p st.old ss.old states.now tags.now }
+        × AreLinkEnds p (length states.now) ends.now × IsReady first fields topo.now p st.old ss.old states.now tags.now }
     ensures { OnOk result ((ts : Items Table) × S.takes sink.old ts sink.new
         × ((first : ℕ) (fields : FieldTable) (p : Policy) (tag : ℕ) → IsClear fields topo.now tag p
-        → AreEnds p (length states.now) ends.now → IsReady first fields topo.now p st.old ss.old states.now tags.now
+        → AreLinkEnds p (length states.now) ends.now → IsReady first fields topo.now p st.old ss.old states.now tags.now
         → (t : Tables) → t.fields ≡ fields → t.topo ≡ topo.now → t.tables ≡ ts
         → IsTableBehind first fields topo.now (IsStartPacket fields topo.now) p t)) }
 {
@@ -88,11 +88,11 @@ pub fn print_to<S: TableSink>(
     sink: &mut S,
 ) -> Result<(), AllocError>
     requires prepared { (fields : FieldTable) × (p : Policy) × (tag : ℕ) × IsPrepared fields topo.now tag p prepared
-        × AreEnds p (length prepared.states) ends.now }
+        × AreLinkEnds p (length prepared.states) ends.now }
     requires numbers { AreNumbers prepared.sets prepared.levels.levels tags.now }
     ensures { OnOk result ((ts : Items Table) × S.takes sink.old ts sink.new
         × ((fields : FieldTable) (p : Policy) (tag : ℕ) → IsPrepared fields topo.now tag p prepared
-        → AreEnds p (length prepared.states) ends.now → (t : Tables) → t.fields ≡ fields → t.topo ≡ topo.now → t.tables ≡ ts
+        → AreLinkEnds p (length prepared.states) ends.now → (t : Tables) → t.fields ≡ fields → t.topo ≡ topo.now → t.tables ≡ ts
         → IsTableBehind first fields topo.now (IsStartPacket fields topo.now) p t)) }
 {
     let mut st = prepared.store;

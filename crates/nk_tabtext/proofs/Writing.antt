@@ -14,7 +14,7 @@ use Rattle.nk_table.specs.declared.Table.{Table}
 use Rattle.nk_table.specs.Rules.{rows_of, groups_of}
 use Rattle.nk_tabtext.specs.declared.writer.TableWriter.{TableWriter}
 use Rattle.nk_tabtext.specs.Text.{fields_text, group_text, have_prefix, row_text, section_text, table_bytes, tag_text, topology_text, version_of, version_text}
-use Rattle.nk_tabtext.specs.Written.{IsWritten, head_text, own_section_text, some_prefix, switch_line_text, version_with}
+use Rattle.nk_tabtext.specs.Written.{HasWritten, head_text, own_section_text, some_prefix, switch_line_text, version_with}
 use Rattle.nk_tabtext.proofs.Heads.{found_over_numbers, joined_each}
 
 -- ---- the tables of switches in order
@@ -151,11 +151,11 @@ module _ (fields : FieldTable) (topo : Topology) (tables : List Table) (t : Tabl
       last_apart v w x y z s = simp append_assoc
 
   -- the writer has written one more table: first it told of its prefixes, and then it put the table behind its text
-  pub written_more : (w v u : TableWriter) → IsWritten fields topo tables w → v.fields.now ≡ w.fields.now
+  pub written_more : (w v u : TableWriter) → HasWritten fields topo tables w → v.fields.now ≡ w.fields.now
       → v.prefixes ≡ (w.prefixes || have_prefix w.fields.now t.rows)
       → ((rest : List ℕ) → w.text.items ≡ version_text (version_with w.prefixes) ++ rest → v.text.items ≡ version_text (version_with v.prefixes) ++ rest)
       → u.fields.now ≡ v.fields.now → u.prefixes ≡ v.prefixes → u.text.items ≡ v.text.items ++ own_section_text v.fields.now t
-      → IsWritten fields topo (tables ++ t ∷ []) u
+      → HasWritten fields topo (tables ++ t ∷ []) u
   written_more w v u before same more told kept_fields kept put = record {
     same_fields = kept_fields ∙ same ∙ before.same_fields;
     prefixes = kept ∙ prefixes_more w.prefixes v.prefixes before.prefixes (more ∙ ap (λ f. w.prefixes || have_prefix f t.rows) before.same_fields);

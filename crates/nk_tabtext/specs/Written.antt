@@ -34,7 +34,7 @@ abbrev pub version_with : Bool → ℕ
 version_with prefixes = if prefixes then 2 else 1
 
 -- the writer has put these tables, in this order, behind the lines of these fields and this topology
-pub record IsWritten (fields : FieldTable) (topo : Topology) (tables : List Table) (w : TableWriter) : Type 0 where
+pub record HasWritten (fields : FieldTable) (topo : Topology) (tables : List Table) (w : TableWriter) : Type 0 where
   -- it prints by these fields
   pub same_fields : w.fields.now ≡ fields
   -- it knows whether some match so far is a prefix

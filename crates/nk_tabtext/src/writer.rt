@@ -4,7 +4,7 @@ ghost use Rattle.nk_field.specs.Packet.{FieldTable};
 ghost use Rattle.nk_topo.specs.Topology.{Topology, IsTopology};
 ghost use Rattle.nk_table.specs.declared.Table.{Table};
 ghost use Rattle.nk_tabtext.specs.Text.{have_prefix, table_bytes, version_text};
-ghost use Rattle.nk_tabtext.specs.Written.{IsWritten, version_with};
+ghost use Rattle.nk_tabtext.specs.Written.{HasWritten, version_with};
 
 use crate::{head, rules};
 use nk_field::Fields;
@@ -38,7 +38,7 @@ fn set_second(text: &mut Vec<u8>)
 impl<'a> TableWriter<'a> {
     /// A text with its first lines and no table yet.
     pub fn new(alloc: Global, fields: &'a Fields, topo: &Topo) -> Result<Self, AllocError>
-        ensures { IfOk result (λ w. IsWritten fields.now topo.now [] w) }
+        ensures { IfOk result (λ w. HasWritten fields.now topo.now [] w) }
     {
         let mut text = Vec::new(alloc);
         head::head(&mut text, 1, fields, topo)?;
@@ -51,8 +51,8 @@ impl<'a> TableWriter<'a> {
 
     /// Puts the table of one more switch behind it.
     pub fn write(&mut self, table: &Table) -> Result<(), AllocError>
-        ensures { (fields : FieldTable) (topo : Topology) (tables : List Table) → IsWritten fields topo tables self.old
-            → OnOk result (IsWritten fields topo (tables ++ table.now ∷ []) self.new) }
+        ensures { (fields : FieldTable) (topo : Topology) (tables : List Table) → HasWritten fields topo tables self.old
+            → OnOk result (HasWritten fields topo (tables ++ table.now ∷ []) self.new) }
     {
         self.tell_prefixes(table);
         rules::own_section(&mut self.text, self.fields, table)
@@ -73,7 +73,7 @@ impl<'a> TableWriter<'a> {
 
     /// The whole text.
     pub fn end(self) -> Vec<u8>
-        ensures { (fields : FieldTable) (topo : Topology) (tables : List Table) → IsWritten fields topo tables self.entry → IsTopology topo
+        ensures { (fields : FieldTable) (topo : Topology) (tables : List Table) → HasWritten fields topo tables self.entry → IsTopology topo
             → map (λ t. t.switch) tables ≡ map (λ s. s.switch) topo.switches
             → result.items ≡ table_bytes (record { fields = fields; topo = topo; tables = tables }) }
     {

@@ -5,7 +5,7 @@ use Rattle.nk_policy.specs.Tree.{tree_of}
 use Rattle.nk_names.specs.ProgramValue.{ProgramValue}
 use Rattle.nk_names.specs.WellFormed.{IsWellFormed}
 use Rattle.nk_compile.specs.Answers.{IsError}
-use Rattle.nk_compile.specs.Preparing.{IsNumbered}
+use Rattle.nk_compile.specs.Preparing.{IsNumberedPolicy}
 use Rattle.nk_compile.proofs.Handing.{error_named}
 use Rattle.nk_compile.proofs.Naming.{named_well_formed, has_room}
 use Rattle.nk_compile.proofs.compilation.number.Goals as goal
@@ -27,7 +27,7 @@ returns-clause-ok c =
       policy = tree_of c.in_ok-p.p;
       named = named;
       held = named_well_formed c.args.program.now c.args.name.now (tree_of c.in_ok-p.p) c.laws.ensures named;
-      numbered = subst (λ (v : ProgramValue). IsNumbered v.fields v.topo (tree_of c.in_ok-p.p) n) c.program.view_is is;
+      numbered = subst (λ (v : ProgramValue). IsNumberedPolicy v.fields v.topo (tree_of c.in_ok-p.p) n) c.program.view_is is;
     }) c.number_tags.ensures.ok
 
 pub returns-clause-error : goal.returns-clause-error

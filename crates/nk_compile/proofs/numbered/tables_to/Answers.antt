@@ -2,7 +2,7 @@ use Rattle.std.proofs.Common.{refl, sym, subst, length}
 use Rattle.nk_names.specs.Accepted.{IsStartPacket}
 use Rattle.nk_tag.specs.Numbers.{AreNumbers}
 use Rattle.nk_compile.specs.Counted.{HasTagSets}
-use Rattle.nk_compile.specs.Preparing.{AreEnds}
+use Rattle.nk_compile.specs.Preparing.{AreLinkEnds}
 use Rattle.nk_compile.proofs.Levelled.{prepared_compilable, prepared_counted, prepared_few}
 use Rattle.nk_compile.proofs.Padding.{table_alone}
 use Rattle.nk_compile.proofs.numbered.tables_to.Goals as goal
@@ -14,7 +14,7 @@ print_to-requires-clause-prepared g c =
       c.requires.numbered.1,
       n.tag,
       n.prepared,
-      subst (AreEnds c.requires.numbered.1 (length c.args.numbered.prepared.states)) (sym c.as_slice.ensures) n.ends,
+      subst (AreLinkEnds c.requires.numbered.1 (length c.args.numbered.prepared.states)) (sym c.as_slice.ensures) n.ends,
     )
 
 pub print_to-requires-clause-numbers : goal.print_to-requires-clause-numbers
@@ -32,7 +32,7 @@ returns-clause-made g c = λ fields p n.
         compilable = prepared_compilable fields c.args.topo.now n.tag p c.args.numbered.prepared n.prepared;
         few = prepared_few fields c.args.topo.now n.tag p c.args.numbered.prepared n.prepared c.args.numbered.tags n.numbers _ refl few;
         printed = table_alone fields c.args.topo.now (IsStartPacket fields c.args.topo.now) p _ (made.2 fields p n.tag n.prepared
-            (subst (AreEnds p (length c.args.numbered.prepared.states)) (sym c.as_slice.ensures) n.ends) _ refl refl refl);
+            (subst (AreLinkEnds p (length c.args.numbered.prepared.states)) (sym c.as_slice.ensures) n.ends) _ refl refl refl);
       },
     )
 
