@@ -17,6 +17,7 @@ pub enum Front {
 }
 
 /// The lexeme at the front, as long as it can be.
+#[inline(always)]
 pub fn front_at(first: u8, rest: &[u8]) -> Front
     requires { length rest.now < 2 ^ 63 }
     ensures front { result ≡ front_of first rest.now }

@@ -100,36 +100,8 @@ fn text_of(name: &[u8]) -> &str
     }
 }
 
-/// The token of a name or a keyword.
-fn word(alloc: Global, name: &[u8], at: usize, line: u64) -> Result<Token, AllocError>
-    requires room { at + length name.now < 2 ^ 64 }
-    requires text { IsUtf8 name.now }
-    ensures { IfOk result
-        (λ t. t ≡ token (kind_of_name name.now) at (length name.now) line 0 name.now) }
-{
-    let text = Bytes::of_text(alloc, text_of(name))?;
-    Ok(Token {
-        kind: kind_of_name(name),
-        start: at,
-        end: at + name.len(),
-        line,
-        value: 0,
-        text,
-    })
-}
-
-/// The token of a number, or the fault that it is too large.
-fn number(alloc: Global, digits: &[u8], at: usize, line: u64) -> Result<Token, LexError>
-    requires room { at + length digits.now < 2 ^ 64 }
-    ensures { result ≡ number_of digits.now at (length digits.now) line }
-{
-    match value(digits) {
-        Some(value) => Ok(plain(alloc, Kind::Number, at, digits.len(), line, value)),
-        None => Err(LexError::NumberTooLarge { line }),
-    }
-}
-
 /// Puts a token at the end, with the error of a text.
+#[inline(always)]
 pub fn push(tokens: &mut Vec<Token>, token: Token) -> Result<(), LexError>
     ensures ok { OnOk result (tokens.new.items ≡ tokens.old.items ++ token ∷ []) }
     ensures err { IfErr result (λ e. e ≡ LexError.NoMemory) }
@@ -141,7 +113,62 @@ pub fn push(tokens: &mut Vec<Token>, token: Token) -> Result<(), LexError>
     }
 }
 
+/// Puts the token of a name or a keyword at the end. The only error is that memory ran out.
+#[inline(always)]
+fn put_word(
+    alloc: Global,
+    tokens: &mut Vec<Token>,
+    name: &[u8],
+    at: usize,
+    line: u64,
+) -> Result<(), LexError>
+    requires room { at + length name.now < 2 ^ 64 }
+    requires text { IsUtf8 name.now }
+    ensures ok { OnOk result (tokens.new.items
+        ≡ tokens.old.items ++ token (kind_of_name name.now) at (length name.now) line 0 name.now ∷ []) }
+    ensures err { IfErr result (λ e. e ≡ LexError.NoMemory) }
+    ensures kept { OnErr result (tokens.new.items ≡ tokens.old.items) }
+{
+    let text = Bytes::of_text(alloc, text_of(name))?;
+    let token = Token {
+        kind: kind_of_name(name),
+        start: at,
+        end: at + name.len(),
+        line,
+        value: 0,
+        text,
+    };
+    push(tokens, token)
+}
+
+/// Puts the token of a number at the end. The errors are that it is too large, and that memory ran out.
+#[inline(always)]
+fn put_number(
+    alloc: Global,
+    tokens: &mut Vec<Token>,
+    digits: &[u8],
+    at: usize,
+    line: u64,
+) -> Result<(), LexError>
+    requires room { at + length digits.now < 2 ^ 64 }
+    ensures ok { OnOk result ((t : Token) × (Ok t ≡ number_of digits.now at (length digits.now) line)
+        × (tokens.new.items ≡ tokens.old.items ++ t ∷ [])) }
+    ensures err { IfErr result (λ e. Fails e (number_of digits.now at (length digits.now) line)) }
+    ensures token { IfErr result (λ e. e ≡ LexError.NoMemory
+        → (t : Token) × (Ok t ≡ number_of digits.now at (length digits.now) line)) }
+    ensures kept { OnErr result (tokens.new.items ≡ tokens.old.items) }
+{
+    match value(digits) {
+        Some(value) => push(
+            tokens,
+            plain(alloc, Kind::Number, at, digits.len(), line, value),
+        ),
+        None => Err(LexError::NumberTooLarge { line }),
+    }
+}
+
 /// Puts the token of what stands at the front of the bytes behind the others, where it has one, and answers how many bytes it has.
+#[inline(always)]
 pub fn put_front(
     alloc: Global,
     tokens: &mut Vec<Token>,
@@ -163,20 +190,14 @@ pub fn put_front(
 {
     match front {
         Front::Blank(len) => Ok(len),
-        Front::Name(len) => match word(alloc, &bytes[..len], at, line) {
-            Ok(token) => {
-                push(tokens, token)?;
-                Ok(len)
-            }
-            Err(AllocError) => Err(LexError::NoMemory),
-        },
-        Front::Number(len) => match number(alloc, &bytes[..len], at, line) {
-            Ok(token) => {
-                push(tokens, token)?;
-                Ok(len)
-            }
-            Err(fault) => Err(fault),
-        },
+        Front::Name(len) => {
+            put_word(alloc, tokens, &bytes[..len], at, line)?;
+            Ok(len)
+        }
+        Front::Number(len) => {
+            put_number(alloc, tokens, &bytes[..len], at, line)?;
+            Ok(len)
+        }
         Front::Symbol(len, kind) => {
             push(tokens, plain(alloc, kind, at, len, line, 0))?;
             Ok(len)

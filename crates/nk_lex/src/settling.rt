@@ -89,6 +89,7 @@ fn begins_longer(byte: u8) -> bool
 }
 
 /// The lexeme that begins with this byte takes all the others, and a further one could make it longer.
+#[inline(always)]
 fn is_open(first: u8, rest: &[u8], front: Front) -> bool
     requires { front ≡ front_of first rest.now }
     ensures { result ≡ is_open first rest.now }
@@ -106,6 +107,7 @@ fn is_open(first: u8, rest: &[u8], front: Front) -> bool
 }
 
 /// What stands at the front, where it is a lexeme that no byte makes longer.
+#[inline(always)]
 fn whole_front(bytes: &[u8]) -> Option<Front>
     ensures whole { is_some result ≡ has_whole bytes.now }
     ensures front { IfSome result (λ f. f ≡ front_of (get_or bytes.now 0 0) (drop 1 bytes.now)) }
