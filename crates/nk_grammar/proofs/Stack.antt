@@ -1,11 +1,13 @@
 -- What is open, the innermost first, from a list that has it last.
-use Rattle.std.proofs.Common.{◌≡◌, ◌+◌, ◌<◌, Bool, List, [], ◌∷◌, ◌++◌, length, refl, sym, subst, arith}
+use Rattle.std.proofs.Common.{◌≡◌, ◌+◌, ◌-◌, ◌<◌, ◌≤◌, ◌∙◌, ℕ, Bool, true, false, List, [], ◌∷◌, ◌++◌, length, get_or, take, refl, sym, ap, subst, arith, Option}
 use Rattle.std.specs.Prelude.{Some, None}
+use Rattle.std.proofs.lemmas.List.{take_more}
 use Rattle.nk_grammar.specs.declared.frame.Frame.{Frame}
-use Rattle.nk_grammar.specs.Machine.{Open, group, HasNoNegation, done_at}
-use Rattle.nk_grammar.specs.Tree.{Tree, Trees}
+use Rattle.nk_grammar.specs.Terminal.{closing}
+use Rattle.nk_grammar.specs.Machine.{Open, group, negation, State, HasNoNegation, atom_ended, done_at, step_done}
+use Rattle.nk_grammar.specs.Tree.{Tree, Trees, not_of}
 use Rattle.nk_grammar.specs.declared.place.Place.TheVariants as place
-use Rattle.nk_grammar.specs.Reader.{open_of, stack_on, stack_of}
+use Rattle.nk_grammar.specs.Reader.{Follows, encloses, open_of, stack_on, stack_of}
 
 -- one more that is open stands first
 pub stack_push : (fs : List Open) (xs : List Frame) (x : Frame)
@@ -42,3 +44,36 @@ nothing_open b (x ∷ xs) t e = absurd (omega (arith, e))
 pub something_open : (b : Bool) (xs : List Frame) (t : Tree) → 0 < length xs
     → done_at (place.After b) (stack_of xs) t ≡ None
 something_open b xs t lt = done_with_open b (stack_of xs) t (omega (arith, lt, stack_length [] xs))
+
+-- one more of the code's list, before those of a front
+stack_take : (xs : List Frame) (i : ℕ) (x : Frame) → i < length xs
+    → stack_of (take (i + 1) xs) ≡ open_of (get_or xs i x) ∷ stack_of (take i xs)
+stack_take xs i x lt = ap stack_of (take_more xs i x lt) ∙ stack_push [] (take i xs) (get_or xs i x)
+
+-- the same of the last of a front
+pub encloses_before : (xs : List Frame) (n : ℕ) (x : Frame) → 0 < n → n ≤ length xs → x ≡ get_or xs (n - 1) x
+    → encloses (stack_of (take n xs)) ≡ encloses (open_of x ∷ stack_of (take (n - 1) xs))
+encloses_before xs n x some le is =
+    ap (λ k. encloses (stack_of (take k xs))) before ∙ ap encloses (stack_take xs (n - 1) x (omega arith))
+    ∙ ap (λ y. encloses (open_of y ∷ stack_of (take (n - 1) xs))) (sym is)
+  where
+    before : n ≡ (n - 1) + 1
+    before = omega arith
+
+-- where no parenthesis is open, none closes behind an atom
+pub none_closes : (fs : List Open) (t : Tree) (ts us : Trees) → encloses fs ≡ false → step_done (atom_ended t fs ts us) closing ≡ None
+none_closes [] t ts us e = refl
+none_closes (group xs ys ∷ fs) t ts us e = absurd (cc)
+none_closes (negation line ∷ fs) t ts us e = none_closes fs (not_of t line) ts us e
+
+-- where one is open, one closes behind an atom
+pub one_closes : (fs : List Open) (t : Tree) (ts us : Trees) → encloses fs ≡ true → step_done (atom_ended t fs ts us) closing ≡ None → ⊥
+one_closes [] t ts us e n = absurd (cc)
+one_closes (group xs ys ∷ fs) t ts us e n = absurd (cc)
+one_closes (negation line ∷ fs) t ts us e n = one_closes fs (not_of t line) ts us e n
+
+-- what is not refused is taken, whatever was before
+pub taken_whatever : (taken : Bool) (wanted : Option State) (old other new : State) → (wanted ≡ None → ⊥)
+    → Follows taken wanted old new → Follows taken wanted other new
+taken_whatever true wanted old other new n h = h
+taken_whatever false wanted old other new n h = absurd (n h.0)

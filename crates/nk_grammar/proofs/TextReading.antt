@@ -15,7 +15,7 @@ use Rattle.nk_grammar.specs.File.{Declaration, IsWritten}
 use Rattle.nk_grammar.specs.FileMachine.{Returns, rest_of_file, ended_at, text_ended, file_of}
 use Rattle.nk_grammar.specs.FileReader.{declaration_done, phase_in}
 use Rattle.nk_grammar.specs.TextProgress.{TextProgress, Going, Stopped, rest_by, IsTextRead, IsTextStopped}
-use Rattle.nk_grammar.specs.TextReader.{TakesTextOn, TakesToken, progress_in}
+use Rattle.nk_grammar.specs.TextReader.{TakesTextOn, TakesToken, TakesTokenInside, progress_in}
 use Rattle.nk_grammar.proofs.Behind.{ended_behind, judged_behind, refused_behind}
 use Rattle.nk_grammar.proofs.Written.{written_of}
 
@@ -28,6 +28,11 @@ takes_on (known.Sound r) (known.Sound s) t o line h ds us =
     sym (ap (λ x. and_then x (λ x. rest_of_file us x t.line)) (judged_behind ds t.line (phase_in r) (phase_in s) (declaration_done o) (terminal_of t) h.0))
 takes_on (known.Sound r) (known.Stopped e) t o line h ds us = absurd h
 takes_on (known.Stopped e) j t o line h ds us = ap (λ x. rest_by (progress_in x t.line) (ds ++ declaration_done o) us) h.0
+
+-- a token is taken inside a policy
+pub takes_inside : (k j : KnownText) (t : Token) (line : ℕ) → TakesTokenInside k j t (Ok true)
+    → TakesTextOn (progress_in k line) t (progress_in j t.line) []
+takes_inside k j t line h = takes_on k j t None line h
 
 -- a token has a fault
 pub takes_fault : (k j : KnownText) (t : Token) (e : GrammarError) (line : ℕ) → (e ≡ error.NoMemory → ⊥) → TakesToken k j t (Err e)

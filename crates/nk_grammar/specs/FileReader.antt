@@ -1,5 +1,5 @@
 -- What the code's reader of texts is to the machine.
-use Rattle.std.specs.Prelude.{◌≡◌, List, [], ◌∷◌, Option, Some, None, Err, ⊤}
+use Rattle.std.specs.Prelude.{◌≡◌, ℕ, Bool, true, false, List, [], ◌∷◌, Option, Some, None, Ok, Err, ⊤}
 use Rattle.std.specs.declared.result.Result.{Result}
 use Rattle.nk_grammar.specs.declared.decl.Decl.{Decl}
 use Rattle.nk_grammar.specs.declared.decl.GrammarError.{GrammarError}
@@ -7,10 +7,11 @@ use Rattle.nk_grammar.specs.declared.decl.GrammarError.TheVariants as error
 use Rattle.nk_grammar.specs.declared.decl.Stage.{Stage}
 use Rattle.nk_grammar.specs.declared.decl.Stage.TheVariants as stage
 use Rattle.nk_grammar.specs.declared.text.Reader.{Reader}
-use Rattle.nk_grammar.specs.Machine.{State}
+use Rattle.nk_grammar.specs.Terminal.{Terminal}
+use Rattle.nk_grammar.specs.Machine.{State, step}
 use Rattle.nk_grammar.specs.Reader.{reader_state}
 use Rattle.nk_grammar.specs.File.{Declaration, declaration_of}
-use Rattle.nk_grammar.specs.FileMachine.{Phase, between, name_wanted, field_named, switch_read, switch_numbered, port_wanted, port_read, link_read, by_wanted, policy_named, in_policy}
+use Rattle.nk_grammar.specs.FileMachine.{Returns, judged, read_one, reading, Phase, between, name_wanted, field_named, switch_read, switch_numbered, port_wanted, port_read, link_read, by_wanted, policy_named, in_policy}
 
 -- what stands before the next token
 abbrev pub phase_of : Stage → State → Phase
@@ -44,3 +45,20 @@ declaration_done (Some d) = declaration_of d ∷ []
 abbrev pub StaysWithoutMemory : {X V : Type 0} → Result X GrammarError → V → V → Type 0
 StaysWithoutMemory (Err error.NoMemory) old new = new ≡ old
 StaysWithoutMemory r old new = ⊤
+
+-- the token is taken as the machine takes it, or nothing changes where memory ran out
+abbrev pub Takes : Phase → Phase → ℕ → Terminal → Result (Option Decl) GrammarError → Type 0
+Takes old new line t result =
+    Returns (λ d. reading new (declaration_done d)) result (judged line (read_one (reading old []) t))
+    × StaysWithoutMemory result old new
+
+-- if a policy is read, it doesn't go on with the token
+abbrev pub StopsPolicy : Phase → Terminal → Type 0
+StopsPolicy (in_policy k w line s) t = step s t ≡ None
+StopsPolicy p t = ⊤
+
+-- the token is taken so, inside a policy, and completes nothing; or no policy goes on with it, and nothing changed
+abbrev pub TakesInside : Phase → Phase → ℕ → Terminal → Result Bool GrammarError → Type 0
+TakesInside old new line t (Ok true) = Takes old new line t (Ok None)
+TakesInside old new line t (Ok false) = (new ≡ old) × StopsPolicy old t
+TakesInside old new line t (Err e) = Takes old new line t (Err e)

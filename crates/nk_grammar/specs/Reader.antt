@@ -1,13 +1,11 @@
 -- What the code's reader of policies is to the machine.
-use Rattle.std.specs.Prelude.{◌≡◌, ◌<◌, ℕ, List, [], ◌∷◌, Option, Some, None, Ok, Err, vec_capacity, vec_len, ⊤}
+use Rattle.std.specs.Prelude.{◌≡◌, ◌<◌, ℕ, List, [], ◌∷◌, Bool, true, false, Option, Some, None, Ok, Err, vec_capacity, vec_len, ⊤}
 use Rattle.std.specs.declared.result.Result.{Result}
 use Rattle.nk_grammar.specs.declared.ast.Ast.{Ast}
 use Rattle.nk_grammar.specs.declared.frame.Frame.{Frame}
 use Rattle.nk_grammar.specs.declared.frame.Frame.TheVariants as frame
-use Rattle.nk_grammar.specs.declared.frame.Took.{Took}
-use Rattle.nk_grammar.specs.declared.frame.Took.TheVariants as took
 use Rattle.nk_grammar.specs.declared.reader.PolicyReader.{PolicyReader}
-use Rattle.nk_grammar.specs.Tree.{Tree, Trees, with_part, tree_of, trees_of}
+use Rattle.nk_grammar.specs.Tree.{Trees, with_part, tree_of, trees_of}
 use Rattle.nk_grammar.specs.Machine.{Open, group, negation, State, state, HasNoNegation}
 
 -- what a frame of the code is to the machine
@@ -54,13 +52,18 @@ abbrev pub PopsNegation : {B : Type 0} → Option (B × ℕ) → List Open → L
 PopsNegation (Some p) old new = old ≡ negation p.1 ∷ new
 PopsNegation None old new = (new ≡ old) × HasNoNegation new
 
--- the token was taken as the machine takes it, or refused where it refuses it, with the policy if it may end before
-abbrev pub Follows : Took → Option State → Option Tree → State → Type 0
-Follows took.Taken wanted end new = wanted ≡ Some new
-Follows (took.Ended p) wanted end new = (wanted ≡ None) × (end ≡ Some (tree_of p))
-Follows took.Refused wanted end new = (wanted ≡ None) × (end ≡ None)
+-- a parenthesis is open
+abbrev pub encloses : List Open → Bool
+encloses [] = false
+encloses (group ts us ∷ fs) = true
+encloses (negation line ∷ fs) = encloses fs
+
+-- the token was taken as the machine takes it, or the machine refuses it and nothing changed
+abbrev pub Follows : Bool → Option State → State → State → Type 0
+Follows true wanted old new = wanted ≡ Some new
+Follows false wanted old new = (wanted ≡ None) × (new ≡ old)
 
 -- so, unless memory ran out
-abbrev pub FollowsOk : {E : Type 0} → Result Took E → Option State → Option Tree → State → Type 0
-FollowsOk (Ok t) wanted end new = Follows t wanted end new
-FollowsOk (Err e) wanted end new = ⊤
+abbrev pub FollowsOk : {E : Type 0} → Result Bool E → Option State → State → State → Type 0
+FollowsOk (Ok taken) wanted old new = Follows taken wanted old new
+FollowsOk (Err e) wanted old new = ⊤

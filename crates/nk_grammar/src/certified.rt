@@ -1,5 +1,7 @@
 //! A text with a certificate, read token by token up to its first fault.
-ghost use Rattle.std.specs.Prelude.{◌≡◌, ◌∷◌, [], Ok, None, IfErr, Some};
+ghost use Rattle.std.specs.Prelude.{◌≡◌, ◌∷◌, ℕ, true, [], Ok, None, IfErr, IfOk, Some};
+ghost use Rattle.std.specs.declared.vec.Vec.{Vec};
+ghost use Rattle.std.specs.declared.alloc.Global.{Global};
 ghost use Rattle.nk_grammar.specs.Certified.{certified, row_value};
 ghost use Rattle.nk_grammar.specs.CertifiedMachine.{
   certified_at_end,
@@ -13,19 +15,24 @@ ghost use Rattle.nk_grammar.specs.CertifiedMachine.{
   number_wanted,
   numbers_read,
   row_in,
-  row_on,
+  row_done,
   with_row,
 };
 ghost use Rattle.nk_grammar.specs.CertifiedProgress.{declarations_by, rows_by, with_done};
-ghost use Rattle.nk_grammar.specs.CertifiedReader.{certified_phase_in, completing};
+ghost use Rattle.nk_grammar.specs.CertifiedReader.{
+  CertifiedTakes,
+  CertifiedTakesInside,
+  StopsRow,
+  certified_phase_in,
+  completing,
+};
 ghost use Rattle.nk_grammar.specs.FileMachine.{Returns, first_reading};
 ghost use Rattle.nk_grammar.specs.FileReader.{StaysWithoutMemory, declaration_done};
-ghost use Rattle.nk_grammar.specs.Machine.{policy_ended, step};
+ghost use Rattle.nk_grammar.specs.Machine.{policy_ended};
 ghost use Rattle.nk_grammar.specs.Reader.{reader_state};
 ghost use Rattle.nk_grammar.specs.Terminal.{terminal_of};
 
 use crate::decl::{CertRow, Completed, Decl, GrammarError};
-use crate::frame::Took;
 use crate::parts::number_of;
 use crate::reader::PolicyReader;
 use crate::text::Reader;
@@ -108,20 +115,16 @@ impl SoundReader {
         Ok(done)
     }
 
-    /// A row's policy took a token.
-    fn go_in_row(
-        &mut self,
-        line: u64,
-        positions: Vec<u64>,
-        token: &Token,
-    ) -> Result<Option<Completed>, GrammarError>
-        ensures read { Returns (completing (certified_phase_in self.new)) result
-            (judged_certified token.now.line (Some (certifying
-            (in_row line positions.items (reader_state self.old.policy)) [] []))) }
+    /// A row's policy took a token, and goes on.
+    fn go_on_in_row(&self, token: &Token) -> Result<bool, GrammarError>
+        ensures read { (line : ℕ) (ns : Vec ℕ Global) → self.now.stage ≡ CertifiedStage.InRow line ns
+            → Returns (λ taken. certifying (certified_phase_in self.now) [] []) result
+            (judged_certified token.now.line (Some (certifying (in_row line ns.items (reader_state self.now.policy)) [] []))) }
+        ensures taken { IfOk result (λ taken. taken ≡ true) }
         ensures err { IfErr result (λ e. e ≡ GrammarError.TooDeep token.now.line) }
     {
         if self.policy.is_shallow() {
-            self.go(CertifiedStage::InRow(line, positions), None)
+            Ok(true)
         } else {
             Err(GrammarError::TooDeep { line: token.line })
         }
@@ -143,8 +146,47 @@ impl SoundReader {
         }
     }
 
-    /// One more token of a row's policy, or the first one behind it.
-    fn take_in_row(
+    /// One more token of a row's policy, if it goes on with it. What is read of the row stays where it is.
+    fn take_in_row(&mut self, alloc: Global, token: &Token) -> Result<bool, GrammarError>
+        ensures { (line : ℕ) (ns : Vec ℕ Global) → self.old.stage ≡ CertifiedStage.InRow line ns
+            → CertifiedTakesInside (in_row line ns.items (reader_state self.old.policy)) (certified_phase_in self.new) token.now.line
+            (terminal_of token.now) result }
+    {
+        match self.policy.take(alloc, token) {
+            Ok(true) => self.go_on_in_row(token),
+            Ok(false) => Ok(false),
+            Err(AllocError) => Err(GrammarError::NoMemory),
+        }
+    }
+
+    /// One more token of a policy before the certificate, if it goes on with it.
+    #[tactic(auto, using(crate::proofs::Certificates::declaring_judged))]
+    fn declare_inside(&mut self, alloc: Global, token: &Token) -> Result<bool, GrammarError>
+        requires stage { self.old.stage ≡ CertifiedStage.Declaring }
+        ensures { CertifiedTakesInside (certified_phase_in self.old) (certified_phase_in self.new) token.now.line
+            (terminal_of token.now) result }
+    {
+        match token.kind {
+            Kind::Certificate => Ok(false),
+            _ => self.reader.take_inside(alloc, token),
+        }
+    }
+
+    /// Reads one more token inside a policy, and says whether it was taken; else no policy goes on with it, and nothing changed. What
+    /// is taken completes nothing. An error is as `take` says.
+    pub fn take_inside(&mut self, alloc: Global, token: &Token) -> Result<bool, GrammarError>
+        ensures { CertifiedTakesInside (certified_phase_in self.old) (certified_phase_in self.new) token.now.line
+            (terminal_of token.now) result }
+    {
+        match &self.stage {
+            CertifiedStage::Declaring => self.declare_inside(alloc, token),
+            CertifiedStage::InRow(..) => self.take_in_row(alloc, token),
+            _ => Ok(false),
+        }
+    }
+
+    /// The first token behind a row's policy, which doesn't go on with it.
+    fn take_behind_row(
         &mut self,
         alloc: Global,
         line: u64,
@@ -152,14 +194,12 @@ impl SoundReader {
         token: &Token,
     ) -> Result<Option<Completed>, GrammarError>
         ensures read { Returns (completing (certified_phase_in self.new)) result
-            (judged_certified token.now.line (row_on [] [] positions.items line
-            (step (reader_state self.old.policy) (terminal_of token.now))
+            (judged_certified token.now.line (row_done [] [] positions.items line
             (policy_ended (reader_state self.old.policy)) (terminal_of token.now))) }
         ensures kept { StaysWithoutMemory result (in_row line positions.items (reader_state self.old.policy)) (certified_phase_in self.new) }
     {
-        match self.policy.take(alloc, token) {
-            Ok(Took::Taken) => self.go_in_row(line, positions, token),
-            Ok(Took::Ended(pred)) => {
+        match self.policy.end(alloc) {
+            Ok(Some(pred)) => {
                 let positions = List::from_vec(positions);
                 self.end_row(
                     CertRow {
@@ -170,7 +210,7 @@ impl SoundReader {
                     token,
                 )
             }
-            Ok(Took::Refused) => Err(GrammarError::Unexpected { line: token.line }),
+            Ok(None) => Err(GrammarError::Unexpected { line: token.line }),
             Err(AllocError) => {
                 self.stage = CertifiedStage::InRow(line, positions);
                 Err(GrammarError::NoMemory)
@@ -260,13 +300,16 @@ impl SoundReader {
         }
     }
 
-    /// Reads one more token, and hands out the declaration or row that it completes. An error is the first fault of the tokens so far,
-    /// or that memory ran out.
-    pub fn take(&mut self, alloc: Global, token: &Token) -> Result<Option<Completed>, GrammarError>
-        ensures read { Returns (completing (certified_phase_in self.new)) result
-            (judged_certified token.now.line (certify_one (with_done (certified_phase_in self.old) [] [])
-            (terminal_of token.now))) }
-        ensures kept { StaysWithoutMemory result (certified_phase_in self.old) (certified_phase_in self.new) }
+    /// One more token that no row's policy goes on with. It stands apart from what policies take, of which most of a text is made.
+    #[inline(never)]
+    fn take_other(
+        &mut self,
+        alloc: Global,
+        token: &Token,
+    ) -> Result<Option<Completed>, GrammarError>
+        requires stops { StopsRow (certified_phase_in self.old) (terminal_of token.now) }
+        ensures { CertifiedTakes (certified_phase_in self.old) (certified_phase_in self.new) token.now.line
+            (terminal_of token.now) result }
     {
         match replace(&mut self.stage, CertifiedStage::Declaring) {
             CertifiedStage::Declaring => self.take_declaring(alloc, token),
@@ -290,8 +333,23 @@ impl SoundReader {
                 self.take_number(alloc, line, positions, token)
             }
             CertifiedStage::InRow(line, positions) => {
-                self.take_in_row(alloc, line, positions, token)
+                self.take_behind_row(alloc, line, positions, token)
             }
+        }
+    }
+
+    /// Reads one more token, and hands out the declaration or row that it completes. An error is the first fault of the tokens so far,
+    /// or that memory ran out.
+    pub fn take(&mut self, alloc: Global, token: &Token) -> Result<Option<Completed>, GrammarError>
+        ensures read { Returns (completing (certified_phase_in self.new)) result
+            (judged_certified token.now.line (certify_one (with_done (certified_phase_in self.old) [] [])
+            (terminal_of token.now))) }
+        ensures kept { StaysWithoutMemory result (certified_phase_in self.old) (certified_phase_in self.new) }
+    {
+        match self.take_inside(alloc, token) {
+            Ok(true) => Ok(None),
+            Ok(false) => self.take_other(alloc, token),
+            Err(error) => Err(error),
         }
     }
 

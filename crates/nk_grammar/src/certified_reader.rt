@@ -10,6 +10,7 @@ ghost use Rattle.nk_grammar.specs.CertifiedProgress.{
   IsRead,
   IsStopped,
   IsWrittenPart,
+  Stopped,
   certified_so_far,
   declarations_by,
   is_stopped,
@@ -17,7 +18,7 @@ ghost use Rattle.nk_grammar.specs.CertifiedProgress.{
   so_far,
   so_far_after,
 };
-ghost use Rattle.nk_grammar.specs.CertifiedReader.{TakesToken, progress_of};
+ghost use Rattle.nk_grammar.specs.CertifiedReader.{TakesToken, TakesTokenInside, progress_of};
 ghost use Rattle.nk_grammar.specs.File.{Declaration, IsWritten, declaration_of};
 ghost use Rattle.nk_grammar.specs.FileMachine.{Returns};
 
@@ -70,6 +71,16 @@ impl Known {
         }
     }
 
+    /// One more token inside a policy, if it goes on with it. Behind a fault nothing is read.
+    fn take_inside(&mut self, alloc: Global, token: &Token) -> Result<bool, GrammarError>
+        ensures { TakesTokenInside self.old self.new token.now result }
+    {
+        match self {
+            Known::Sound(reader) => reader.take_inside(alloc, token),
+            Known::Stopped(_) => Ok(false),
+        }
+    }
+
     /// A fault takes the place of what was known.
     fn stop(&mut self, error: GrammarError)
         ensures { self.new ≡ Known.Stopped error }
@@ -99,9 +110,29 @@ impl CertifiedReader {
         }
     }
 
-    /// One more token, and what it completes.
+    /// A fault is kept, and nothing is completed; where memory ran out nothing changes.
+    #[inline(never)]
+    fn fault(&mut self, error: GrammarError) -> Result<Option<Completed>, AllocError>
+        ensures ok { IfOk result (λ o. (o ≡ None) × (self.new ≡ Stopped error) × (error ≡ GrammarError.NoMemory → ⊥)) }
+        ensures err { OnErr result ((error ≡ GrammarError.NoMemory) × (self.new ≡ self.old)) }
+    {
+        match error {
+            GrammarError::Unexpected { line } => {
+                self.known.stop(GrammarError::Unexpected { line });
+                Ok(None)
+            }
+            GrammarError::TooDeep { line } => {
+                self.known.stop(GrammarError::TooDeep { line });
+                Ok(None)
+            }
+            GrammarError::NoMemory => Err(AllocError),
+        }
+    }
+
+    /// One more token, and what it completes. It stands apart from what policies take, of which most of a text is made.
     #[tactic(auto, using(crate::proofs::Progress::takes_on, crate::proofs::Progress::takes_fault, crate::proofs::Progress::takes_nothing, crate::proofs::Progress::takes_no_memory, crate::proofs::Progress::no_fault_behind))]
-    fn put(&mut self, alloc: Global, token: &Token) -> Result<Option<Completed>, AllocError>
+    #[inline(never)]
+    fn put_other(&mut self, alloc: Global, token: &Token) -> Result<Option<Completed>, AllocError>
         ensures taken { IfOk result (λ o. so_far_after (so_far self.old [] []) token.now
             ≡ so_far self.new (declarations_by o) (rows_by o)) }
         ensures stopped { IsStopped self.old → (result ≡ Ok None) × (self.new ≡ self.old) }
@@ -112,15 +143,25 @@ impl CertifiedReader {
                 self.line = token.line;
                 Ok(done)
             }
-            Err(GrammarError::Unexpected { line }) => {
-                self.known.stop(GrammarError::Unexpected { line });
+            Err(error) => self.fault(error),
+        }
+    }
+
+    /// One more token, and what it completes.
+    #[tactic(auto, using(crate::proofs::Progress::takes_on, crate::proofs::Progress::takes_fault, crate::proofs::Progress::takes_nothing, crate::proofs::Progress::takes_no_memory, crate::proofs::Progress::no_fault_behind))]
+    fn put(&mut self, alloc: Global, token: &Token) -> Result<Option<Completed>, AllocError>
+        ensures taken { IfOk result (λ o. so_far_after (so_far self.old [] []) token.now
+            ≡ so_far self.new (declarations_by o) (rows_by o)) }
+        ensures stopped { IsStopped self.old → (result ≡ Ok None) × (self.new ≡ self.old) }
+        ensures err { OnErr result (self.new ≡ self.old) }
+    {
+        match self.known.take_inside(alloc, token) {
+            Ok(true) => {
+                self.line = token.line;
                 Ok(None)
             }
-            Err(GrammarError::TooDeep { line }) => {
-                self.known.stop(GrammarError::TooDeep { line });
-                Ok(None)
-            }
-            Err(GrammarError::NoMemory) => Err(AllocError),
+            Ok(false) => self.put_other(alloc, token),
+            Err(error) => self.fault(error),
         }
     }
 

@@ -2,7 +2,7 @@
 ghost use Rattle.std.specs.Prelude.{◌≡◌, false};
 ghost use Rattle.nk_grammar.specs.Machine.{atom_ended, state};
 ghost use Rattle.nk_grammar.specs.declared.place.Place.{Place};
-ghost use Rattle.nk_grammar.specs.Reader.{PopsNegation, stack_of};
+ghost use Rattle.nk_grammar.specs.Reader.{PopsNegation, encloses, stack_of};
 ghost use Rattle.nk_grammar.specs.Tree.{Trees, tree_of, with_part};
 
 use crate::ast::Ast;
@@ -14,16 +14,6 @@ use crate::build::negated;
 pub enum Frame {
     Group(Vec<Ast>, Vec<Ast>),
     Negation(Box<Ast>, u64),
-}
-
-/// What became of a token.
-#[derive(Drop)]
-pub enum Took {
-    Taken,
-    /// No policy can continue with it, and the policy ends before it.
-    Ended(Ast),
-    /// No policy can continue with it, nor end before it.
-    Refused,
 }
 
 /// Closes the innermost of what is open where that is a `~`, and gives its box and line; else nothing changes.
@@ -51,4 +41,18 @@ pub fn close_negations(frames: &mut Vec<Frame>, atom: Ast) -> Ast
         atom = negated(cell, atom, line);
     }
     atom
+}
+
+/// Whether a parenthesis is open.
+pub fn is_enclosed(frames: &[Frame]) -> bool
+    ensures { result ≡ encloses (stack_of frames.now) }
+{
+    let mut left = frames.len();
+    'negations: while 0 < left {
+        left -= 1;
+        if let Frame::Group(..) = &frames[left] {
+            return true;
+        }
+    }
+    false
 }

@@ -6,7 +6,6 @@ ghost use Rattle.std.specs.Prelude.{
   ◌≤◌,
   ◌+◌,
   None,
-  Some,
   IfOk,
   OnErr,
   OnOk,
@@ -43,12 +42,12 @@ ghost use Rattle.nk_grammar.specs.Reader.{
   stack_in,
   terms_in,
 };
-ghost use Rattle.nk_grammar.specs.Terminal.{star_sign, terminal_of};
+ghost use Rattle.nk_grammar.specs.Terminal.{closing, star_sign, terminal_of};
 ghost use Rattle.nk_grammar.specs.Tree.{name_of, no_part, seq_from, tree_of, with_part, with_star};
 
 use crate::ast::Ast;
 use crate::build::{join, push_last, push_term, sequence, star_last, sum};
-use crate::frame::{Frame, Took, close_negations};
+use crate::frame::{Frame, close_negations, is_enclosed};
 use crate::parts::{is_dots_token, number_of, quad_after};
 use crate::place::{Place, Quad, QuadNext};
 use nk_lex::{Kind, Number, Token, Word, word_of};
@@ -61,8 +60,9 @@ const DEEPEST: usize = 256;
 /// Reads a policy token by token. It keeps what may come next, what is open, the innermost last, and the terms and factors that are
 /// complete.
 ///
-/// A token for which memory runs out changes nothing. So what may fail comes first and changes no value: room is made, and the last
-/// factor, which stands apart since it took no room, is put behind the others.
+/// A token for which memory runs out, or with which no policy goes on, changes nothing. So what may fail comes first and changes no
+/// value: room is made, and the last factor, which stands apart since it took no room, is put behind the others. What is moved out to
+/// look at the token is put back where it doesn't fit.
 #[derive(Drop)]
 pub struct PolicyReader {
     place: Place,
@@ -138,33 +138,35 @@ impl PolicyReader {
     }
 
     /// An atom ended that was the last token.
-    fn take_atom(&mut self, atom: Ast) -> Took
+    fn take_atom(&mut self, atom: Ast) -> bool
         requires last { self.old.last ≡ None }
-        ensures { (reader_state self.new ≡ atom_ended (tree_of atom) (stack_in self.old)
-            (terms_in self.old) (factors_in self.old)) × (result ≡ Took.Taken) }
+        ensures state { reader_state self.new ≡ atom_ended (tree_of atom) (stack_in self.old)
+            (terms_in self.old) (factors_in self.old) }
+        ensures taken { result ≡ true }
     {
         self.end_atom(atom);
-        Took::Taken
+        true
     }
 
     /// A `~` or a parenthesis opens. There is room for it.
     #[tactic(auto, using(crate::proofs::Stack::stack_push))]
-    fn open(&mut self, frame: Frame) -> Took
+    fn open(&mut self, frame: Frame) -> bool
         requires room { vec_len self.old.frames < vec_capacity self.old.frames }
-        ensures { Follows result (Some (state Place.Want (open_of frame ∷ stack_in self.old)
-            (terms_in self.old) (factors_in self.old))) None (reader_state self.new) }
+        ensures state { reader_state self.new ≡ state Place.Want (open_of frame ∷ stack_in self.old)
+            (terms_in self.old) (factors_in self.old) }
+        ensures taken { result ≡ true }
     {
         self.frames.push_reserved(frame);
         self.place = Place::Want;
-        Took::Taken
+        true
     }
 
     /// An atom is wanted.
-    fn begin(&mut self, alloc: Global, token: &Token) -> Result<Took, AllocError>
+    fn begin(&mut self, alloc: Global, token: &Token) -> Result<bool, AllocError>
         requires place { self.old.place ≡ Place.Want }
         requires last { self.old.last ≡ None }
         ensures state { FollowsOk result (begin (stack_in self.old) (terms_in self.old)
-            (factors_in self.old) (terminal_of token.now)) None (reader_state self.new) }
+            (factors_in self.old) (terminal_of token.now)) (reader_state self.old) (reader_state self.new) }
         ensures kept { OnErr result (reader_state self.new ≡ reader_state self.old) }
     {
         match token.kind {
@@ -184,7 +186,7 @@ impl PolicyReader {
             Kind::Dup => Ok(self.take_atom(Ast::Dup)),
             Kind::Name => {
                 self.place = Place::Named(word_of(alloc, token)?);
-                Ok(Took::Taken)
+                Ok(true)
             }
             Kind::Number => {
                 let number = Number {
@@ -192,9 +194,9 @@ impl PolicyReader {
                     line: token.line,
                 };
                 self.place = Place::Linked(Quad::Switch(number));
-                Ok(Took::Taken)
+                Ok(true)
             }
-            _ => Ok(Took::Refused),
+            _ => Ok(false),
         }
     }
 
@@ -227,77 +229,69 @@ impl PolicyReader {
         }
     }
 
-    /// No policy goes on behind a factor with a token.
-    fn refuse(&mut self, alloc: Global) -> Took
-        requires room { HasRoom self.old }
-        ensures { (b : Bool) → Follows result None (done_at (Place.After b) (stack_in self.old)
-            (terms_joined (terms_in self.old) (factors_in self.old))) (reader_state self.new) }
-    {
-        match self.policy(alloc) {
-            Some(policy) => Took::Ended(policy),
-            None => Took::Refused,
-        }
-    }
-
-    /// A parenthesis closes.
+    /// A parenthesis closes, if it is the innermost that is open.
     #[tactic(auto, using(crate::proofs::Stack::stack_push))]
-    fn close(&mut self, alloc: Global) -> Took
+    fn close(&mut self) -> bool
         requires room { HasRoom self.old }
-        ensures { (b : Bool) → Follows result (close (stack_in self.old) (terms_joined (terms_in self.old) (factors_in self.old)))
-            (done_at (Place.After b) (stack_in self.old) (terms_joined (terms_in self.old) (factors_in self.old)))
-            (reader_state self.new) }
+        ensures { Follows result (close (stack_in self.old) (terms_joined (terms_in self.old) (factors_in self.old)))
+            (reader_state self.old) (reader_state self.new) }
     {
         match self.frames.pop() {
             Some(Frame::Group(terms, factors)) => {
                 let inner = self.take_policy(terms, factors);
                 self.take_atom(inner)
             }
-            Some(Frame::Negation(_, _)) => Took::Refused,
-            None => Took::Ended(self.take_policy(Vec::new(alloc), Vec::new(alloc))),
+            Some(Frame::Negation(cell, line)) => {
+                self.frames.push_reserved(Frame::Negation(cell, line));
+                false
+            }
+            None => false,
         }
     }
 
     /// A further term begins.
-    fn plus(&mut self, alloc: Global) -> Took
+    fn plus(&mut self, alloc: Global) -> bool
         requires room { HasRoom self.old }
-        ensures { Follows result (Some (state Place.Want (stack_in self.old) (with_part (terms_in self.old)
-            (seq_from (factors_in self.old))) no_part)) None (reader_state self.new) }
+        ensures state { reader_state self.new ≡ state Place.Want (stack_in self.old) (with_part (terms_in self.old)
+            (seq_from (factors_in self.old))) no_part }
+        ensures taken { result ≡ true }
     {
         self.put_last();
         let factors = replace(&mut self.factors, Vec::new(alloc));
         push_term(&mut self.terms, factors);
         self.place = Place::Want;
-        Took::Taken
+        true
     }
 
     /// A further factor begins.
-    fn semicolon(&mut self) -> Took
-        ensures { Follows result (Some (state Place.Want (stack_in self.old) (terms_in self.old)
-            (factors_in self.old))) None (reader_state self.new) }
+    fn semicolon(&mut self) -> bool
+        ensures state { reader_state self.new ≡ state Place.Want (stack_in self.old) (terms_in self.old)
+            (factors_in self.old) }
+        ensures taken { result ≡ true }
     {
         self.place = Place::Want;
-        Took::Taken
+        true
     }
 
     /// A star over the last factor, in a box that is made.
-    fn star(&mut self, cell: Box<Ast>) -> Took
+    fn star(&mut self, cell: Box<Ast>) -> bool
         requires room { HasRoom self.old }
-        ensures { Follows result (Some (state (Place.After true) (stack_in self.old) (terms_in self.old)
-            (with_star (factors_in self.old)))) None (reader_state self.new) }
+        ensures state { reader_state self.new ≡ state (Place.After true) (stack_in self.old) (terms_in self.old)
+            (with_star (factors_in self.old)) }
+        ensures taken { result ≡ true }
     {
         self.put_last();
         self.last = star_last(cell, &mut self.factors);
         self.place = Place::After(true);
-        Took::Taken
+        true
     }
 
     /// A factor stands there, with a star or without.
-    fn go_on(&mut self, alloc: Global, starred: bool, token: &Token) -> Result<Took, AllocError>
+    fn go_on(&mut self, alloc: Global, starred: bool, token: &Token) -> Result<bool, AllocError>
         requires place { self.old.place ≡ Place.After starred }
         requires room { HasRoom self.old }
         ensures state { FollowsOk result (after_factor starred (stack_in self.old) (terms_in self.old)
-            (factors_in self.old) (terminal_of token.now)) (done_at (Place.After starred) (stack_in self.old)
-            (terms_joined (terms_in self.old) (factors_in self.old))) (reader_state self.new) }
+            (factors_in self.old) (terminal_of token.now)) (reader_state self.old) (reader_state self.new) }
         ensures kept { OnErr result (reader_state self.new ≡ reader_state self.old) }
     {
         match token.kind {
@@ -305,22 +299,23 @@ impl PolicyReader {
             Kind::Semicolon => Ok(self.semicolon()),
             Kind::Star => {
                 if starred {
-                    return Ok(Took::Taken);
+                    return Ok(true);
                 }
                 let cell = Box::new(alloc, Ast::Dup)?;
                 Ok(self.star(cell))
             }
-            Kind::CloseParen => Ok(self.close(alloc)),
-            _ => Ok(self.refuse(alloc)),
+            Kind::CloseParen => Ok(self.close()),
+            _ => Ok(false),
         }
     }
 
     /// A name stands there, and the token is a star.
-    fn star_on_name(&mut self, alloc: Global, word: Word) -> Result<Took, AllocError>
+    fn star_on_name(&mut self, alloc: Global, word: Word) -> Result<bool, AllocError>
         requires last { self.old.last ≡ None }
         requires room { HasRoom self.old }
         ensures state { FollowsOk result (step_done (atom_ended (name_of word) (stack_in self.old)
-            (terms_in self.old) (factors_in self.old)) star_sign) None (reader_state self.new) }
+            (terms_in self.old) (factors_in self.old)) star_sign) (state (Place.Named word) (stack_in self.old)
+            (terms_in self.old) (factors_in self.old)) (reader_state self.new) }
         ensures kept { OnErr result (reader_state self.new ≡ state (Place.Named word) (stack_in self.old)
             (terms_in self.old) (factors_in self.old)) }
     {
@@ -336,13 +331,40 @@ impl PolicyReader {
         }
     }
 
+    /// No policy goes on with the token, and what stands before it stays.
+    fn stay(&mut self, place: Place) -> bool
+        ensures state { reader_state self.new ≡ state place (stack_in self.old) (terms_in self.old)
+            (factors_in self.old) }
+        ensures refused { result ≡ false }
+    {
+        self.place = place;
+        false
+    }
+
+    /// A name stands there, and the token is a closing parenthesis.
+    #[tactic(auto, using(crate::proofs::Stack::none_closes, crate::proofs::Stack::one_closes, crate::proofs::Stack::taken_whatever))]
+    fn close_on_name(&mut self, word: Word) -> bool
+        requires last { self.old.last ≡ None }
+        requires room { HasRoom self.old }
+        ensures { Follows result (step_done (atom_ended (name_of word) (stack_in self.old)
+            (terms_in self.old) (factors_in self.old)) closing) (state (Place.Named word) (stack_in self.old)
+            (terms_in self.old) (factors_in self.old)) (reader_state self.new) }
+    {
+        if is_enclosed(&self.frames) {
+            self.end_atom(Ast::Name(word));
+            self.close()
+        } else {
+            self.stay(Place::Named(word))
+        }
+    }
+
     /// A name stands there.
-    fn after_name(&mut self, alloc: Global, word: Word, token: &Token) -> Result<Took, AllocError>
+    fn after_name(&mut self, alloc: Global, word: Word, token: &Token) -> Result<bool, AllocError>
         requires last { self.old.last ≡ None }
         requires room { HasRoom self.old }
         ensures state { FollowsOk result (step_at (Place.Named word) (stack_in self.old)
             (terms_in self.old) (factors_in self.old) (terminal_of token.now))
-            (policy_ended (state (Place.Named word) (stack_in self.old) (terms_in self.old) (factors_in self.old)))
+            (state (Place.Named word) (stack_in self.old) (terms_in self.old) (factors_in self.old))
             (reader_state self.new) }
         ensures kept { OnErr result (reader_state self.new ≡ state (Place.Named word) (stack_in self.old)
             (terms_in self.old) (factors_in self.old)) }
@@ -350,15 +372,15 @@ impl PolicyReader {
         match token.kind {
             Kind::Equal => {
                 self.place = Place::Tested(word);
-                Ok(Took::Taken)
+                Ok(true)
             }
             Kind::In => {
                 self.place = Place::Ranged(word);
-                Ok(Took::Taken)
+                Ok(true)
             }
             Kind::Assign => {
                 self.place = Place::Assigned(word);
-                Ok(Took::Taken)
+                Ok(true)
             }
             Kind::Star => self.star_on_name(alloc, word),
             Kind::Plus => {
@@ -369,84 +391,96 @@ impl PolicyReader {
                 self.end_atom(Ast::Name(word));
                 Ok(self.semicolon())
             }
-            Kind::CloseParen => {
-                self.end_atom(Ast::Name(word));
-                Ok(self.close(alloc))
-            }
-            _ => {
-                self.end_atom(Ast::Name(word));
-                Ok(self.refuse(alloc))
-            }
+            Kind::CloseParen => Ok(self.close_on_name(word)),
+            _ => Ok(self.stay(Place::Named(word))),
         }
     }
 
     /// One more token of a link literal.
-    fn after_quad(&mut self, quad: Quad, token: &Token) -> Took
+    fn after_quad(&mut self, quad: Quad, token: &Token) -> bool
         requires last { self.old.last ≡ None }
         ensures { Follows result (step_at (Place.Linked quad) (stack_in self.old)
-            (terms_in self.old) (factors_in self.old) (terminal_of token.now)) None (reader_state self.new) }
+            (terms_in self.old) (factors_in self.old) (terminal_of token.now)) (state (Place.Linked quad)
+            (stack_in self.old) (terms_in self.old) (factors_in self.old)) (reader_state self.new) }
     {
         match quad_after(true, quad, token) {
-            QuadNext::Refused => Took::Refused,
+            QuadNext::Refused => self.stay(Place::Linked(quad)),
             QuadNext::Going(quad) => {
                 self.place = Place::Linked(quad);
-                Took::Taken
+                true
             }
             QuadNext::Full(a, m, b, n) => self.take_atom(Ast::Link(a, m, b, n)),
         }
     }
 
-    /// One more token, where there is room and no factor stands apart.
-    fn step(&mut self, alloc: Global, token: &Token) -> Result<Took, AllocError>
+    /// One more token behind a part of an atom.
+    fn step_in_atom(&mut self, alloc: Global, token: &Token) -> Result<bool, AllocError>
         requires last { self.old.last ≡ None }
         requires room { HasRoom self.old }
+        requires begun { self.old.place ≡ Place.Want → ⊥ }
+        requires open { (b : Bool) → self.old.place ≡ Place.After b → ⊥ }
         ensures state { FollowsOk result (step (reader_state self.old) (terminal_of token.now))
-            (policy_ended (reader_state self.old)) (reader_state self.new) }
+            (reader_state self.old) (reader_state self.new) }
         ensures kept { OnErr result (reader_state self.new ≡ reader_state self.old) }
     {
         match replace(&mut self.place, Place::Want) {
-            Place::Want => self.begin(alloc, token),
             Place::Named(word) => self.after_name(alloc, word, token),
             Place::Tested(word) => match number_of(token) {
                 Some(number) => Ok(self.take_atom(Ast::Test(word, number))),
-                None => Ok(Took::Refused),
+                None => Ok(self.stay(Place::Tested(word))),
             },
             Place::Ranged(word) => match number_of(token) {
                 Some(low) => {
                     self.place = Place::RangedFrom(word, low);
-                    Ok(Took::Taken)
+                    Ok(true)
                 }
-                None => Ok(Took::Refused),
+                None => Ok(self.stay(Place::Ranged(word))),
             },
             Place::RangedFrom(word, low) => {
                 if is_dots_token(token) {
                     self.place = Place::RangedTo(word, low);
-                    Ok(Took::Taken)
+                    Ok(true)
                 } else {
-                    Ok(Took::Refused)
+                    Ok(self.stay(Place::RangedFrom(word, low)))
                 }
             }
             Place::RangedTo(word, low) => match number_of(token) {
                 Some(high) => Ok(self.take_atom(Ast::Range(word, low, high))),
-                None => Ok(Took::Refused),
+                None => Ok(self.stay(Place::RangedTo(word, low))),
             },
             Place::Assigned(word) => match number_of(token) {
                 Some(number) => Ok(self.take_atom(Ast::Set(word, number))),
-                None => Ok(Took::Refused),
+                None => Ok(self.stay(Place::Assigned(word))),
             },
             Place::Linked(quad) => Ok(self.after_quad(quad, token)),
-            Place::After(starred) => {
-                self.place = Place::After(starred);
-                self.go_on(alloc, starred, token)
-            }
+            Place::Want => unreachable!(),
+            Place::After(_) => unreachable!(),
         }
     }
 
-    /// Reads one more token and says what became of it. The only error is that memory ran out, and then nothing changed. Behind a token
-    /// that is refused nothing is said of the state.
-    pub fn take(&mut self, alloc: Global, token: &Token) -> Result<Took, AllocError>
+    /// One more token, where there is room and no factor stands apart.
+    fn step(&mut self, alloc: Global, token: &Token) -> Result<bool, AllocError>
+        requires last { self.old.last ≡ None }
+        requires room { HasRoom self.old }
         ensures state { FollowsOk result (step (reader_state self.old) (terminal_of token.now))
-            (policy_ended (reader_state self.old)) (reader_state self.new) }
+            (reader_state self.old) (reader_state self.new) }
+        ensures kept { OnErr result (reader_state self.new ≡ reader_state self.old) }
+    {
+        match &self.place {
+            Place::Want => self.begin(alloc, token),
+            Place::After(starred) => {
+                let starred = *starred;
+                self.go_on(alloc, starred, token)
+            }
+            _ => self.step_in_atom(alloc, token),
+        }
+    }
+
+    /// Reads one more token, and says whether it was taken; else no policy goes on with it, and nothing changed. The only error is that
+    /// memory ran out, and then nothing changed either.
+    pub fn take(&mut self, alloc: Global, token: &Token) -> Result<bool, AllocError>
+        ensures state { FollowsOk result (step (reader_state self.old) (terminal_of token.now))
+            (reader_state self.old) (reader_state self.new) }
         ensures kept { OnErr result (reader_state self.new ≡ reader_state self.old) }
     {
         self.make_ready()?;

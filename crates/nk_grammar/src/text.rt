@@ -1,5 +1,5 @@
 //! The declarations of a text, read token by token up to the first fault.
-ghost use Rattle.std.specs.Prelude.{◌≡◌, ℕ, [], None, Some, Ok, IfErr};
+ghost use Rattle.std.specs.Prelude.{◌≡◌, ℕ, true, [], Some, Ok, IfErr, IfOk};
 ghost use Rattle.nk_lex.specs.declared.word.Word.{Word};
 ghost use Rattle.nk_grammar.specs.File.{declaration_of};
 ghost use Rattle.nk_grammar.specs.FileMachine.{
@@ -16,23 +16,30 @@ ghost use Rattle.nk_grammar.specs.FileMachine.{
   next_reading,
   one_more,
   policy_named,
-  policy_on,
+  policy_done,
   port_read,
   port_wanted,
   read_one,
   reading,
 };
-ghost use Rattle.nk_grammar.specs.FileReader.{IsInPolicy, StaysWithoutMemory, declaration_done, phase_in};
+ghost use Rattle.nk_grammar.specs.FileReader.{
+  IsInPolicy,
+  StaysWithoutMemory,
+  StopsPolicy,
+  Takes,
+  TakesInside,
+  declaration_done,
+  phase_in,
+};
 ghost use Rattle.nk_grammar.specs.declared.decl.PolicyWord.{PolicyWord};
 ghost use Rattle.nk_grammar.specs.declared.decl.Stage.{Stage};
-ghost use Rattle.nk_grammar.specs.Machine.{policy_ended, step};
+ghost use Rattle.nk_grammar.specs.Machine.{policy_ended};
 ghost use Rattle.nk_grammar.specs.Reader.{reader_state};
 ghost use Rattle.nk_grammar.specs.Terminal.{terminal_of};
 ghost use Rattle.nk_grammar.specs.Tree.{tree_of};
 
 use crate::ast::Ast;
 use crate::decl::{Decl, GrammarError, LinkWord, Naming, PolicyWord, Stage};
-use crate::frame::Took;
 use crate::parts::{name_of, number_of, quad_after};
 use crate::place::{Quad, QuadNext};
 use crate::reader::PolicyReader;
@@ -109,16 +116,43 @@ impl Reader {
     }
 
     /// A policy took a token, and goes on.
-    fn go_on_in_policy(&mut self, token: &Token) -> Result<Option<Decl>, GrammarError>
-        ensures read { (k : PolicyWord) (w : Word) (line : ℕ) → self.old.stage ≡ Stage.Policy k w line
-            → Returns (λ d. reading (phase_in self.new) (declaration_done d)) result
-            (judged token.now.line (Some (reading (in_policy k w line (reader_state self.old.policy)) []))) }
+    fn go_on_in_policy(&self, token: &Token) -> Result<bool, GrammarError>
+        ensures read { (k : PolicyWord) (w : Word) (line : ℕ) → self.now.stage ≡ Stage.Policy k w line
+            → Returns (λ taken. reading (phase_in self.now) []) result
+            (judged token.now.line (Some (reading (in_policy k w line (reader_state self.now.policy)) []))) }
+        ensures taken { IfOk result (λ taken. taken ≡ true) }
         ensures err { IfErr result (λ e. e ≡ GrammarError.TooDeep token.now.line) }
     {
         if self.policy.is_shallow() {
-            Ok(None)
+            Ok(true)
         } else {
             Err(GrammarError::TooDeep { line: token.line })
+        }
+    }
+
+    /// One more token of a policy, if it goes on with it. What is read of the declaration stays where it is.
+    fn take_in_policy(&mut self, alloc: Global, token: &Token) -> Result<bool, GrammarError>
+        requires stage { IsInPolicy self.old.stage }
+        ensures { (k : PolicyWord) (w : Word) (line : ℕ) → self.old.stage ≡ Stage.Policy k w line
+            → TakesInside (in_policy k w line (reader_state self.old.policy)) (phase_in self.new) token.now.line
+            (terminal_of token.now) result }
+    {
+        match self.policy.take(alloc, token) {
+            Ok(true) => self.go_on_in_policy(token),
+            Ok(false) => Ok(false),
+            Err(AllocError) => Err(GrammarError::NoMemory),
+        }
+    }
+
+    /// Reads one more token inside a policy, and says whether it was taken; else no policy goes on with it, and nothing changed. What
+    /// is taken completes nothing. An error is as `take` says.
+    pub fn take_inside(&mut self, alloc: Global, token: &Token) -> Result<bool, GrammarError>
+        ensures { TakesInside (phase_in self.old) (phase_in self.new) token.now.line (terminal_of token.now) result }
+    {
+        if let Stage::Policy(..) = &self.stage {
+            self.take_in_policy(alloc, token)
+        } else {
+            Ok(false)
         }
     }
 
@@ -136,20 +170,21 @@ impl Reader {
         self.begin(Some(policy_of(word, name, policy, line)), token)
     }
 
-    /// One more token of a policy, or the first one behind it. What is read of the declaration stays where it is.
-    fn take_in_policy(&mut self, alloc: Global, token: &Token) -> Result<Option<Decl>, GrammarError>
+    /// The first token behind a policy, which doesn't go on with it.
+    fn take_behind_policy(
+        &mut self,
+        alloc: Global,
+        token: &Token,
+    ) -> Result<Option<Decl>, GrammarError>
         requires stage { IsInPolicy self.old.stage }
         ensures read { (k : PolicyWord) (w : Word) (line : ℕ) → self.old.stage ≡ Stage.Policy k w line
             → Returns (λ d. reading (phase_in self.new) (declaration_done d)) result
-            (judged token.now.line (policy_on k w line []
-            (step (reader_state self.old.policy) (terminal_of token.now))
-            (policy_ended (reader_state self.old.policy)) (terminal_of token.now))) }
+            (judged token.now.line (policy_done k w line [] (policy_ended (reader_state self.old.policy)) (terminal_of token.now))) }
         ensures kept { StaysWithoutMemory result (phase_in self.old) (phase_in self.new) }
     {
-        match self.policy.take(alloc, token) {
-            Ok(Took::Taken) => self.go_on_in_policy(token),
-            Ok(Took::Ended(policy)) => self.end_policy(policy, token),
-            Ok(Took::Refused) => Err(GrammarError::Unexpected { line: token.line }),
+        match self.policy.end(alloc) {
+            Ok(Some(policy)) => self.end_policy(policy, token),
+            Ok(None) => Err(GrammarError::Unexpected { line: token.line }),
             Err(AllocError) => Err(GrammarError::NoMemory),
         }
     }
@@ -266,8 +301,7 @@ impl Reader {
         }
     }
 
-    /// One more token outside the policies. It stands apart from what policies take, of which most of a text is made.
-    #[inline(never)]
+    /// One more token outside the policies.
     fn take_outside(&mut self, alloc: Global, token: &Token) -> Result<Option<Decl>, GrammarError>
         requires outside { IsInPolicy self.old.stage → ⊥ }
         ensures read { Returns (λ d. reading (phase_in self.new) (declaration_done d)) result
@@ -301,6 +335,19 @@ impl Reader {
         }
     }
 
+    /// One more token that no policy goes on with. It stands apart from what policies take, of which most of a text is made.
+    #[inline(never)]
+    fn take_other(&mut self, alloc: Global, token: &Token) -> Result<Option<Decl>, GrammarError>
+        requires stops { StopsPolicy (phase_in self.old) (terminal_of token.now) }
+        ensures { Takes (phase_in self.old) (phase_in self.new) token.now.line (terminal_of token.now) result }
+    {
+        if let Stage::Policy(..) = &self.stage {
+            self.take_behind_policy(alloc, token)
+        } else {
+            self.take_outside(alloc, token)
+        }
+    }
+
     /// Reads one more token, and hands out the declaration that it completes. An error is the first fault of the tokens so far, or that
     /// memory ran out.
     pub fn take(&mut self, alloc: Global, token: &Token) -> Result<Option<Decl>, GrammarError>
@@ -308,10 +355,10 @@ impl Reader {
             (judged token.now.line (read_one (reading (phase_in self.old) []) (terminal_of token.now))) }
         ensures kept { StaysWithoutMemory result (phase_in self.old) (phase_in self.new) }
     {
-        if let Stage::Policy(..) = &self.stage {
-            self.take_in_policy(alloc, token)
-        } else {
-            self.take_outside(alloc, token)
+        match self.take_inside(alloc, token) {
+            Ok(true) => Ok(None),
+            Ok(false) => self.take_other(alloc, token),
+            Err(error) => Err(error),
         }
     }
 

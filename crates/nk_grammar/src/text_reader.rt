@@ -5,8 +5,8 @@ ghost use Rattle.nk_lex.specs.Lex.{largest};
 ghost use Rattle.nk_grammar.specs.File.{Declaration, IsWritten, declaration_of};
 ghost use Rattle.nk_grammar.specs.FileMachine.{Returns, file_of};
 ghost use Rattle.nk_grammar.specs.FileReader.{declaration_done};
-ghost use Rattle.nk_grammar.specs.TextProgress.{IsTextStopped, IsTextRead, rest_by};
-ghost use Rattle.nk_grammar.specs.TextReader.{TakesTextOn, TakesToken, progress_in};
+ghost use Rattle.nk_grammar.specs.TextProgress.{IsTextStopped, IsTextRead, Stopped, rest_by};
+ghost use Rattle.nk_grammar.specs.TextReader.{TakesTextOn, TakesToken, TakesTokenInside, progress_in};
 
 use crate::decl::{Decl, File, GrammarError};
 use crate::text::Reader;
@@ -57,6 +57,16 @@ impl KnownText {
         }
     }
 
+    /// One more token inside a policy, if it goes on with it. Behind a fault nothing is read.
+    fn take_inside(&mut self, alloc: Global, token: &Token) -> Result<bool, GrammarError>
+        ensures { TakesTokenInside self.old self.new token.now result }
+    {
+        match self {
+            KnownText::Sound(reader) => reader.take_inside(alloc, token),
+            KnownText::Stopped(_) => Ok(false),
+        }
+    }
+
     /// A fault takes the place of what was known.
     fn stop(&mut self, error: GrammarError)
         ensures { self.new ≡ KnownText.Stopped error }
@@ -76,9 +86,29 @@ impl TextReader {
         }
     }
 
-    /// One more token, and what it completes.
+    /// A fault is kept, and nothing is completed; where memory ran out nothing changes.
+    #[inline(never)]
+    fn fault(&mut self, error: GrammarError) -> Result<Option<Decl>, AllocError>
+        ensures ok { IfOk result (λ o. (o ≡ None) × (self.new ≡ Stopped error) × (error ≡ GrammarError.NoMemory → ⊥)) }
+        ensures err { OnErr result ((error ≡ GrammarError.NoMemory) × (self.new ≡ self.old)) }
+    {
+        match error {
+            GrammarError::Unexpected { line } => {
+                self.known.stop(GrammarError::Unexpected { line });
+                Ok(None)
+            }
+            GrammarError::TooDeep { line } => {
+                self.known.stop(GrammarError::TooDeep { line });
+                Ok(None)
+            }
+            GrammarError::NoMemory => Err(AllocError),
+        }
+    }
+
+    /// One more token, and what it completes. It stands apart from what policies take, of which most of a text is made.
     #[tactic(auto, using(crate::proofs::TextReading::takes_on, crate::proofs::TextReading::takes_fault, crate::proofs::TextReading::takes_nothing, crate::proofs::TextReading::takes_no_memory, crate::proofs::TextReading::no_fault_behind, crate::proofs::TextReading::stops_empty))]
-    fn put(&mut self, alloc: Global, token: &Token) -> Result<Option<Decl>, AllocError>
+    #[inline(never)]
+    fn put_other(&mut self, alloc: Global, token: &Token) -> Result<Option<Decl>, AllocError>
         ensures taken { IfOk result (λ o. TakesTextOn self.old token.now self.new (declaration_done o)) }
         ensures fault { IfOk result (λ o. IsTextStopped self.new → o ≡ None) }
         ensures stopped { IsTextStopped self.old → (result ≡ Ok None) × (self.new ≡ self.old) }
@@ -89,15 +119,25 @@ impl TextReader {
                 self.line = token.line;
                 Ok(done)
             }
-            Err(GrammarError::Unexpected { line }) => {
-                self.known.stop(GrammarError::Unexpected { line });
+            Err(error) => self.fault(error),
+        }
+    }
+
+    /// One more token, and what it completes.
+    #[tactic(auto, using(crate::proofs::TextReading::takes_inside, crate::proofs::TextReading::takes_fault, crate::proofs::TextReading::takes_nothing, crate::proofs::TextReading::takes_no_memory, crate::proofs::TextReading::no_fault_behind))]
+    fn put(&mut self, alloc: Global, token: &Token) -> Result<Option<Decl>, AllocError>
+        ensures taken { IfOk result (λ o. TakesTextOn self.old token.now self.new (declaration_done o)) }
+        ensures fault { IfOk result (λ o. IsTextStopped self.new → o ≡ None) }
+        ensures stopped { IsTextStopped self.old → (result ≡ Ok None) × (self.new ≡ self.old) }
+        ensures err { OnErr result (self.new ≡ self.old) }
+    {
+        match self.known.take_inside(alloc, token) {
+            Ok(true) => {
+                self.line = token.line;
                 Ok(None)
             }
-            Err(GrammarError::TooDeep { line }) => {
-                self.known.stop(GrammarError::TooDeep { line });
-                Ok(None)
-            }
-            Err(GrammarError::NoMemory) => Err(AllocError),
+            Ok(false) => self.put_other(alloc, token),
+            Err(error) => self.fault(error),
         }
     }
 
