@@ -12,12 +12,26 @@ ghost use Rattle.nk_grammar.specs.Tree.{
   with_part,
   with_star,
 };
-ghost use Rattle.std.specs.Prelude.{◌≡◌, ◌≤◌, ◌<◌, ◌+◌, vec_capacity, vec_len, IfOk, IfErr};
+ghost use Rattle.std.specs.Prelude.{◌≡◌, ◌≤◌, ◌<◌, ◌+◌, vec_capacity, vec_len, [], IfOk, IfErr, IfSome, OnSome, None};
 
 use crate::ast::{Ast, Asts};
+use std::alloc::Global;
+use std::mem::replace;
+
+/// Takes the only one of some parts out, where there is one alone; else they stay.
+#[tactic(auto, using(crate::proofs::Trees::one_alone))]
+fn take_alone(items: &mut Vec<Ast>) -> Option<Ast>
+    ensures one { IfSome result (λ t. (sum_from (trees_of items.old.items) ≡ tree_of t) ×
+        (seq_from (trees_of items.old.items) ≡ tree_of t)) }
+    ensures others { result ≡ None → (sum_from (trees_of items.old.items) ≡ sum_of (trees_of items.old.items)) ×
+        (seq_from (trees_of items.old.items) ≡ seq_of (trees_of items.old.items)) }
+    ensures taken { OnSome result (items.new.items ≡ []) }
+    ensures kept { result ≡ None → items.new.items ≡ items.old.items }
+{
+    if items.len() == 1 { items.pop() } else { None }
+}
 
 /// The only one of some parts, or all of them.
-#[tactic(auto, using(crate::proofs::Trees::one_alone))]
 fn alone(items: Vec<Ast>) -> Result<Ast, Vec<Ast>>
     ensures one { IfOk result (λ t. (sum_from (trees_of items.items) ≡ tree_of t) ×
         (seq_from (trees_of items.items) ≡ tree_of t)) }
@@ -25,10 +39,7 @@ fn alone(items: Vec<Ast>) -> Result<Ast, Vec<Ast>>
         (trees_of ts.items)) × (seq_from (trees_of items.items) ≡ seq_of (trees_of ts.items))) }
 {
     let mut items = items;
-    if items.len() != 1 {
-        return Err(items);
-    }
-    match items.pop() {
+    match take_alone(&mut items) {
         Some(term) => Ok(term),
         None => Err(items),
     }
@@ -89,12 +100,21 @@ pub fn join(terms: Vec<Ast>, factors: Vec<Ast>) -> Ast
     sum(terms)
 }
 
-/// Puts a further term, which is given by its factors, behind the others, where there is room for it.
-pub fn push_term(terms: &mut Vec<Ast>, factors: Vec<Ast>)
+/// Puts a further term, which is given by its factors, behind the others, where there is room for it. No factor is left; where there was
+/// one alone its room is.
+#[tactic(auto, using(crate::proofs::Trees::tree_of_seq))]
+pub fn push_term(alloc: Global, terms: &mut Vec<Ast>, factors: &mut Vec<Ast>)
     requires room { vec_len terms.old < vec_capacity terms.old }
-    ensures { trees_of terms.new.items ≡ with_part (trees_of terms.old.items) (seq_from (trees_of factors.items)) }
+    ensures terms { trees_of terms.new.items ≡ with_part (trees_of terms.old.items) (seq_from (trees_of factors.old.items)) }
+    ensures factors { factors.new.items ≡ [] }
 {
-    push(terms, sequence(factors));
+    match take_alone(factors) {
+        Some(factor) => push(terms, factor),
+        None => {
+            let several = replace(factors, Vec::new(alloc));
+            push(terms, Ast::Seq(Asts::new(several)));
+        }
+    }
 }
 
 /// A policy in a box that is made.

@@ -257,8 +257,7 @@ impl PolicyReader {
         ensures taken { result ≡ true }
     {
         self.put_last();
-        let factors = replace(&mut self.factors, Vec::new(alloc));
-        push_term(&mut self.terms, factors);
+        push_term(alloc, &mut self.terms, &mut self.factors);
         self.place = Place::Want;
         true
     }
