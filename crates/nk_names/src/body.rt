@@ -1,5 +1,5 @@
 //! Policies as their `let` has them: a name in them stands for the policy above that has it.
-ghost use Rattle.std.specs.Prelude.{◌≡◌, ◌+◌, ◌<◌, IfOk, OnOk};
+ghost use Rattle.std.specs.Prelude.{◌≡◌, ◌+◌, ◌<◌, ◌≤◌, ◌^◌, IfOk, OnOk};
 ghost use Rattle.nk_policy.specs.Policy.{dups_of, dups_of_all, marked_from, all_marked_from};
 ghost use Rattle.nk_policy.specs.Tree.{tree_of, trees_of};
 ghost use Rattle.nk_names.specs.Body.{policy_in, policies_in, policy_of};
@@ -89,6 +89,15 @@ impl Shared {
     {
         written(alloc, &self.body)
     }
+
+    /// The same, its dups numbered from `first` on.
+    pub(crate) fn written_from(&self, alloc: Global, first: u32) -> Result<Pol, AllocError>
+        requires positive { 1 ≤ first }
+        requires fit { first + dups_of (policy_of self.now) ≤ 2 ^ 32 }
+        ensures { IfOk result (λ q. tree_of q ≡ marked_from (policy_of self.now) first) }
+    {
+        written_from(alloc, &self.body, first)
+    }
 }
 
 /// The policy of a body with all names written out, its dups numbered from 1.
@@ -96,7 +105,16 @@ pub(crate) fn written(alloc: Global, body: &Body) -> Result<Pol, AllocError>
     requires { dups_of (policy_in body.now) < 4294967295 }
     ensures { IfOk result (λ q. tree_of q ≡ marked_from (policy_in body.now) 1) }
 {
-    let mut before = 0;
+    written_from(alloc, body, 1)
+}
+
+/// The same, its dups numbered from `first` on.
+fn written_from(alloc: Global, body: &Body, first: u32) -> Result<Pol, AllocError>
+    requires positive { 1 ≤ first }
+    requires fit { first + dups_of (policy_in body.now) ≤ 2 ^ 32 }
+    ensures { IfOk result (λ q. tree_of q ≡ marked_from (policy_in body.now) first) }
+{
+    let mut before = u64::from(first - 1);
     written_on(alloc, body, &mut before)
 }
 
@@ -104,7 +122,7 @@ pub(crate) fn written(alloc: Global, body: &Body) -> Result<Pol, AllocError>
 #[cycle(write)]
 #[tactic(auto, using(crate::proofs::Bodies::policy_in_sum, crate::proofs::Bodies::policy_in_seq, crate::proofs::Bodies::name_marked, crate::proofs::Bodies::name_dups, nk_policy::proofs::Trees::tree_of_sum, nk_policy::proofs::Trees::tree_of_seq))]
 fn written_on(alloc: Global, body: &Body, before: &mut u64) -> Result<Pol, AllocError>
-    requires fit { before.old + dups_of (policy_in body.now) < 4294967295 }
+    requires fit { before.old + dups_of (policy_in body.now) < 2 ^ 32 }
     ensures tree { IfOk result (λ q. tree_of q ≡ marked_from (policy_in body.now) (before.old + 1)) }
     ensures before { OnOk result (before.new ≡ before.old + dups_of (policy_in body.now)) }
 {
@@ -133,7 +151,7 @@ fn written_on(alloc: Global, body: &Body, before: &mut u64) -> Result<Pol, Alloc
 #[cycle(write)]
 #[tactic(auto, using(nk_policy::proofs::Trees::joined_push, nk_policy::proofs::Trees::joined_none))]
 fn all_written_on(alloc: Global, parts: &[Body], before: &mut u64) -> Result<Vec<Pol>, AllocError>
-    requires fit { before.old + dups_of_all (policies_in parts.now) < 4294967295 }
+    requires fit { before.old + dups_of_all (policies_in parts.now) < 2 ^ 32 }
     ensures trees { IfOk result (λ qs. trees_of qs.items ≡ all_marked_from (policies_in parts.now) (before.old + 1)) }
     ensures before { OnOk result (before.new ≡ before.old + dups_of_all (policies_in parts.now)) }
 {

@@ -1,6 +1,6 @@
 //! The policy of a name.
-ghost use Rattle.std.specs.Prelude.{◌≡◌, ◌<◌, IfOk};
-ghost use Rattle.nk_policy.specs.Policy.{dups_of};
+ghost use Rattle.std.specs.Prelude.{◌≡◌, ◌+◌, ◌<◌, ◌≤◌, ◌^◌, IfOk};
+ghost use Rattle.nk_policy.specs.Policy.{dups_of, marked_from};
 ghost use Rattle.nk_policy.specs.Tree.{tree_of};
 ghost use Rattle.nk_names.specs.Body.{policy_of};
 
@@ -58,5 +58,14 @@ impl NamedPolicy {
         ensures { IfOk result (λ q. tree_of q ≡ self.now) }
     {
         self.policy.written(alloc)
+    }
+
+    /// The same, its dups numbered from `first` on in text order, a link counting as two. The only error is that memory ran out.
+    pub fn written_from(&self, alloc: Global, first: u32) -> Result<Pol, AllocError>
+        requires positive { 1 ≤ first }
+        requires fit { first + dups_of self.now ≤ 2 ^ 32 }
+        ensures { IfOk result (λ q. tree_of q ≡ marked_from self.now first) }
+    {
+        self.policy.written_from(alloc, first)
     }
 }
