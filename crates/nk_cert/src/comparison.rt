@@ -1,5 +1,5 @@
 //! Two policies compared.
-ghost use Rattle.std.specs.Prelude.{◌≡◌, ◌+◌, ◌<◌, ◌≤◌, ◌^◌, IfOk};
+ghost use Rattle.std.specs.Prelude.{◌≡◌, ◌+◌, ◌<◌, ◌^◌, IfOk};
 ghost use Rattle.nk_field.specs.Packet.{FieldTable};
 ghost use Rattle.nk_store.specs.Held.{IsOver};
 ghost use Rattle.nk_auto.specs.Continued.{IsFit};
@@ -47,49 +47,35 @@ pub fn compare_policies(
     compare_by_levels(&mut st, &both, bound as usize)
 }
 
-/// The same of policies that are let go once their automaton is made.
+/// The same of policies that are let go once their automaton is made. The right one's dups are numbered on from the left one's
+/// already, and the answer is that of each policy that is the right one once it is so numbered.
 pub fn compare_owned(alloc: Global, fields: &Fields, p: Pol, q: Pol) -> Result<Compared, AllocError>
     requires numbered { marked_from (tree_of p) 1 ≡ tree_of p }
+    requires behind { marked_from (tree_of q) (1 + dups_of (tree_of p)) ≡ tree_of q }
     requires few { 1 + dups_of (tree_of p) + dups_of (tree_of q) < 2 ^ 32 }
     requires left_complements { NegatesPredicates (tree_of p) }
     requires right_complements { NegatesPredicates (tree_of q) }
     requires left_over { IsOverFields fields.now (tree_of p) }
     requires right_over { IsOverFields fields.now (tree_of q) }
-    ensures { IfOk result (IsComparison fields.now (tree_of p) (tree_of q)) }
+    ensures { IfOk result (λ c. (r : Policy) → marked_from r (1 + dups_of (tree_of p)) ≡ tree_of q → IsComparison fields.now (tree_of p) r c) }
 {
     let bound = number_behind(&p);
     let mut st = Store::new(alloc, fields)?;
-    let both = owned_automaton(&mut st, p, q, bound)?;
+    let both = owned_automaton(&mut st, p, q)?;
     compare_by_levels(&mut st, &both, bound as usize)
 }
 
-/// The automaton of two policies together, the right one's dups numbered on from the bound. Both are let go then, and the right one as
-/// it was already once it is numbered.
-pub(crate) fn owned_automaton(
-    st: &mut Store,
-    p: Pol,
-    q: Pol,
-    bound: u32,
-) -> Result<Both, AllocError>
+/// The automaton of two policies together, the right one's dups numbered on from the left one's. Both are let go then.
+pub(crate) fn owned_automaton(st: &mut Store, p: Pol, q: Pol) -> Result<Both, AllocError>
     requires left { marked_from (tree_of p) 1 ≡ tree_of p }
-    requires bound { bound ≡ 1 + dups_of (tree_of p) }
+    requires right { marked_from (tree_of q) (1 + dups_of (tree_of p)) ≡ tree_of q }
     requires few { 1 + dups_of (tree_of p) + dups_of (tree_of q) < 2 ^ 32 }
     requires left_fit { IsFit st.old.maxes (tree_of p) }
-    requires right_fit { IsFit st.old.maxes (marked_from (tree_of q) bound) }
+    requires right_fit { IsFit st.old.maxes (tree_of q) }
     ensures { IfOk result (λ b. (fields : FieldTable) → IsOver fields st.old
-        → IsAutomatonOfBoth fields st.new b.states b.left b.right (tree_of p) (marked_from (tree_of q) bound)) }
+        → IsAutomatonOfBoth fields st.new b.states b.left b.right (tree_of p) (tree_of q)) }
 {
-    let behind = numbered_behind(st.alloc(), q, bound)?;
-    automaton_of_both(st, &p, &behind)
-}
-
-/// The policy with its dups numbered from here on; as it was it is let go.
-fn numbered_behind(alloc: Global, q: Pol, first: u32) -> Result<Pol, AllocError>
-    requires positive { 1 ≤ first }
-    requires fit { first + dups_of (tree_of q) ≤ 2 ^ 32 }
-    ensures { IfOk result (λ r. tree_of r ≡ marked_from (tree_of q) first) }
-{
-    marked(alloc, &q, first)
+    automaton_of_both(st, &p, &q)
 }
 
 /// The automaton of two policies together, the right one's dups numbered on from the bound.

@@ -40,7 +40,7 @@ pub fn check(
         return Err(CheckError::NoPolicy);
     };
     let p = on_left.written(alloc)?;
-    let q = on_right.written(alloc)?;
+    let q = on_right.written_from(alloc, number_behind(&p))?;
     Ok(check_both(alloc, &program.fields, p, q, certificate)?)
 }
 
@@ -54,17 +54,18 @@ fn check_both(
     certificate: &Certificate,
 ) -> Result<Verdict, AllocError>
     requires numbered { marked_from (tree_of p) 1 ≡ tree_of p }
+    requires behind { marked_from (tree_of q) (1 + dups_of (tree_of p)) ≡ tree_of q }
     requires few { 1 + dups_of (tree_of p) + dups_of (tree_of q) < 2 ^ 32 }
     requires left_complements { NegatesPredicates (tree_of p) }
     requires left_over { IsOverFields fields.now (tree_of p) }
     requires right_complements { NegatesPredicates (tree_of q) }
     requires right_over { IsOverFields fields.now (tree_of q) }
     requires predicates { HasPredicates (certificate_value certificate.now) }
-    ensures { IfOk result (λ v. IsFinding fields.now (tree_of p) (marked_from (tree_of q) (1 + dups_of (tree_of p))) (certificate_value certificate.now) (finding_of v)) }
+    ensures { IfOk result (λ v. IsFinding fields.now (tree_of p) (tree_of q) (certificate_value certificate.now) (finding_of v)) }
 {
     let bound = number_behind(&p);
     let mut st = Store::new(alloc, fields)?;
-    let both = owned_automaton(&mut st, p, q, bound)?;
+    let both = owned_automaton(&mut st, p, q)?;
     let mut ss = Sets::new(alloc);
     verdict_by(&mut st, &mut ss, both, bound as usize, certificate)
 }

@@ -1,8 +1,9 @@
-use Rattle.std.proofs.Common.{◌≡◌, ◌∙◌, sym, ap, subst, arith}
+use Rattle.std.proofs.Common.{◌+◌, sym, subst}
 use Rattle.std.proofs.lemmas.Result.{IfOk-weaker}
-use Rattle.nk_policy.specs.Policy.{marked_from}
+use Rattle.nk_policy.specs.Policy.{dups_of}
 use Rattle.nk_policy.specs.Tree.{tree_of}
-use Rattle.nk_names.proofs.Good.{over_marked, over_in_range, negates_marked}
+use Rattle.nk_names.proofs.Good.{over_in_range}
+use Rattle.nk_cert.specs.Comparison.{IsComparison}
 use Rattle.nk_cert.proofs.Named.{fits_store}
 use Rattle.nk_cert.proofs.Comparing.{as_declared}
 use Rattle.nk_cert.proofs.comparison.compare_owned.Goals as goal
@@ -14,20 +15,18 @@ owned_automaton-requires-clause-left_fit c =
 
 pub owned_automaton-requires-clause-right_fit : goal.owned_automaton-requires-clause-right_fit
 owned_automaton-requires-clause-right_fit c =
-    let q = tree_of c.args.q in
-    let n = c.number_behind-bound.result in
-    fits_store c.args.fields.now c.in_ok-st.st c.in_ok-st.ensures.over (marked_from q n) (negates_marked q n c.requires.right_complements)
-    (over_in_range c.args.fields.now (marked_from q n) (over_marked c.args.fields.now q n c.requires.right_over))
+    fits_store c.args.fields.now c.in_ok-st.st c.in_ok-st.ensures.over (tree_of c.args.q) c.requires.right_complements
+    (over_in_range c.args.fields.now (tree_of c.args.q) c.requires.right_over)
 
 pub returns : goal.returns
 returns c =
     let fields = c.args.fields.now in
     let p = tree_of c.args.p in
     let q = tree_of c.args.q in
-    let n = c.number_behind-bound.result in
     IfOk-weaker c.compare_by_levels.result _ _
-    (λ r made.
-    as_declared fields p q n r
-    (made fields p (marked_from q n) (c.in_ok-both.ensures fields c.in_ok-st.ensures.over) c.number_behind-bound.ensures
-    (over_in_range fields p c.requires.left_over) (over_in_range fields (marked_from q n) (over_marked fields q n c.requires.right_over))))
+    (λ k made r e.
+    as_declared fields p r (1 + dups_of p) k
+    (subst (λ z. IsComparison fields p z k) (sym e)
+    (made fields p q (c.in_ok-both.ensures fields c.in_ok-st.ensures.over) c.number_behind-bound.ensures
+    (over_in_range fields p c.requires.left_over) (over_in_range fields q c.requires.right_over))))
     c.compare_by_levels.ensures
