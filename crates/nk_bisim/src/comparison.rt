@@ -2,7 +2,7 @@
 ghost use Rattle.nk_bisim.specs.Answers.{IsCompared};
 
 use crate::answer::CompareError;
-use nk_cert::{Compared, compare_owned};
+use nk_cert::{Compared, compare_owned, number_behind};
 use nk_names::Program;
 use std::alloc::Global;
 
@@ -24,6 +24,6 @@ pub fn compare(
         return Err(CompareError::NoPolicy);
     };
     let p = on_left.written(alloc)?;
-    let q = on_right.written(alloc)?;
+    let q = on_right.written_from(alloc, number_behind(&p))?;
     Ok(compare_owned(alloc, &program.fields, p, q)?)
 }
