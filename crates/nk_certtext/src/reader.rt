@@ -1,5 +1,5 @@
 //! A text with a certificate read token by token.
-ghost use Rattle.std.specs.Prelude.{◌≡◌, ◌++◌, ◌∷◌, ◌≤◌, [], All, Err, IfErr, IfOk, IsOk, List, OnErr, OnOk};
+ghost use Rattle.std.specs.Prelude.{◌≡◌, ◌++◌, ◌∷◌, ◌≤◌, [], All, Err, IfErr, IfOk, IsOk, List, None, OnErr, OnOk};
 ghost use Rattle.nk_lex.specs.declared.token.Token.{Token};
 ghost use Rattle.nk_lex.specs.Lex.{largest};
 ghost use Rattle.nk_grammar.specs.Answer.{terminals};
@@ -64,6 +64,24 @@ impl Parts {
         }
     }
 
+    /// What an earlier token completed, where it is still to be put in; it isn't any more then.
+    fn put_pending(
+        &mut self,
+        alloc: Global,
+        pending: &mut Option<Completed>,
+    ) -> Result<(), AllocError>
+        ensures ok { OnOk result (parts_in self.new ≡ with_completed (parts_in self.old) pending.old) }
+        ensures put { OnOk result (pending.new ≡ None) }
+        ensures kept { OnErr result ((parts_in self.new ≡ parts_in self.old) × (pending.new ≡ pending.old)) }
+    {
+        let Some(part) = &*pending else {
+            return Ok(());
+        };
+        self.put(alloc, part)?;
+        *pending = None;
+        Ok(())
+    }
+
     /// The last row, behind what the last token completed. It is refused with the grammar's fault, where the tokens have one.
     fn put_last(
         &mut self,
@@ -95,6 +113,16 @@ impl Parts {
         let program = program.finish()?;
         let certificate = rows.finish(alloc)?;
         Ok((program, certificate))
+    }
+}
+
+/// What a token completed is still to be put in, if it completed something.
+fn keep_part(pending: &mut Option<Completed>, part: Option<Completed>)
+    requires { pending.old ≡ None }
+    ensures { pending.new ≡ part }
+{
+    if let Some(part) = part {
+        *pending = Some(part);
     }
 }
 
@@ -148,10 +176,9 @@ impl CertReader {
         if self.grammar.is_stopped() {
             return Ok(());
         }
-        self.parts.put_completed(alloc, &self.pending)?;
-        self.pending = None;
+        self.parts.put_pending(alloc, &mut self.pending)?;
         let part = self.grammar.take(alloc, token)?;
-        self.pending = part;
+        keep_part(&mut self.pending, part);
         Ok(())
     }
 

@@ -7,6 +7,7 @@ pub returns-clause-taken : goal.returns-clause-taken
 returns-clause-taken c = λ ts ds rs h. record {
   part = c.in_ok-part.part;
   read = c.in_ok-part.ensures.tokens ts ds rs (subst (λ (p : CertProgress). IsRead ts ds rs p.grammar) (sym c.self.view_is) h);
-  parts = ap (λ (q : PartsValue). with_completed q c.in_ok-part.part)
-      (c.in_ok-put_completed.ensures.ok ∙ ap (λ (p : CertProgress). p.parts) c.self.view_is);
+  parts = rw c.keep_part.ensures
+      (ap (λ (q : PartsValue). with_completed q c.in_ok-part.part)
+      (c.in_ok-put_pending.ensures.ok ∙ ap (λ (p : CertProgress). p.parts) c.self.view_is));
 }
