@@ -5,5 +5,5 @@ mod answer;
 mod comparison;
 
 pub use answer::CompareError;
-pub use comparison::compare;
+pub use comparison::{compare, compare_owned_program};
 pub use nk_cert::Compared;

@@ -1,16 +1,21 @@
 -- Named policies of a program: what holds of them, and that they fit a store over the program's fields.
-use Rattle.std.proofs.Common.{◌≡◌, ℕ, ◌+◌, ◌<◌, ◌≤◌, ap, sym, subst, ◌∙◌, arith}
+use Rattle.std.proofs.Common.{◌≡◌, ℕ, ◌+◌, ◌<◌, ◌≤◌, Some, Ok, Err, List, ap, sym, subst, ◌∙◌, arith}
+use Rattle.std.specs.Prelude.{Result, IsErrAnd}
 use Rattle.nk_field.specs.Packet.{FieldTable}
 use Rattle.nk_policy.specs.Policy.{Policy, marked_from, dups_of}
 use Rattle.nk_policy.specs.Ranges.{IsInRange, IsOverFields}
 use Rattle.nk_names.specs.Complements.{NegatesPredicates}
-use Rattle.nk_names.specs.ProgramValue.{IsLet}
+use Rattle.nk_names.specs.ProgramValue.{IsProgram, IsLet}
+use Rattle.nk_names.specs.Named.{policy_named}
+use Rattle.nk_names.specs.declared.Program.{Program}
 use Rattle.nk_names.proofs.Good.{few_dups, dups_marked, over_marked, negates_marked}
 pub use Rattle.nk_names.proofs.Named.{let_named}
 use Rattle.nk_names.proofs.Weaker.{assigns_weaker}
 use Rattle.nk_store.specs.Held.{Held, IsOver}
 use Rattle.nk_store.proofs.InRange.{same_value}
 use Rattle.nk_auto.specs.Continued.{IsFit}
+use Rattle.nk_cert.specs.Written.{AreWritten}
+use Rattle.nk_cert.proofs.Comparing.{right_numbered}
 
 -- two policies of a program have few dups
 pub few_of_both : (fields : FieldTable) (p q : Policy) → IsLet fields p → IsLet fields q → 1 + dups_of p + dups_of q < 4294967296
@@ -34,6 +39,31 @@ module _ (fields : FieldTable) (p q r : Policy) (n : ℕ) (k : IsLet fields p) (
 
   pub over_behind : IsOverFields fields r
   over_behind = subst (λ z. IsOverFields fields z) (sym is) (over_marked fields q n l.over)
+
+-- two policies of a program, the second one with its dups numbered on from the first one's, are written out to stand together
+pub are_written :
+    (program : Program) (left right : List ℕ) (p q r : Policy) (n : ℕ) → IsProgram program.fields program.topo program.lets
+    → policy_named program left ≡ Some p → policy_named program right ≡ Some r → n ≡ 1 + dups_of p → q ≡ marked_from r n
+    → AreWritten program left right p q
+are_written program left right p q r n ok on_left on_right same is =
+    let k = let_named program left p ok on_left in
+    let l = let_named program right r ok on_right in
+    record {
+      on_left = on_left;
+      on_right = (r, on_right, is ∙ ap (λ m. marked_from r m) same);
+      numbered = k.numbered;
+      behind = right_numbered r q n _ is same;
+      few = few_behind program.fields p r q n k l is;
+      left_complements = k.complements;
+      right_complements = complements_behind program.fields p r q n k l is;
+      left_over = k.over;
+      right_over = over_behind program.fields p r q n k l is;
+    }
+
+-- what holds of an error holds of a result that passes it on
+pub passed_on : {X E : Type 0} (r : Result X E) (e : E) (Q : Result X E → Type 0) → IsErrAnd r (λ x. x ≡ e) → Q (Err e) → Q r
+passed_on (Ok x) e Q h q = absurd h
+passed_on (Err d) e Q h q = subst (λ k. Q (Err k)) (sym h) q
 
 -- a policy of the fields fits a store over them
 pub fits_store : (fields : FieldTable) (st : Held) → IsOver fields st → (p : Policy) → NegatesPredicates p → IsInRange p fields → IsFit st.maxes p
