@@ -11,4 +11,4 @@ mod text;
 pub use error::{CertError, TextError};
 pub use reader::CertReader;
 pub use reading::read_cert;
-pub use text::cert_text;
+pub use text::{cert_text, certificate_text};

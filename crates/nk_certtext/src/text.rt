@@ -18,10 +18,21 @@ use std::alloc::{AllocError, Global};
 pub fn cert_text(alloc: Global, program: &Program, c: &Certificate) -> Result<Vec<u8>, AllocError>
     ensures { IfOk result (λ text. text.items ≡ cert_bytes program.now.fields (certificate_value c.now)) }
 {
+    certificate_text(alloc, &program.fields, c)
+}
+
+/// The same by the fields alone.
+pub fn certificate_text(
+    alloc: Global,
+    fields: &Fields,
+    c: &Certificate,
+) -> Result<Vec<u8>, AllocError>
+    ensures { IfOk result (λ text. text.items ≡ cert_bytes fields.now (certificate_value c.now)) }
+{
     let mut out = Vec::new(alloc);
     out.extend_from_slice(b"certificate\nrow start")?;
-    push_predicate(alloc, &mut out, &program.fields, &c.start)?;
-    push_rows(alloc, &mut out, &program.fields, c.rows.as_slice())?;
+    push_predicate(alloc, &mut out, fields, &c.start)?;
+    push_rows(alloc, &mut out, fields, c.rows.as_slice())?;
     Ok(out)
 }
 
