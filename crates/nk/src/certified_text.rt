@@ -37,12 +37,12 @@ pub(crate) trait Judge {
     fn judge(
         &self,
         alloc: Global,
-        program: &Program,
+        program: Program,
         certificate: &Certificate,
     ) -> Result<Said, AllocError>
-        requires is { IsProgram program.now.fields program.now.topo program.now.lets }
+        requires is { IsProgram program.fields program.topo program.lets }
         requires predicates { HasPredicates (certificate_value certificate.now) }
-        ensures { IfOk result (λ s. TellsNoFault (tells self.now (said_by program.now) (certificate_value certificate.now)) (said s)) };
+        ensures { IfOk result (λ s. TellsNoFault (tells self.now (said_by program) (certificate_value certificate.now)) (said s)) };
 }
 
 /// What judging a certificate means to say, over a source that gives a text with one, whose tokens are taken as they come.
@@ -105,7 +105,7 @@ fn answer_to_tokens<J: Judge>(
         → IfOk result (λ s. ToCertifiedTokens (J.tells how.now) tokens (said s)) }
 {
     match reader.end(alloc) {
-        Ok((program, certificate)) => how.judge(alloc, &program, &certificate),
+        Ok((program, certificate)) => how.judge(alloc, program, &certificate),
         Err(error) => answer_to_fault(alloc, error),
     }
 }

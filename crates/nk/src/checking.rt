@@ -15,7 +15,7 @@ use crate::certified_text::{Judge, judge_text};
 use crate::messages::{invalid_message, no_policy_message};
 use crate::{Reply, Said};
 use nk_cert::laws::a_certificate_shows_equality;
-use nk_cert::{Certificate, CheckError, Verdict, check};
+use nk_cert::{Certificate, CheckError, Verdict, check_owned};
 use nk_io::Source;
 use nk_names::Program;
 use std::alloc::{AllocError, Global};
@@ -35,7 +35,7 @@ impl<'a> Judge for NamedPair<'a> {
     fn judge(
         &self,
         alloc: Global,
-        program: &Program,
+        program: Program,
         certificate: &Certificate,
     ) -> Result<Said, AllocError> {
         answer_to_certificate(alloc, self.left, self.right, program, certificate)
@@ -56,21 +56,21 @@ pub(crate) fn check_reply<S: Source>(
     judge_text(alloc, &NamedPair { left, right }, source)
 }
 
-/// What is found of a certificate over a program.
+/// What is found of a certificate over a program, whose policies are let go once both are written out.
 fn answer_to_certificate(
     alloc: Global,
     left: &str,
     right: &str,
-    program: &Program,
+    program: Program,
     certificate: &Certificate,
 ) -> Result<Said, AllocError>
-    requires is { IsProgram program.now.fields program.now.topo program.now.lets }
+    requires is { IsProgram program.fields program.topo program.lets }
     requires predicates { HasPredicates (certificate_value certificate.now) }
-    ensures { IfOk result (λ s. TellsNoFault (λ o. ToChecked (said_by program.now) left.now right.now (certificate_value certificate.now) o) (said s)) }
+    ensures { IfOk result (λ s. TellsNoFault (λ o. ToChecked (said_by program) left.now right.now (certificate_value certificate.now) o) (said s)) }
 {
     // This is a law: policies with a certificate give the same histories.
     a_certificate_shows_equality();
-    match check(alloc, program, left, right, certificate) {
+    match check_owned(alloc, program, left, right, certificate) {
         Ok(Verdict::Valid) => Ok(Said::Done(Vec::from_slice(alloc, b"valid\n")?)),
         Ok(Verdict::Invalid { row, part }) => {
             Ok(Said::Differs(invalid_message(alloc, row, part)?))

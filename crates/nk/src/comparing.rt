@@ -8,8 +8,8 @@ ghost use Rattle.nk.specs.Reply.{said};
 use crate::Said;
 use crate::messages::{difference_message, no_policy_message};
 use crate::program_text::{ReadText, read_program};
-use nk_bisim::{CompareError, Compared, compare};
-use nk_certtext::cert_text;
+use nk_bisim::{CompareError, Compared, compare_owned_program};
+use nk_certtext::certificate_text;
 use nk_certtext::laws::certificates_of_policies_are_read;
 use nk_names::Program;
 use std::alloc::{AllocError, Global};
@@ -24,29 +24,34 @@ pub(crate) fn equal_answer(
     ensures { IfOk result (λ s. IsEqualAnswer left.now right.now bytes.items (said s)) }
 {
     match read_program(alloc, bytes)? {
-        ReadText::Program(program) => answer_to_program(alloc, left, right, &program),
+        ReadText::Program(program) => answer_to_program(alloc, left, right, program),
         ReadText::Fault(line) => Ok(Said::Text(line)),
     }
 }
 
-/// The same over a program.
+/// The same over a program. Its policies are let go once both are written out.
 fn answer_to_program(
     alloc: Global,
     left: &str,
     right: &str,
-    program: &Program,
+    program: Program,
 ) -> Result<Said, AllocError>
-    requires is { IsProgram program.now.fields program.now.topo program.now.lets }
-    ensures { IfOk result (λ s. ToCompared (said_by program.now) left.now right.now (said s)) }
+    requires is { IsProgram program.fields program.topo program.lets }
+    ensures { IfOk result (λ s. ToCompared (said_by program) left.now right.now (said s)) }
 {
     // This is a law: what is printed for two policies is read back.
     certificates_of_policies_are_read();
-    match compare(alloc, program, left, right) {
-        Ok(Compared::Related(certificate)) => {
-            Ok(Said::Done(cert_text(alloc, program, &certificate)?))
-        }
-        Ok(Compared::Broken(found)) => {
-            Ok(Said::Differs(difference_message(alloc, &program.fields, &found)?))
+    match compare_owned_program(alloc, program, left, right) {
+        Ok(answer) => {
+            let (compared, fields) = answer;
+            match compared {
+                Compared::Related(certificate) => {
+                    Ok(Said::Done(certificate_text(alloc, &fields, &certificate)?))
+                }
+                Compared::Broken(found) => {
+                    Ok(Said::Differs(difference_message(alloc, &fields, &found)?))
+                }
+            }
         }
         Err(CompareError::NoPolicy) => Ok(Said::Refused(no_policy_message(alloc)?)),
         Err(CompareError::NoMemory) => Err(AllocError),

@@ -32,10 +32,10 @@ impl<'a> Judge for Query<'a> {
     fn judge(
         &self,
         alloc: Global,
-        program: &Program,
+        program: Program,
         certificate: &Certificate,
     ) -> Result<Said, AllocError> {
-        answer_to_certificate(alloc, self, program, certificate)
+        answer_to_certificate(alloc, self, &program, certificate)
     }
 }
 

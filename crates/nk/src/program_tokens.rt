@@ -50,6 +50,9 @@ impl ProgramTokens {
         ensures { (ts : List Token) → AreTaken ts self.old → OnOk result (AreTaken (ts ++ token.now ∷ []) self.new) }
     {
         let done = self.grammar.take(alloc, token)?;
-        declare_done(alloc, &mut self.program, done)
+        match done {
+            Some(decl) => self.program.declare(alloc, &decl),
+            None => Ok(()),
+        }
     }
 }
