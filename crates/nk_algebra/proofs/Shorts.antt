@@ -6,7 +6,7 @@ use Rattle.nk_store.specs.declared.node.Node.{Node}
 use Rattle.nk_store.specs.declared.node.Node.TheVariants.{Leaf}
 use Rattle.std.specs.declared.cmp.Ordering.TheVariants.{Less}
 use Rattle.nk_store.specs.Leaves.{Every, Strict, out_cmp}
-use Rattle.nk_store.specs.Held.{Held, IsId, look, HasLeaves, IsNodeOf, AreTidy}
+use Rattle.nk_store.specs.Held.{Held, IsId, look, HasLeaves, IsNodeOf, AreTidy, Grows}
 use Rattle.nk_algebra.specs.Leaves.{merged, guarded}
 use Rattle.nk_algebra.specs.Seqs.{prefixed}
 use Rattle.nk_algebra.proofs.Sorted.{weave-at, merged_strict}
@@ -35,6 +35,26 @@ united_same st a b ia t e = record { id = ia; leaf = λ pk w. sym (merged_same (
 pub united_left : (st : Held) (a b : ℕ) → IsId st a → ((pk : List ℕ) → look st b pk ≡ []) →
     HasLeaves st a (λ pk. merged (look st a pk) (look st b pk))
 united_left st a b ia e = record { id = ia; leaf = λ pk w. sym (ap (λ y. merged (look st a pk) y) (e pk) ∙ merged-nil (look st a pk)) }
+
+-- a diagram together with the one that drops each packet
+pub beside_none : (st : Held) (none x y : ℕ) → IsId st x → HasLeaves st none (λ pk. []) → y ≡ none →
+    HasLeaves st x (λ pk. merged (look st x pk) (look st y pk))
+beside_none st none x y ix h is = record {
+  id = ix;
+  leaf = λ pk w. sym (ap (λ z. merged (look st x pk) z) (ap (λ d. look st d pk) is ∙ h.leaf pk w) ∙ merged-nil (look st x pk));
+}
+
+-- the one that drops each packet together with a diagram
+pub none_beside : (st : Held) (none x y : ℕ) → IsId st y → HasLeaves st none (λ pk. []) → x ≡ none →
+    HasLeaves st y (λ pk. merged (look st x pk) (look st y pk))
+none_beside st none x y iy h is = record {
+  id = iy;
+  leaf = λ pk w. sym (ap (λ z. merged z (look st y pk)) (ap (λ d. look st d pk) is ∙ h.leaf pk w));
+}
+
+-- a diagram keeps its leaves in a store that grew
+pub leaves_grown : (old new : Held) (d : ℕ) (F : List ℕ → List Out) → Grows old new → HasLeaves old d F → HasLeaves new d F
+leaves_grown old new d F g h = record { id = g.ids d h.id; leaf = λ pk w. g.leaves d pk h.id ∙ h.leaf pk w }
 
 -- nothing where a leaf without an out is not empty
 pub guarded_nothing : (st : Held) (a b : ℕ) (n : Node) (outs : List Out) → IsId st a → IsNodeOf st a n →

@@ -1,11 +1,12 @@
 //! Many diagrams together, as parts by the first field of all: one node is made of them in the end, and none before.
-ghost use Rattle.std.specs.Prelude.{◌<◌, ◌≤◌, ◌-◌, IfOk, length};
+ghost use Rattle.std.specs.Prelude.{◌<◌, ◌≤◌, ◌-◌, [], min, IfOk, length};
 ghost use Rattle.nk_store.specs.Nodes.{child_at};
 ghost use Rattle.nk_store.specs.Held.{IsId, look, top, Grows, HasLeaves, IsChild, AreParts};
 ghost use Rattle.nk_algebra.specs.Leaves.{merged};
 ghost use Rattle.nk_algebra.specs.Subs.{sub};
 ghost use Rattle.nk_algebra.specs.Unions.{AreIds, AreFrom, HaveParts, leaf_at, over_places, unions};
 
+use crate::constants::empty;
 use crate::few::{are_few, few_parts};
 use crate::leaves::union_later;
 use crate::part::found_near;
@@ -111,6 +112,7 @@ fn join_parts(
     ensures ok { IfOk result (HaveParts st.new f (λ v pk. merged (look st.old (child_at 0 xs.now v) pk) (look st.old (child_at 0 ys.now v) pk))) }
 {
     let max = st.max(f);
+    let none = empty(st)?;
     let mut parts = List::new(st.alloc());
     let mut near_x = 0;
     let mut near_y = 0;
@@ -119,11 +121,31 @@ fn join_parts(
         let (end_x, x) = found_near(xs, max, from, &mut near_x);
         let (end_y, y) = found_near(ys, max, from, &mut near_y);
         let end = end_x.min(end_y);
-        let child = union_later(st, x, y)?;
+        let child = union_beside(st, none, x, y)?;
         parts.push((end, child))?;
         if end == max {
             return Ok(parts);
         }
         from = end + 1;
     }
+}
+
+/// Both leaves together, where `none` is the diagram that drops each packet: most parts of sums stand beside none, and are looked for
+/// nowhere.
+fn union_beside(st: &mut Store, none: Id, x: Id, y: Id) -> Result<Id, AllocError>
+    requires none { HasLeaves st.old none (λ pk. []) }
+    requires left { IsId st.old x }
+    requires right { IsId st.old y }
+    ensures grows { Grows st.old st.new }
+    ensures ok { IfOk result (λ d. HasLeaves st.new d (λ pk. merged (look st.old x pk) (look st.old y pk))) }
+    ensures later { IfOk result (λ d. min (top st.old x) (top st.old y) ≤ top st.new d) }
+{
+    st.laws();
+    if y == none {
+        return Ok(x);
+    }
+    if x == none {
+        return Ok(y);
+    }
+    union_later(st, x, y)
 }

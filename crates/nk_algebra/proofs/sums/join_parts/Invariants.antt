@@ -1,5 +1,5 @@
-use Rattle.std.proofs.Common.{◌-◌, ◌≤◌}
-use Rattle.nk_store.specs.Held.{Grows}
+use Rattle.std.proofs.Common.{◌-◌, ◌≤◌, []}
+use Rattle.nk_store.specs.Held.{Grows, HasLeaves}
 use Rattle.nk_algebra.proofs.Built.{Built}
 use Rattle.nk_algebra.proofs.PartSums.{both_at}
 use Rattle.nk_algebra.proofs.sums.join_parts.Given as goal
@@ -8,6 +8,7 @@ abbrev pub invariant-loop-parts : goal.invariant-loop-parts
 invariant-loop-parts l = record {
   grows : Grows l.fn.st l.st;
   within : l.from ≤ l.max;
+  none : HasLeaves l.st l.none (λ pk. []);
   built : Built (both_at l.fn.st l.fn.xs l.fn.ys) l.st l.fn.f l.from l.parts;
 }
 
