@@ -47,8 +47,8 @@ StaysWithoutMemory (Err error.NoMemory) old new = new ≡ old
 StaysWithoutMemory r old new = ⊤
 
 -- the token is taken as the machine takes it, or nothing changes where memory ran out
-abbrev pub Takes : Phase → Phase → ℕ → Terminal → Result (Option Decl) GrammarError → Type 0
-Takes old new line t result =
+abbrev pub TakesTerminal : Phase → Phase → ℕ → Terminal → Result (Option Decl) GrammarError → Type 0
+TakesTerminal old new line t result =
     Returns (λ d. reading new (declaration_done d)) result (judged line (read_one (reading old []) t))
     × StaysWithoutMemory result old new
 
@@ -59,6 +59,6 @@ StopsPolicy p t = ⊤
 
 -- the token is taken so, inside a policy, and completes nothing; or no policy goes on with it, and nothing changed
 abbrev pub TakesInside : Phase → Phase → ℕ → Terminal → Result Bool GrammarError → Type 0
-TakesInside old new line t (Ok true) = Takes old new line t (Ok None)
+TakesInside old new line t (Ok true) = TakesTerminal old new line t (Ok None)
 TakesInside old new line t (Ok false) = (new ≡ old) × StopsPolicy old t
-TakesInside old new line t (Err e) = Takes old new line t (Err e)
+TakesInside old new line t (Err e) = TakesTerminal old new line t (Err e)

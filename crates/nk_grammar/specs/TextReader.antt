@@ -8,7 +8,7 @@ use Rattle.nk_grammar.specs.declared.text_reader.KnownText.{KnownText}
 use Rattle.nk_grammar.specs.declared.text_reader.KnownText.TheVariants as known
 use Rattle.nk_grammar.specs.Terminal.{terminal_of}
 use Rattle.nk_grammar.specs.File.{Declaration}
-use Rattle.nk_grammar.specs.FileReader.{Takes, phase_in}
+use Rattle.nk_grammar.specs.FileReader.{TakesTerminal, phase_in}
 use Rattle.nk_grammar.specs.TextProgress.{TextProgress, Going, Stopped, rest_by}
 
 -- what is known
@@ -19,7 +19,7 @@ progress_in (known.Stopped e) line = Stopped e
 -- a token is taken as the machine takes it, or nothing changes: where there is a fault, or memory ran out
 abbrev pub TakesToken : KnownText → KnownText → Token → Result (Option Decl) GrammarError → Type 0
 TakesToken (known.Sound r) (known.Sound s) t result =
-    Takes (phase_in r) (phase_in s) t.line (terminal_of t) result
+    TakesTerminal (phase_in r) (phase_in s) t.line (terminal_of t) result
 TakesToken (known.Sound r) (known.Stopped e) t result = ⊥
 TakesToken (known.Stopped e) k t result = (k ≡ known.Stopped e) × (result ≡ Ok None)
 

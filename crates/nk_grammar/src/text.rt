@@ -26,7 +26,7 @@ ghost use Rattle.nk_grammar.specs.FileReader.{
   IsInPolicy,
   StaysWithoutMemory,
   StopsPolicy,
-  Takes,
+  TakesTerminal,
   TakesInside,
   declaration_done,
   phase_in,
@@ -339,7 +339,7 @@ impl Reader {
     #[inline(never)]
     fn take_other(&mut self, alloc: Global, token: &Token) -> Result<Option<Decl>, GrammarError>
         requires stops { StopsPolicy (phase_in self.old) (terminal_of token.now) }
-        ensures { Takes (phase_in self.old) (phase_in self.new) token.now.line (terminal_of token.now) result }
+        ensures { TakesTerminal (phase_in self.old) (phase_in self.new) token.now.line (terminal_of token.now) result }
     {
         if let Stage::Policy(..) = &self.stage {
             self.take_behind_policy(alloc, token)

@@ -94,4 +94,11 @@ impl Program {
     {
         self.virtuals.as_slice()
     }
+
+    /// The fields. All else of the program is let go.
+    pub fn into_fields(self) -> Fields
+        ensures { result ≡ self.fields }
+    {
+        self.fields
+    }
 }
