@@ -16,7 +16,7 @@ use Rattle.nk_algebra.proofs.PartSums.{AreNodes}
 use Rattle.nk_algebra.proofs.Sorted.{merged_every}
 
 -- a diagram that tests no field has its outs at each packet
-leaf_outs : (st : Held) (d : ℕ) (n : Node) → n ≡ node_of st d → IsNodeOf st d n → 18 ≤ top st d → (pk : List ℕ) →
+pub leaf_outs : (st : Held) (d : ℕ) (n : Node) → n ≡ node_of st d → IsNodeOf st d n → 18 ≤ top st d → (pk : List ℕ) →
     look st d pk ≡ outs_of st d
 unfolding outs_of
 leaf_outs st d (Leaf outs) e k l pk = k.leaf pk ∙ ap node_outs e

@@ -21,18 +21,18 @@ pub every_unordered : (P : Out → Type 0) (outs r : List Out) → AreOrdered ou
 every_unordered P outs r a e = every_from P outs (λ o h. every_has P r o e (contains_has r o ((a.members o).1 (has_contains outs o h))))
 
 -- a member stays one before other items
-has_front : (xs ys : List Out) (o : Out) → Has xs o → Has (xs ++ ys) o
+pub has_front : (xs ys : List Out) (o : Out) → Has xs o → Has (xs ++ ys) o
 has_front [] ys o h = absurd h
 has_front (x ∷ xs) ys o (inl e) = inl e
 has_front (x ∷ xs) ys o (inr h) = inr (has_front xs ys o h)
 
 -- and behind them
-has_back : (xs ys : List Out) (o : Out) → Has ys o → Has (xs ++ ys) o
+pub has_back : (xs ys : List Out) (o : Out) → Has ys o → Has (xs ++ ys) o
 has_back [] ys o h = h
 has_back (x ∷ xs) ys o h = inr (has_back xs ys o h)
 
 -- a member of two lists one after the other is one of one of them
-has_either : (xs ys : List Out) (o : Out) → Has (xs ++ ys) o → Has xs o ⊎ Has ys o
+pub has_either : (xs ys : List Out) (o : Out) → Has (xs ++ ys) o → Has xs o ⊎ Has ys o
 has_either [] ys o h = inr h
 has_either (x ∷ xs) ys o (inl e) = inl (inl e)
 has_either (x ∷ xs) ys o (inr h) = elim (has_either xs ys o h) [ inl k ↦ inl (inr k) | inr k ↦ inr k ]

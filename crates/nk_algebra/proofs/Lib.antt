@@ -24,3 +24,4 @@ pub mod Splits
 pub mod Reaches
 pub mod AtOnce
 pub mod Intervals
+pub mod LeavesAtOnce

@@ -1,6 +1,6 @@
 -- One diagram, then another one.
 pub use Rattle.nk_store.specs.Operations.{out_after, prefixed, seq_leaf}
-use Rattle.std.specs.Prelude.{ℕ, min, cond, leb, ◌&&◌, List, [], ◌∷◌, slice_index_or}
+use Rattle.std.specs.Prelude.{ℕ, min, cond, leb, ◌&&◌, List, [], ◌∷◌, map, slice_index_or}
 use Rattle.nk_field.specs.Act.{applied}
 use Rattle.nk_store.specs.declared.node.Out.{Out}
 use Rattle.nk_store.specs.declared.node.Node.{Node}
@@ -23,6 +23,10 @@ no_out = record { act = []; target = 0 }
 -- what the second diagram makes of the out at a place
 abbrev pub out_made : List Out → (List ℕ → List Out) → List ℕ → ℕ → List Out
 out_made outs B pk k = prefixed (slice_index_or outs k no_out).act (B (applied (slice_index_or outs k no_out).act pk))
+
+-- the same where the second diagram has these outs at each packet: each of them after the act, in their order
+abbrev pub outs_made : List Out → List Out → ℕ → List Out
+outs_made outs seconds k = map (out_after (slice_index_or outs k no_out).act) seconds
 
 -- the packet itself where the field's value is from lo to hi, a value past the highest counting as it
 abbrev pub in_span : ℕ → ℕ → ℕ → ℕ → List Out

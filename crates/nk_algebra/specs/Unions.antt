@@ -1,5 +1,5 @@
 -- Many diagrams together.
-use Rattle.std.specs.Prelude.{◌≡◌, ℕ, zero, suc, ◌+◌, ◌<◌, ◌≤◌, List, [], length, map, slice_index}
+use Rattle.std.specs.Prelude.{◌≡◌, ℕ, zero, suc, ◌+◌, ◌<◌, ◌≤◌, List, [], ◌++◌, length, map, slice_index}
 use Rattle.std.specs.List.{flat_map}
 use Rattle.nk_store.specs.declared.node.Out.{Out}
 use Rattle.nk_store.specs.Nodes.{child_at}
@@ -25,6 +25,11 @@ outs_in_turn st ds = flat_map (outs_of st) ds
 abbrev pub over_places : (ℕ → List Out) → ℕ → ℕ → List Out
 over_places F from zero = []
 over_places F from (suc n) = merged (F from) (over_places F (from + 1) n)
+
+-- what F makes of n places from one on, one's behind the other's
+abbrev pub in_turn : (ℕ → List Out) → ℕ → ℕ → List Out
+in_turn F from zero = []
+in_turn F from (suc n) = F from ++ in_turn F (from + 1) n
 
 -- none of the diagrams tests a field before f
 abbrev pub AreFrom : Held → ℕ → List ℕ → Type 0

@@ -9,6 +9,7 @@ mod choices;
 mod constants;
 mod few;
 mod halves;
+mod leaf_seqs;
 mod leaves;
 mod many;
 mod maps;

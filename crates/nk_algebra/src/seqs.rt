@@ -1,5 +1,5 @@
 //! One diagram, then another one.
-ghost use Rattle.std.specs.Prelude.{◌≡◌, ℕ, ◌≤◌, ◌<◌, List as Items, Some, IfOk, ◌-◌, map, slice_index_or, length};
+ghost use Rattle.std.specs.Prelude.{◌≡◌, ℕ, ◌≤◌, ◌<◌, List as Items, Some, IfOk, OnOk, ◌-◌, ◌++◌, map, slice_index_or, length};
 ghost use Rattle.nk_field.specs.Act.{applied};
 ghost use Rattle.nk_store.specs.Leaves.{IsActFrom};
 ghost use Rattle.nk_store.specs.Nodes.{child_at};
@@ -15,6 +15,7 @@ ghost use Rattle.nk_algebra.specs.Predicates.{IsPredicate, Ends};
 use crate::apart::seq_anew;
 use crate::choices::choose;
 use crate::constants::empty;
+use crate::leaf_seqs::{is_leaf, seq_two_leaves};
 use crate::leaves::union_later;
 use crate::maps::{LeafMap, map_leaves};
 use crate::part::{part_near, tested};
@@ -44,13 +45,21 @@ fn outs_after(alloc: Global, act: &Act, outs: &[Out]) -> Result<List<Out>, Alloc
     ensures { IfOk result (λ r. r ≡ map (out_after act.now) outs.now) }
 {
     let mut all = List::with_capacity(alloc, outs.len())?;
+    push_after(&mut all, act, outs)?;
+    Ok(all)
+}
+
+/// Puts each out after an act at the end, in their order.
+pub(crate) fn push_after(all: &mut List<Out>, act: &Act, outs: &[Out]) -> Result<(), AllocError>
+    ensures { OnOk result (all.new ≡ all.old ++ map (out_after act.now) outs.now) }
+{
     for o in outs {
         all.push(Out {
             act: act.then(&o.act)?,
             target: o.target,
         })?;
     }
-    Ok(all)
+    Ok(())
 }
 
 /// The diagram's leaf at the packet that an act makes.
@@ -215,7 +224,7 @@ fn after_at(st: &mut Store, a: Id, i: usize, b: Id) -> Result<Id, AllocError>
     after(st, b, &act)
 }
 
-/// The sequence at a leaf.
+/// The sequence at a leaf: at once where it has several outs and the second diagram is a leaf too.
 fn seq_outs(st: &mut Store, a: Id, b: Id) -> Result<Id, AllocError>
     requires left { IsId st.old a }
     requires right { IsId st.old b }
@@ -226,6 +235,9 @@ fn seq_outs(st: &mut Store, a: Id, b: Id) -> Result<Id, AllocError>
     let n = out_count(st, a);
     if n == 0 {
         return empty(st);
+    }
+    if n > 1 && is_leaf(st, b) {
+        return seq_two_leaves(st, a, b);
     }
     seq_some(st, a, b, 0, n)
 }
