@@ -1,9 +1,7 @@
 -- The steps of the walk over a diagram.
-use Rattle.std.proofs.Common.{◌≡◌, ℕ, suc, ◌+◌, ◌-◌, ◌*◌, ◌^◌, ◌<◌, ◌≤◌, Bool, true, false, cond, min, inl, inr, List, [], ◌∷◌, ◌++◌, length, Result, Ok, Err, OnOk, refl, sym, ap, ◌∙◌, arith, append_assoc, append-nil, add-one, eqb}
-use Rattle.std.specs.Prelude.{◌==◌, ◌||◌, not, map, filter, count_by, slice_index}
+use Rattle.std.proofs.Common.{◌≡◌, ℕ, ◌+◌, ◌<◌, Bool, true, false, cond, min, inl, inr, List, [], ◌∷◌, ◌++◌, length, Result, Ok, Err, OnOk, refl, sym, ap, ◌∙◌, arith, append_assoc, append-nil, eqb}
+use Rattle.std.specs.Prelude.{◌==◌, ◌||◌, not, map, filter, slice_index}
 use Rattle.std.specs.List.{flat_map}
-use Rattle.std.proofs.Math.Pow.{pow_mono}
-use Rattle.std.proofs.Math.Nat.{pow-suc}
 use Rattle.std.proofs.lemmas.Bool.Decides.{nat_tests, eqb_tells}
 use Rattle.nk_store.specs.ElseChild.{Span, spans, else_of}
 use Rattle.nk_store.proofs.Children.{else_has, each_of}
@@ -12,7 +10,6 @@ use Rattle.nk_store.specs.declared.node.Node.TheVariants.{Leaf, Case}
 use Rattle.nk_store.specs.declared.node.Out.{Out}
 use Rattle.nk_store.specs.Nodes.{node_at, Each}
 use Rattle.nk_store.specs.Held.{Held, IsId, node_of}
-use Rattle.nk_store.specs.Intervals.{counted}
 use Rattle.nk_prefix.specs.Blocks.{blocks_of}
 use Rattle.nk_store.proofs.Looks.{node_at-old, node_at-new}
 use Rattle.nk_table.specs.declared.Plain.{Plain}
@@ -20,43 +17,11 @@ use Rattle.nk_extract.specs.RuleTree.{Path, is_drop_list, with_match, priority_o
 use Rattle.nk_store.specs.ElseChild.{Span, spans, else_of}
 use Rattle.nk_extract.specs.Ways.{span_ways, node_ways, is_empty_leaf, ways_in, ways, row_behind, rows_behind, span_rows, bucket_list}
 use Rattle.nk_extract.proofs.Lists.{filter_same, filter_map_is, filter_append_is, map_append_is}
-use Rattle.nk_extract.proofs.Bits.{counts, one_if}
 use Rattle.nk_extract.proofs.Paths.{flags}
-
--- bits
-pub two_to : (n : ℕ) → n ≤ 18 → 2 ^ n ≤ 262144
-two_to n h = pow_mono {i = n} {j = 18} h
-
--- one bit more
-pub bit_small : (b : Bool) (bit n : ℕ) → bit ≤ 2 ^ n → cond b (bit * 2) bit ≤ 2 ^ (n + 1)
-bit_small true bit n h = rw add-one (omega (arith, h, pow-suc 2 n))
-bit_small false bit n h = rw add-one (omega (arith, h, pow-suc 2 n))
-
--- three factors
-three : (a b : ℕ) → (a * 2) * b ≡ a * (b * 2)
-three a b = grind arith
-
--- a bit doubled or not
-bit_by : (b : Bool) (bit n : ℕ) → cond b (bit * 2) bit * 2 ^ n ≡ bit * 2 ^ (one_if b + n)
-bit_by true bit n =
-    let e : 1 + n ≡ suc n = omega arith in
-    let twice : 2 ^ (1 + n) ≡ 2 ^ n * 2 = ap (λ k. 2 ^ k) e ∙ pow-suc 2 n in
-    three bit (2 ^ n) ∙ ap (λ k. bit * k) (sym twice)
-bit_by false bit n = ap (λ k. bit * 2 ^ k) (let e : n ≡ 0 + n = omega arith in e)
-
--- the bit with one more field looked at
-pub bit_step :
-    (p : ℕ → Bool) (bit g width : ℕ) → g < width
-    → cond (p g) (bit * 2) bit * 2 ^ count_by p (counted (g + 1) (width - (g + 1))) ≡ bit * 2 ^ count_by p (counted g (width - g))
-bit_step p bit g width h =
-    let more : width - g ≡ suc (width - (g + 1)) = omega (arith, h) in
-    bit_by (p g) bit (count_by p (counted (g + 1) (width - (g + 1))))
-    ∙ ap (λ n. bit * 2 ^ n) (sym (counts p g (counted (g + 1) (width - (g + 1)))))
-    ∙ ap (λ n. bit * 2 ^ count_by p (counted g n)) (sym more)
 
 -- a sum may be clamped before it is complete
 pub clamped :
-    (all bit rest : ℕ) → min 65535 (min (all + bit) 65535 + rest) ≡ min 65535 (all + (bit + rest))
+    (all bit rest : ℕ) → min 65535 (min (min 4294967295 (all + bit)) 65535 + rest) ≡ min 65535 (all + (bit + rest))
 clamped all bit rest = omega arith
 
 -- the ways of a node

@@ -1,5 +1,5 @@
 -- The ways through a diagram of the store, node by node, and what a way's row is. The else-child is found by number.
-use Rattle.std.specs.Prelude.{◌≡◌, ℕ, ◌≤◌, ◌==◌, ◌||◌, Bool, false, not, min, cond, eqb, if◌then◌else◌, List, [], ◌∷◌, ◌++◌, length, map, filter, slice_index}
+use Rattle.std.specs.Prelude.{◌≡◌, ℕ, ◌<◌, ◌≤◌, ◌==◌, ◌||◌, Bool, false, not, min, cond, eqb, if◌then◌else◌, List, [], ◌∷◌, ◌++◌, length, map, filter, slice_index}
 use Rattle.std.specs.List.{flat_map}
 use Rattle.nk_store.specs.ElseChild.{Span, spans, else_of}
 use Rattle.nk_field.specs.Act.{act_then, left_without}
@@ -54,6 +54,10 @@ ways_in maxes tag (n ∷ older) i =
 -- the ways of a diagram of the store
 unfoldable pub ways : ℕ → Held → ℕ → List Path
 ways tag st d = ways_in st.maxes tag st.nodes d
+
+-- a table of the bit of each field
+abbrev pub AreBits : ℕ → ℕ → List ℕ → Type 0
+AreBits width tag bits = (f : ℕ) → f < 18 → slice_index bits f ≡ bit_of width tag f
 
 -- the row of a way behind the matches made before it, of which the tag is to be matched
 abbrev pub row_behind : ℕ → ℕ × ℕ × ℕ → List (ℕ × ℕ × ℕ) → Path → Plain

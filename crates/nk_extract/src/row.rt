@@ -1,7 +1,7 @@
 //! One row: its priority, its matches and its buckets.
-ghost use Rattle.std.specs.Prelude.{◌≡◌, ◌≤◌, ◌<◌, ◌*◌, ◌++◌, ℕ, [], ◌∷◌, length, min, take, drop, false, not, nat_lt, ◌&&◌, ◌==◌, if◌then◌else◌, IfOk, OnOk};
-ghost use Rattle.nk_extract.specs.RuleTree.{put_match, priority_of, bit_of};
-ghost use Rattle.nk_extract.specs.Ways.{bucket_list, rows_behind};
+ghost use Rattle.std.specs.Prelude.{◌≡◌, ◌≤◌, ◌<◌, ◌*◌, ◌++◌, ℕ, [], ◌∷◌, length, min, take, drop, false, not, ◌==◌, if◌then◌else◌, IfOk, OnOk};
+ghost use Rattle.nk_extract.specs.RuleTree.{put_match, priority_of};
+ghost use Rattle.nk_extract.specs.Ways.{bucket_list, rows_behind, AreBits};
 
 use crate::bucket::buckets;
 use nk_field::{Fid, List};
@@ -9,11 +9,13 @@ use nk_store::Out;
 use nk_table::Plain;
 use std::alloc::{AllocError, Global};
 
-/// How many fields there are, and the match of the tag in these rows: the field, its value and all its digits.
+/// How many fields there are, the match of the tag in these rows (the field, its value and all its digits), and the bit
+/// of the field at each place.
 #[derive(Clone, Copy)]
 pub(crate) struct Frame {
     pub width: usize,
     pub tag: (Fid, u64, u8),
+    pub bits: [u32; 18],
 }
 
 /// What a way through the diagram has matched so far, and whether a drop there is printed.
@@ -48,7 +50,7 @@ pub(crate) fn leaf_row(
     way: &Way,
     rows: &mut Vec<Plain>,
 ) -> Result<(), AllocError>
-    requires { frame.now.width ≤ 18 }
+    requires { AreBits frame.now.width frame.now.tag.0 frame.now.bits }
     ensures { OnOk result (rows.new.items ≡ rows.old.items
         ++ rows_behind frame.now.width frame.now.tag way.now.matches way.now.shown
         (record { matches = []; buckets = bucket_list frame.now.tag.0 outs.now; shown = false } ∷ [])) }
@@ -59,7 +61,7 @@ pub(crate) fn leaf_row(
     let (tag, _, _) = frame.tag;
     let matches = way.matches.as_slice();
     let row = Plain {
-        priority: priority(frame.width, tag, matches),
+        priority: priority(frame, matches),
         matches: tagged(alloc, frame.tag, matches)?,
         buckets: buckets(alloc, tag, outs)?,
     };
@@ -68,40 +70,37 @@ pub(crate) fn leaf_row(
 }
 
 /// The priority of a row with these matches: the sum of their fields' bits.
-fn priority(width: usize, tag: Fid, matches: &[(Fid, u64, u8)]) -> u16
-    requires { width ≤ 18 }
-    ensures { result ≡ min 65535 (priority_of width tag matches.now) }
+fn priority(frame: &Frame, matches: &[(Fid, u64, u8)]) -> u16
+    requires { AreBits frame.now.width frame.now.tag.0 frame.now.bits }
+    ensures { result ≡ min 65535 (priority_of frame.now.width frame.now.tag.0 matches.now) }
 {
-    let mut all = 0;
+    let mut all: u32 = 0;
     for (f, _, _) in matches {
-        all = (all + bit(width, tag, *f)).min(65_535);
+        all = all.saturating_add(frame.bits[f.place()]).min(65_535);
     }
     all as u16
 }
 
-/// The bit of a field: one for each matchable field behind it.
-fn bit(width: usize, tag: Fid, f: Fid) -> u32
+/// The bit of the field at each place: one for each matchable field behind it.
+pub(crate) fn bits_of(width: usize, tag: Fid) -> [u32; 18]
     requires { width ≤ 18 }
-    ensures is { result ≡ bit_of width tag f }
-    ensures small { result ≤ 262144 }
+    ensures { AreBits width tag result }
 {
+    let mut all = [1; 18];
     let mut bit = 1;
-    for g in 0..width {
-        bit = with_field(bit, tag, f, g);
+    for f in (0..width).rev() {
+        all[f] = bit;
+        bit = before_field(bit, tag, f);
     }
-    bit
+    all
 }
 
-/// The bit with one more field looked at.
-fn with_field(bit: u32, tag: Fid, f: Fid, g: usize) -> u32
+/// The bit of the field before one whose bit is given.
+fn before_field(bit: u32, tag: Fid, f: usize) -> u32
     requires { bit ≤ 262144 }
-    ensures { result ≡ (if nat_lt f g && not (g == tag) then bit * 2 else bit) }
+    ensures { result ≡ (if not (f == tag) then bit * 2 else bit) }
 {
-    if f.place() < g && g != tag.place() {
-        bit * 2
-    } else {
-        bit
-    }
+    if f != tag.place() { bit * 2 } else { bit }
 }
 
 /// The matches with the tag's put in by field.

@@ -2,10 +2,10 @@
 ghost use Rattle.std.specs.Prelude.{◌≡◌, ℕ, Some, IfOk, slice_index};
 ghost use Rattle.nk_prefix.specs.Prefix as prefix;
 ghost use Rattle.nk_store.specs.Held.{IsId, node_of};
-ghost use Rattle.nk_extract.specs.Ways.{at_switch};
+ghost use Rattle.nk_extract.specs.Ways.{at_switch, AreBits};
 ghost use Rattle.nk_extract.specs.RowsOf.{IsFrame, IsPrintable, AreRowsOf};
 
-use crate::row::{Frame, Way};
+use crate::row::{Frame, Way, bits_of};
 use crate::walk::walk;
 use nk_field::List;
 use nk_prefix::digits_of;
@@ -36,6 +36,7 @@ pub fn rows_of(
             let frame = Frame {
                 width: st.width(),
                 tag: (tag, to, digits_of(st.max(tag))),
+                bits: bits_of(st.width(), tag),
             };
             rows_in(alloc, st, d, switch, &frame)
         }
@@ -54,6 +55,7 @@ fn rows_in(
     requires id { IsId st.now d }
     requires frame { IsFrame st.now frame.now.width frame.now.tag.0 }
     requires digits { frame.now.tag.2 ≡ prefix.digits_of (slice_index st.now.maxes frame.now.tag.0) }
+    requires bits { AreBits frame.now.width frame.now.tag.0 frame.now.bits }
     requires printable { IsPrintable st.now frame.now.tag.0 switch d }
     ensures { IfOk result (λ rows.
         AreRowsOf st.now frame.now.width frame.now.tag.0 switch frame.now.tag.1 d rows.items) }

@@ -2,7 +2,7 @@
 ghost use Rattle.std.specs.Prelude.{◌≡◌, ◌≤◌, [], ◌∷◌, ◌++◌, not, ◌||◌, OnOk};
 ghost use Rattle.nk_store.specs.Held.{IsId, node_of, IsCase};
 ghost use Rattle.nk_store.specs.declared.node.Node.TheVariants.{Case};
-ghost use Rattle.nk_extract.specs.Ways.{node_ways, span_rows, ways, rows_behind, is_empty_leaf};
+ghost use Rattle.nk_extract.specs.Ways.{node_ways, span_rows, ways, rows_behind, is_empty_leaf, AreBits};
 
 use crate::row::{Frame, Way, leaf_row};
 use nk_field::Fid;
@@ -41,7 +41,7 @@ pub(crate) fn walk(
     rows: &mut Vec<Plain>,
 ) -> Result<(), AllocError>
     requires id { IsId st.now d }
-    requires width { frame.now.width ≤ 18 }
+    requires bits { AreBits frame.now.width frame.now.tag.0 frame.now.bits }
     ensures { OnOk result (rows.new.items ≡ rows.old.items
         ++ rows_behind frame.now.width frame.now.tag way.now.matches way.now.shown
         (ways frame.now.tag.0 st.now d)) }
@@ -64,7 +64,7 @@ fn walk_case(
     rows: &mut Vec<Plain>,
 ) -> Result<(), AllocError>
     requires case { IsCase st.now d f parts.now }
-    requires width { frame.now.width ≤ 18 }
+    requires bits { AreBits frame.now.width frame.now.tag.0 frame.now.bits }
     ensures { OnOk result (rows.new.items ≡ rows.old.items
         ++ rows_behind frame.now.width frame.now.tag way.now.matches way.now.shown
         (node_ways st.now.maxes frame.now.tag.0 (Case f parts.now) (λ c. is_empty_leaf (node_of st.now c))
@@ -103,7 +103,7 @@ fn walk_span(
     rows: &mut Vec<Plain>,
 ) -> Result<(), AllocError>
     requires id { IsId st.now span.child }
-    requires width { frame.now.width ≤ 18 }
+    requires bits { AreBits frame.now.width frame.now.tag.0 frame.now.bits }
     requires within { span.last ≤ choice.max }
     ensures { OnOk result (rows.new.items ≡ rows.old.items
         ++ span_rows frame.now.width frame.now.tag way.now.matches choice.max choice.field choice.shown choice.other
@@ -138,7 +138,7 @@ fn walk_block(
     rows: &mut Vec<Plain>,
 ) -> Result<(), AllocError>
     requires id { IsId st.now child }
-    requires width { frame.now.width ≤ 18 }
+    requires bits { AreBits frame.now.width frame.now.tag.0 frame.now.bits }
     ensures { OnOk result (rows.new.items ≡ rows.old.items
         ++ rows_behind frame.now.width frame.now.tag (way.now.matches ++ (choice.field, block.0, block.1) ∷ [])
         choice.shown (ways frame.now.tag.0 st.now child)) }

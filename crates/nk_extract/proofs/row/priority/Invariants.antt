@@ -5,5 +5,5 @@ use Rattle.nk_extract.proofs.row.priority.Given as goal
 abbrev pub invariant-loop-f : goal.invariant-loop-f
 invariant-loop-f l = record {
   small : l.all ≤ 65535;
-  made : min 65535 (l.all + priority_of l.width l.tag (drop l.f-index l.matches)) ≡ min 65535 (priority_of l.width l.tag l.matches);
+  made : min 65535 (l.all + priority_of l.frame.width l.frame.tag.0 (drop l.f-index l.matches)) ≡ min 65535 (priority_of l.frame.width l.frame.tag.0 l.matches);
 }

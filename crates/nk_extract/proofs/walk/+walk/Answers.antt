@@ -43,14 +43,14 @@ walk_case-walk_span-requires t c =
     let child : IsChild c.args.st.now c.args.f p.1 = item_has (IsChild c.args.st.now c.args.f) ps i p c.loop-end-test.true c.loop-end-item.is c.requires.case.parts_ok.children in
     let rise : Rises c.max-max.result c.loop-end.from (p ∷ drop (i + 1) ps) = subst (Rises c.max-max.result c.loop-end.from) (rest_is ps i p c.loop-end-test.true c.loop-end-item.is) c.loop-end.invariant.rise in
     let high : p.0 ≤ c.max-max.result = rise.1 in
-    (omega (arith, below, c.decreases), (child.id, (c.requires.width, high)))
+    (omega (arith, below, c.decreases), (child.id, (c.requires.bits, high)))
 
 pub walk_case-walk-requires : goal.walk_case-walk-requires
 walk_case-walk-requires t c =
     let some = joined_some c.args.parts.now c.requires.case.joined in
     let below : c.in_ok-other.other < c.args.d = subst (λ k. k < c.args.d) (sym c.in_ok-other.ensures) (else_has (λ k. k < c.args.d) c.args.parts.now some c.requires.case.below) in
     let id : IsId c.args.st.now c.in_ok-other.other = subst (IsId c.args.st.now) (sym c.in_ok-other.ensures) (else_has (IsId c.args.st.now) c.args.parts.now some (each_of (IsChild c.args.st.now c.args.f) (IsId c.args.st.now) c.args.parts.now (λ k l. l.id) c.requires.case.parts_ok.children)) in
-    (omega (arith, below, c.decreases), (id, c.requires.width))
+    (omega (arith, below, c.decreases), (id, c.requires.bits))
 
 pub walk_case-returns : goal.walk_case-returns
 walk_case-returns t c =
