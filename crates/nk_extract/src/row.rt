@@ -18,48 +18,24 @@ pub(crate) struct Frame {
     pub bits: [u32; 18],
 }
 
-/// What a way through the diagram has matched so far, and whether a drop there is printed.
-#[derive(Drop)]
-pub(crate) struct Way {
-    pub matches: List<(Fid, u64, u8)>,
-    pub shown: bool,
-}
-
-impl Way {
-    /// The way with one more match. The only error is that memory ran out.
-    pub fn with(&self, alloc: Global, at: (Fid, u64, u8), shown: bool) -> Result<Way, AllocError>
-        ensures matches { IfOk result (λ w. w.matches ≡ self.now.matches ++ at ∷ []) }
-        ensures shown { IfOk result (λ w. w.shown ≡ shown) }
-    {
-        let before = self.matches.as_slice();
-        let mut all = Vec::with_capacity(alloc, before.len().saturating_add(1))?;
-        all.extend_from_slice(before)?;
-        all.push(at)?;
-        Ok(Way {
-            matches: List::from_vec(all),
-            shown,
-        })
-    }
-}
-
-/// The row of a leaf behind a way, where it is printed.
+/// The row of a leaf behind the matches of a way; none for a drop, but where `shown` holds.
 pub(crate) fn leaf_row(
     alloc: Global,
     frame: &Frame,
     outs: &[Out],
-    way: &Way,
+    matches: &[(Fid, u64, u8)],
+    shown: bool,
     rows: &mut Vec<Plain>,
 ) -> Result<(), AllocError>
     requires { AreBits frame.now.width frame.now.tag.0 frame.now.bits }
     ensures { OnOk result (rows.new.items ≡ rows.old.items
-        ++ rows_behind frame.now.width frame.now.tag way.now.matches way.now.shown
+        ++ rows_behind frame.now.width frame.now.tag matches.now shown
         (record { matches = []; buckets = bucket_list frame.now.tag.0 outs.now; shown = false } ∷ [])) }
 {
-    if outs.len() == 0 && !way.shown {
+    if outs.len() == 0 && !shown {
         return Ok(());
     }
     let (tag, _, _) = frame.tag;
-    let matches = way.matches.as_slice();
     let row = Plain {
         priority: priority(frame, matches),
         matches: tagged(alloc, frame.tag, matches)?,

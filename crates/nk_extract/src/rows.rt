@@ -5,9 +5,8 @@ ghost use Rattle.nk_store.specs.Held.{IsId, node_of};
 ghost use Rattle.nk_extract.specs.Ways.{at_switch, AreBits};
 ghost use Rattle.nk_extract.specs.RowsOf.{IsFrame, IsPrintable, AreRowsOf};
 
-use crate::row::{Frame, Way, bits_of};
+use crate::row::{Frame, bits_of};
 use crate::walk::walk;
-use nk_field::List;
 use nk_prefix::digits_of;
 use nk_store::{Id, Node, Store, part_child};
 use nk_table::Plain;
@@ -61,12 +60,16 @@ fn rows_in(
         AreRowsOf st.now frame.now.width frame.now.tag.0 switch frame.now.tag.1 d rows.items) }
 {
     let mut rows = Vec::new(alloc);
-    let way = Way {
-        matches: List::new(alloc),
-        shown: false,
-    };
+    let mut matches = Vec::new(alloc);
     let _laws = st.laws();
-    walk(st, frame, root(st, d, switch as u64), &way, &mut rows)?;
+    walk(
+        st,
+        frame,
+        root(st, d, switch as u64),
+        &mut matches,
+        false,
+        &mut rows,
+    )?;
     Ok(rows)
 }
 

@@ -4,7 +4,7 @@ ghost use Rattle.nk_store.specs.Held.{IsId, node_of, IsCase};
 ghost use Rattle.nk_store.specs.declared.node.Node.TheVariants.{Case};
 ghost use Rattle.nk_extract.specs.Ways.{node_ways, span_rows, ways, rows_behind, is_empty_leaf, AreBits};
 
-use crate::row::{Frame, Way, leaf_row};
+use crate::row::{Frame, leaf_row};
 use nk_field::Fid;
 use nk_prefix::laws::blocks_are_aligned;
 use nk_prefix::{blocks, digits_of};
@@ -31,28 +31,38 @@ struct Span {
     child: Id,
 }
 
-/// The rows of a diagram behind a way.
+/// The rows of a diagram behind the matches of a way, to which more are put and from which they are taken again. Where
+/// `shown` holds, each drop is printed.
 #[cycle(walk)]
 pub(crate) fn walk(
     st: &Store,
     frame: &Frame,
     d: Id,
-    way: &Way,
+    matches: &mut Vec<(Fid, u64, u8)>,
+    shown: bool,
     rows: &mut Vec<Plain>,
 ) -> Result<(), AllocError>
     requires id { IsId st.now d }
     requires bits { AreBits frame.now.width frame.now.tag.0 frame.now.bits }
-    ensures { OnOk result (rows.new.items ≡ rows.old.items
-        ++ rows_behind frame.now.width frame.now.tag way.now.matches way.now.shown
+    ensures rows { OnOk result (rows.new.items ≡ rows.old.items
+        ++ rows_behind frame.now.width frame.now.tag matches.old.items shown
         (ways frame.now.tag.0 st.now d)) }
+    ensures matches { OnOk result (matches.new.items ≡ matches.old.items) }
 {
     match st.view(d) {
-        Node::Leaf(outs) => leaf_row(st.alloc(), frame, outs.as_slice(), way, rows),
-        Node::Case(f, parts) => walk_case(st, frame, d, *f, parts.as_slice(), way, rows),
+        Node::Leaf(outs) => leaf_row(
+            st.alloc(),
+            frame,
+            outs.as_slice(),
+            matches.as_slice(),
+            shown,
+            rows,
+        ),
+        Node::Case(f, parts) => walk_case(st, frame, d, *f, parts.as_slice(), matches, shown, rows),
     }
 }
 
-/// The rows of a choice behind a way: those of the blocks ascending, and the else-child's last.
+/// The rows of a choice behind the matches of a way: those of the blocks ascending, and the else-child's last.
 #[cycle(walk)]
 fn walk_case(
     st: &Store,
@@ -60,54 +70,57 @@ fn walk_case(
     d: Id,
     f: Fid,
     parts: &[(u64, Id)],
-    way: &Way,
+    matches: &mut Vec<(Fid, u64, u8)>,
+    shown: bool,
     rows: &mut Vec<Plain>,
 ) -> Result<(), AllocError>
     requires case { IsCase st.now d f parts.now }
     requires bits { AreBits frame.now.width frame.now.tag.0 frame.now.bits }
-    ensures { OnOk result (rows.new.items ≡ rows.old.items
-        ++ rows_behind frame.now.width frame.now.tag way.now.matches way.now.shown
+    ensures rows { OnOk result (rows.new.items ≡ rows.old.items
+        ++ rows_behind frame.now.width frame.now.tag matches.old.items shown
         (node_ways st.now.maxes frame.now.tag.0 (Case f parts.now) (λ c. is_empty_leaf (node_of st.now c))
         (ways frame.now.tag.0 st.now))) }
+    ensures matches { OnOk result (matches.new.items ≡ matches.old.items) }
 {
     let max = st.max(f);
     let other = else_child(st.alloc(), max, parts)?;
-    let shown = printed(st.drops(other), way.shown);
+    let behind_block = printed(st.drops(other), shown);
     let mut from: u128 = 0;
     for (end, c) in parts {
         let choice = Choice {
             field: f,
             max,
             other,
-            shown,
+            shown: behind_block,
         };
         let span = Span {
             first: from as u64,
             last: *end,
             child: *c,
         };
-        walk_span(st, frame, choice, span, way, rows)?;
+        walk_span(st, frame, choice, span, matches, rows)?;
         from = *end as u128 + 1;
     }
-    walk(st, frame, other, way, rows)
+    walk(st, frame, other, matches, shown, rows)
 }
 
-/// The rows of a span's child, for each of its blocks behind a way; none where it is the else-child.
+/// The rows of a span's child, for each of its blocks behind the matches of a way; none where it is the else-child.
 #[cycle(walk)]
 fn walk_span(
     st: &Store,
     frame: &Frame,
     choice: Choice,
     span: Span,
-    way: &Way,
+    matches: &mut Vec<(Fid, u64, u8)>,
     rows: &mut Vec<Plain>,
 ) -> Result<(), AllocError>
     requires id { IsId st.now span.child }
     requires bits { AreBits frame.now.width frame.now.tag.0 frame.now.bits }
     requires within { span.last ≤ choice.max }
-    ensures { OnOk result (rows.new.items ≡ rows.old.items
-        ++ span_rows frame.now.width frame.now.tag way.now.matches choice.max choice.field choice.shown choice.other
+    ensures rows { OnOk result (rows.new.items ≡ rows.old.items
+        ++ span_rows frame.now.width frame.now.tag matches.old.items choice.max choice.field choice.shown choice.other
         (ways frame.now.tag.0 st.now) (record { first = span.first; last = span.last; child = span.child })) }
+    ensures matches { OnOk result (matches.new.items ≡ matches.old.items) }
 {
     let Span { first, last, child } = span;
     if child == choice.other {
@@ -116,17 +129,17 @@ fn walk_span(
     if first == last {
         blocks_are_aligned();
         let block = (first, digits_of(choice.max));
-        return walk_block(st, frame, choice, child, block, way, rows);
+        return walk_block(st, frame, choice, child, block, matches, rows);
     }
     let all = blocks(st.alloc(), first, last, choice.max)?;
     let cut = all.as_slice();
     for block in cut {
-        walk_block(st, frame, choice, child, *block, way, rows)?;
+        walk_block(st, frame, choice, child, *block, matches, rows)?;
     }
     Ok(())
 }
 
-/// The rows of a child for one block of values behind a way.
+/// The rows of a child for one block of values behind the matches of a way.
 #[cycle(walk)]
 fn walk_block(
     st: &Store,
@@ -134,18 +147,21 @@ fn walk_block(
     choice: Choice,
     child: Id,
     block: (u64, u8),
-    way: &Way,
+    matches: &mut Vec<(Fid, u64, u8)>,
     rows: &mut Vec<Plain>,
 ) -> Result<(), AllocError>
     requires id { IsId st.now child }
     requires bits { AreBits frame.now.width frame.now.tag.0 frame.now.bits }
-    ensures { OnOk result (rows.new.items ≡ rows.old.items
-        ++ rows_behind frame.now.width frame.now.tag (way.now.matches ++ (choice.field, block.0, block.1) ∷ [])
+    ensures rows { OnOk result (rows.new.items ≡ rows.old.items
+        ++ rows_behind frame.now.width frame.now.tag (matches.old.items ++ (choice.field, block.0, block.1) ∷ [])
         choice.shown (ways frame.now.tag.0 st.now child)) }
+    ensures matches { OnOk result (matches.new.items ≡ matches.old.items) }
 {
     let (value, len) = block;
-    let next = way.with(st.alloc(), (choice.field, value, len), choice.shown)?;
-    walk(st, frame, child, &next, rows)
+    matches.push((choice.field, value, len))?;
+    walk(st, frame, child, matches, choice.shown, rows)?;
+    matches.pop();
+    Ok(())
 }
 
 /// Whether a drop is printed behind a block, by the else-child's being the empty leaf.

@@ -8,7 +8,7 @@ returns c =
     let tag = c.args.frame.now.tag in
     table_rows c.args.st.now c.args.frame.now.width tag.0 c.args.switch c.args.d tag.1 tag.2 c.walk.new.rows.items c.laws-laws.ensures.fields.places c.laws-laws.ensures.sound c.requires.id c.requires.frame c.requires.printable (omega (arith, c.ranges.switch.fits))
     c.requires.digits
-    (c.in_ok-walk.ensures
-    ∙ ap (λ l. l ++ rows_behind c.args.frame.now.width tag c.new.result false (ways tag.0 c.args.st.now c.root.result)) c.new-rows.ensures.items
-    ∙ ap (λ ms. rows_behind c.args.frame.now.width tag ms false (ways tag.0 c.args.st.now c.root.result)) c.new.ensures
+    (c.in_ok-walk.ensures.rows
+    ∙ ap (λ l. l ++ rows_behind c.args.frame.now.width tag c.new-matches.result.items false (ways tag.0 c.args.st.now c.root.result)) c.new-rows.ensures.items
+    ∙ ap (λ ms. rows_behind c.args.frame.now.width tag ms false (ways tag.0 c.args.st.now c.root.result)) c.new-matches.ensures.items
     ∙ ap (λ r. rows_behind c.args.frame.now.width tag [] false (ways tag.0 c.args.st.now r)) c.root.ensures.is)

@@ -20,10 +20,13 @@ decreases-walk_block l = 4 * l.child + 4
 
 abbrev pub invariant-walk_case-loop-end : goal.invariant-walk_case-loop-end
 invariant-walk_case-loop-end l = record {
+  same : l.matches.items ≡ l.fn.matches.items;
   rise : Rises l.max l.from (drop l.end-index l.parts);
-  made : l.rows.items ++ flat_map (span_rows l.frame.width l.frame.tag l.way.matches l.max l.f l.shown l.other (ways l.frame.tag.0 l.st)) (spans (drop l.end-index l.parts) l.from) ≡ l.fn.rows.items ++ flat_map (span_rows l.frame.width l.frame.tag l.way.matches l.max l.f l.shown l.other (ways l.frame.tag.0 l.st)) (spans l.parts 0);
+  made : l.rows.items ++ flat_map (span_rows l.frame.width l.frame.tag l.fn.matches.items l.max l.f l.behind_block l.other (ways l.frame.tag.0 l.st)) (spans (drop l.end-index l.parts) l.from) ≡ l.fn.rows.items ++ flat_map (span_rows l.frame.width l.frame.tag l.fn.matches.items l.max l.f l.behind_block l.other (ways l.frame.tag.0 l.st)) (spans l.parts 0);
 }
 
 abbrev pub invariant-walk_span-loop-block : goal.invariant-walk_span-loop-block
-invariant-walk_span-loop-block l =
-    l.rows.items ++ flat_map (λ b. rows_behind l.frame.width l.frame.tag (l.way.matches ++ (l.choice.field, b.0, b.1) ∷ []) l.choice.shown (ways l.frame.tag.0 l.st l.child)) (drop l.block-index l.cut) ≡ l.fn.rows.items ++ flat_map (λ b. rows_behind l.frame.width l.frame.tag (l.way.matches ++ (l.choice.field, b.0, b.1) ∷ []) l.choice.shown (ways l.frame.tag.0 l.st l.child)) (blocks_of l.first l.last l.choice.max)
+invariant-walk_span-loop-block l = record {
+  same : l.matches.items ≡ l.fn.matches.items;
+  made : l.rows.items ++ flat_map (λ b. rows_behind l.frame.width l.frame.tag (l.fn.matches.items ++ (l.choice.field, b.0, b.1) ∷ []) l.choice.shown (ways l.frame.tag.0 l.st l.child)) (drop l.block-index l.cut) ≡ l.fn.rows.items ++ flat_map (λ b. rows_behind l.frame.width l.frame.tag (l.fn.matches.items ++ (l.choice.field, b.0, b.1) ∷ []) l.choice.shown (ways l.frame.tag.0 l.st l.child)) (blocks_of l.first l.last l.choice.max);
+}
