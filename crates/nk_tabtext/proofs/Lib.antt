@@ -1,6 +1,7 @@
 mod Alike
 pub mod BucketSteps
 pub mod DeclarationSteps
+pub mod Digits
 pub mod Fitting
 pub mod Going
 pub mod HeadBack

@@ -6,7 +6,7 @@
 //! count are zeros.
 #![tactic(auto)]
 
-ghost use Rattle.std.specs.Prelude.{◌≡◌, ◌++◌, IfOk, OnOk};
+ghost use Rattle.std.specs.Prelude.{◌≡◌, ◌≤◌, ◌++◌, IfOk, OnOk};
 ghost use Rattle.std.specs.Fmt.{decimal};
 ghost use Rattle.std.specs.List.{flat_map};
 ghost use Rattle.nk_tabtext.specs.InOrder.{AreInOrder};
@@ -69,6 +69,20 @@ fn number(out: &mut Vec<u8>, n: u64) -> Result<(), AllocError>
 {
     if n < 10 {
         out.push(b'0' + n as u8)?;
+        return Ok(());
+    }
+    long_number(out, n)
+}
+
+/// Puts a number of two digits or more behind a text.
+#[inline(never)]
+fn long_number(out: &mut Vec<u8>, n: u64) -> Result<(), AllocError>
+    requires { 10 ≤ n }
+    ensures { OnOk result (out.new.items ≡ out.old.items ++ decimal n) }
+{
+    if n < 100 {
+        out.push(b'0' + (n / 10) as u8)?;
+        out.push(b'0' + (n % 10) as u8)?;
         return Ok(());
     }
     let mut buffer = Buffer::new();
