@@ -9,6 +9,7 @@ pub mod Together
 pub mod StatesAt
 pub mod Regrouped
 pub mod Regroupings
+pub mod Finals
 pub mod Followed
 pub mod Below
 pub mod Withouts

@@ -1,5 +1,6 @@
 //! The acts of a leaf, each with all its targets.
-ghost use Rattle.std.specs.Prelude.{◌≡◌, [], ◌∷◌, ◌++◌, cond, IfOk, OnOk};
+ghost use Rattle.std.specs.Prelude.{◌≡◌, [], ◌∷◌, ◌++◌, cond, nat_eq, IfOk, OnOk};
+ghost use Rattle.std.specs.List.{list_all};
 ghost use Rattle.nk_field.specs.contracts.act.ActPartialEq.TheImpl.{ghosts};
 ghost use Rattle.nk_determ.specs.Branches.{with_target, begun, branches, labels};
 
@@ -15,6 +16,13 @@ pub(crate) struct Branch {
     pub(crate) act: Act,
     /// Where the packet goes.
     pub(crate) targets: List<u64>,
+}
+
+/// Whether no out is to a label.
+pub(crate) fn are_final(outs: &[Out]) -> bool
+    ensures { result ≡ list_all (λ o. nat_eq o.target 0) outs.now }
+{
+    outs.iter().all(|o| o.target == 0)
 }
 
 /// The branches of a leaf's outs, behind one that assigns nothing.

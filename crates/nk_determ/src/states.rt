@@ -12,7 +12,7 @@ ghost use Rattle.nk_determ.specs.Sets.{SetsGrow};
 ghost use Rattle.nk_determ.specs.Branches.{branches, labels};
 ghost use Rattle.nk_determ.specs.States.{SomeSends, SomeLeads, IsRegrouped, AreRegrouped, AreFollowed, AreLedTo, StateSends, StateLeads, IsLedByAct, IsLedTo, HaveEach, IsTogether, IsStateOf, IsThere, HasAll, HasSets, final_of, out_to_set, branch_outs, regrouped};
 
-use crate::branches::{Branch, branches_of, labels_in};
+use crate::branches::{Branch, are_final, branches_of, labels_in};
 use crate::sets::{SetId, Sets};
 use crate::splits::split;
 use nk_algebra::{known, part_near, tested, union_all};
@@ -244,7 +244,7 @@ fn regroup_parts(
     }
 }
 
-/// The regrouped diagram of a leaf.
+/// The regrouped diagram of a leaf. A leaf whose outs are all final is its own.
 fn regroup_leaf(st: &mut Store, ss: &mut Sets, d: Id) -> Result<Id, AllocError>
     requires id { IsId st.old d }
     requires leaf { 18 ≤ top st.old d }
@@ -254,7 +254,12 @@ fn regroup_leaf(st: &mut Store, ss: &mut Sets, d: Id) -> Result<Id, AllocError>
     ensures later { IfOk result (λ r. top st.old d ≤ top st.new r) }
 {
     let outs = match st.view(d) {
-        Node::Leaf(outs) => outs_to_sets(st.alloc(), ss, outs.as_slice())?,
+        Node::Leaf(outs) => {
+            if are_final(outs.as_slice()) {
+                return Ok(d);
+            }
+            outs_to_sets(st.alloc(), ss, outs.as_slice())?
+        }
         Node::Case(_, _) => unreachable!(),
     };
     st.leaf(outs)
