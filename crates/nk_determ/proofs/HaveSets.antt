@@ -1,18 +1,16 @@
 -- Diagrams whose leaves have their sets.
-use Rattle.std.proofs.Common.{◌≡◌, ℕ, zero, suc, ◌<◌, ◌≤◌, Bool, true, false, cond, leb, List, [], ◌∷◌, length, refl, sym, ◌∙◌, ap, subst, arith, get_or, inl}
-use Rattle.std.specs.List.Sorted.{IsStrictlyIncreasing}
+use Rattle.std.proofs.Common.{◌≡◌, ℕ, zero, suc, ◌<◌, Bool, true, false, cond, leb, List, [], ◌∷◌, length, refl, sym, ◌∙◌, ap, subst, arith, get_or, inl}
 use Rattle.std.proofs.lemmas.List.{get_or_default}
 use Rattle.nk_store.specs.declared.node.Out.{Out}
 use Rattle.nk_store.specs.Nodes.{child_at, Each}
 use Rattle.nk_store.specs.Leaves.{Strict}
 use Rattle.nk_store.specs.Held.{Held, IsId, look, IsCase, IsChild}
-use Rattle.nk_algebra.proofs.Members.{Has, has_contains, contains_has}
-use Rattle.nk_determ.specs.declared.branches.Branch.{Branch}
-use Rattle.nk_determ.specs.Branches.{begun, branches, targets_of, labels, labels_of}
+use Rattle.nk_algebra.proofs.Members.{Has}
+use Rattle.nk_determ.specs.Branches.{Branch, begun, branches, targets_of, labels, labels_of}
 use Rattle.nk_determ.specs.Sets.{SetsGrow}
 use Rattle.nk_determ.specs.States.{IsThere, HasAll, HasSets}
 use Rattle.nk_determ.proofs.Interned.{holds_grow}
-use Rattle.nk_determ.proofs.Runs.{branch_for, branches_are, target_has, label_has, labels_ascend}
+use Rattle.nk_determ.proofs.Runs.{branch_for, branches_are, target_has, label_has}
 
 -- labels that are there stay so
 pub there_grow : (old new : List (List ℕ)) (ls : List ℕ) → SetsGrow old new → IsThere old ls → IsThere new ls
@@ -69,15 +67,3 @@ part_known st d f ps items i p c e l at =
       subst (IsId st) number child.id,
       ap (λ (x : ℕ × ℕ). x.1) (at ∙ get_or_default items i p (0, 0) l),
     )
-
--- the labels of a leaf's branch at a place ascend
-pub branch_rises : (outs : List Out) (items : List Branch) (i : ℕ) (b : Branch) → Strict outs → items ≡ branches outs → i < length items → b ≡ get_or items i b → IsStrictlyIncreasing (labels b.targets)
-branch_rises outs items i b s e l at = labels_ascend outs s b (subst (λ bs. Has bs b) e (contains_has items b (i, l, sym at)))
-
--- where all branches are done, the leaf is
-pub branches_done : (sets : List (List ℕ)) (outs : List Out) (items : List Branch) (i : ℕ) → Strict outs → items ≡ branches outs → length items ≤ i →
-    ((k : ℕ) → k < i → IsThere sets (labels (get_or items k (begun [])).targets)) → HasAll sets outs
-branches_done sets outs items i s e l done = leaf_has sets outs s (λ c h.
-    let at = has_contains items c (subst (λ bs. Has bs c) (sym e) h) in
-    let is : get_or items at.0 (begun []) ≡ c = get_or_default items at.0 (begun []) c at.1 ∙ at.2 in
-    subst (λ (z : Branch). IsThere sets (labels z.targets)) is (done at.0 (omega (arith, at.1, l))))

@@ -10,6 +10,7 @@ pub mod StatesAt
 pub mod Regrouped
 pub mod Regroupings
 pub mod Finals
+pub mod InPlace
 pub mod Followed
 pub mod Below
 pub mod Withouts

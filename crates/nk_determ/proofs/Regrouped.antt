@@ -8,10 +8,9 @@ use Rattle.nk_store.specs.Nodes.{InRange}
 use Rattle.nk_store.specs.Leaves.{IsActFrom, Every, Strict, Suits, AreOrdered}
 use Rattle.nk_store.specs.Held.{Held, IsWhole, look}
 use Rattle.nk_algebra.proofs.Members.{Has, has_contains, contains_has, every_from, gathered_has, has_gathered, gathered_strict}
-use Rattle.nk_determ.specs.declared.branches.Branch.{Branch}
 use Rattle.nk_determ.specs.Exact.{exact_out, split_leaf, IsExact, AreExact}
 use Rattle.nk_determ.specs.Sets.{holds, place_in}
-use Rattle.nk_determ.specs.Branches.{with_target, begun, runs, branches, targets_of, labels, labels_of}
+use Rattle.nk_determ.specs.Branches.{Branch, with_target, begun, runs, branches, targets_of, labels, labels_of}
 use Rattle.nk_determ.specs.States.{SomeSends, AreFollowed, IsStateOf, IsThere, final_of, out_to_set, branch_outs, regrouped}
 use Rattle.nk_determ.proofs.Laws.{exact_changes}
 use Rattle.nk_determ.proofs.Interned.{place_holds}

@@ -12,8 +12,7 @@ use Rattle.nk_field.proofs.Ascending.{Rising, increasing_from}
 use Rattle.nk_store.specs.declared.node.Out.{Out}
 use Rattle.nk_store.specs.Leaves.{out_cmp, Every, Strict}
 use Rattle.nk_algebra.proofs.Members.{Has, every_has}
-use Rattle.nk_determ.specs.declared.branches.Branch.{Branch}
-use Rattle.nk_determ.specs.Branches.{with_target, begun, runs, branches, targets_of, labels}
+use Rattle.nk_determ.specs.Branches.{Branch, with_target, begun, runs, branches, targets_of, labels}
 use Rattle.nk_determ.proofs.Ascents.{act_decides, targets_rise, acts_rise, none_first, apart}
 
 -- acts that differ are told apart
@@ -185,14 +184,3 @@ pub labels_ascend : (outs : List Out) → Strict outs → (c : Branch) → Has (
 labels_ascend outs s c h =
     subst (λ ts. IsStrictlyIncreasing (labels ts)) (sym (branches_are outs s c h))
     (IsStrictlyIncreasing-filter (λ t. not (eqb t 0)) (targets_of c.act outs) (increasing_from (targets_of c.act outs) (targets_ascend c.act outs s)))
-
--- one out more, behind the branches that are done
-pub runs_step : (all done : List Branch) (b : Branch) (o : Out) (os : List Out) (next : Branch) (whole : List Branch) →
-    next ≡ cond (ghosts.eq o.act b.act) (with_target b o.target) (with_target (begun o.act) o.target) →
-    done ≡ cond (ghosts.eq o.act b.act) all (all ++ b ∷ []) → all ++ runs b (o ∷ os) ≡ whole → done ++ runs next os ≡ whole
-runs_step all done b o os next whole en ed e =
-    ap (λ x. x ++ runs next os) ed ∙ ap (λ x. cond (ghosts.eq o.act b.act) all (all ++ b ∷ []) ++ runs x os) en ∙ by (ghosts.eq o.act b.act) ∙ e
-  where
-    by : (t : Bool) → cond t all (all ++ b ∷ []) ++ runs (cond t (with_target b o.target) (with_target (begun o.act) o.target)) os ≡ all ++ cond t (runs (with_target b o.target) os) (b ∷ runs (with_target (begun o.act) o.target) os)
-    by true = refl
-    by false = append_assoc all (b ∷ []) (runs (with_target (begun o.act) o.target) os)

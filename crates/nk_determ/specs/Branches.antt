@@ -1,8 +1,12 @@
 -- The acts of a leaf, each with all its targets.
-use Rattle.std.specs.Prelude.{ℕ, cond, eqb, not, List, [], ◌∷◌, ◌++◌, filter}
+use Rattle.std.specs.Prelude.{ℕ, cond, eqb, not, List, [], ◌∷◌, ◌++◌, filter, map}
 use Rattle.nk_field.specs.contracts.act.ActPartialEq.TheImpl.{ghosts}
 use Rattle.nk_store.specs.declared.node.Out.{Out}
-use Rattle.nk_determ.specs.declared.branches.Branch.{Branch}
+
+-- an act with targets
+pub record Branch : Type 0 where
+  pub act : List (ℕ × ℕ)
+  pub targets : List ℕ
 
 -- the branch with one target more
 abbrev pub with_target : Branch → ℕ → Branch
@@ -21,6 +25,24 @@ runs b (o ∷ os) = cond (ghosts.eq o.act b.act) (runs (with_target b o.target) 
 abbrev pub branches : List Out → List Branch
 branches outs = runs (begun []) outs
 
+-- the branches of a leaf's outs, none in front
+abbrev pub branches_in : List Out → List Branch
+branches_in [] = []
+branches_in (o ∷ os) = runs (with_target (begun o.act) o.target) os
+
+-- the act of the first out
+abbrev pub first_act : List Out → List (ℕ × ℕ)
+first_act [] = []
+first_act (o ∷ os) = o.act
+
+-- the targets of outs
+abbrev pub targets_in : List Out → List ℕ
+targets_in os = map (λ o. o.target) os
+
+-- outs of one act as a branch
+abbrev pub branch_of : List Out → Branch
+branch_of os = record { act = first_act os; targets = targets_in os }
+
 -- the targets of the outs with that act
 abbrev pub targets_of : List (ℕ × ℕ) → List Out → List ℕ
 targets_of g [] = []
@@ -28,7 +50,7 @@ targets_of g (o ∷ os) = cond (ghosts.eq o.act g) (o.target ∷ targets_of g os
 
 -- the targets that are labels: 0 is the end
 abbrev pub labels : List ℕ → List ℕ
-labels targets = filter (λ t. not (eqb t 0)) targets
+labels ts = filter (λ t. not (eqb t 0)) ts
 
 -- the labels that record what the act makes
 abbrev pub labels_of : List (ℕ × ℕ) → List Out → List ℕ

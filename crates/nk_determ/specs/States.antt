@@ -6,10 +6,9 @@ use Rattle.nk_store.specs.declared.node.Out.{Out}
 use Rattle.nk_store.specs.Leaves.{Strict}
 use Rattle.nk_store.specs.Held.{Held, IsId, IsWhole, look, top, HasLeaves}
 use Rattle.nk_algebra.specs.Leaves.{gathered}
-use Rattle.nk_determ.specs.declared.branches.Branch.{Branch}
 use Rattle.nk_determ.specs.Exact.{split_leaf, Sends}
 use Rattle.nk_determ.specs.Sets.{SetsGrow, holds, place_in}
-use Rattle.nk_determ.specs.Branches.{branches, labels, labels_of}
+use Rattle.nk_determ.specs.Branches.{Branch, branches, labels, labels_of}
 
 -- one of these diagrams, split, sends the packet by that act to that target
 abbrev pub SomeSends : Held → List ℕ → List ℕ → List (ℕ × ℕ) → ℕ → Type 0

@@ -9,10 +9,10 @@ ghost use Rattle.nk_algebra.specs.Subs.{sub, IsSplit};
 ghost use Rattle.nk_algebra.specs.Unions.{AreIds};
 ghost use Rattle.nk_determ.specs.Exact.{split_leaf, AreExact, Sends};
 ghost use Rattle.nk_determ.specs.Sets.{SetsGrow};
-ghost use Rattle.nk_determ.specs.Branches.{branches, labels};
+ghost use Rattle.nk_determ.specs.Branches.{branches, branch_of, first_act, labels, targets_in};
 ghost use Rattle.nk_determ.specs.States.{SomeSends, SomeLeads, IsRegrouped, AreRegrouped, AreFollowed, AreLedTo, StateSends, StateLeads, IsLedByAct, IsLedTo, HaveEach, IsTogether, IsStateOf, IsThere, HasAll, HasSets, final_of, out_to_set, branch_outs, regrouped};
 
-use crate::branches::{Branch, are_final, branches_of, labels_in};
+use crate::branches::{are_final, is_ended, labels_in, run_length};
 use crate::sets::{SetId, Sets};
 use crate::splits::split;
 use nk_algebra::{known, part_near, tested, union_all};
@@ -273,43 +273,59 @@ fn outs_to_sets(alloc: Global, sets: &mut Sets, outs: &[Out]) -> Result<List<Out
         r ≡ flat_map (branch_outs later) (branches outs.now)) }
     ensures held { OnOk result (HasAll sets.new outs.now) }
 {
-    let parts = branches_of(alloc, outs)?;
     let mut all = List::with_capacity(alloc, outs.len())?;
-    for b in parts.as_slice() {
-        push_final(&mut all, b)?;
-        push_to_set(&mut all, sets, b)?;
+    let mut rest = outs;
+    while !rest.is_empty() {
+        let (run, behind) = rest.split_at(run_length(rest));
+        push_run(&mut all, sets, run)?;
+        rest = behind;
     }
     Ok(all)
 }
 
-/// Appends the final act of a branch, if it has one.
-fn push_final(all: &mut List<Out>, b: &Branch) -> Result<(), AllocError>
-    ensures { OnOk result (all.new ≡ all.old ++ final_of b.now.act b.now.targets) }
+/// Appends what is made of outs of one act. The set of their labels is put in where it isn't there.
+fn push_run(all: &mut List<Out>, sets: &mut Sets, run: &[Out]) -> Result<(), AllocError>
+    requires some { 0 < length run.now }
+    requires ascend { IsStrictlyIncreasing (labels (targets_in run.now)) }
+    ensures grows { SetsGrow sets.old sets.new }
+    ensures is { OnOk result ((later : Items (Items ℕ)) → SetsGrow sets.new later →
+        all.new ≡ all.old ++ branch_outs later (branch_of run.now)) }
+    ensures there { OnOk result (IsThere sets.new (labels (targets_in run.now))) }
 {
-    if b.targets.as_slice().contains(&0) {
+    push_final(all, run)?;
+    push_to_set(all, sets, run)
+}
+
+/// Appends the final act of outs of one act, if one of them is to the end.
+fn push_final(all: &mut List<Out>, run: &[Out]) -> Result<(), AllocError>
+    requires { 0 < length run.now }
+    ensures { OnOk result (all.new ≡ all.old ++ final_of (first_act run.now) (targets_in run.now)) }
+{
+    if is_ended(run) {
         all.push(Out {
-            act: b.act.copy()?,
+            act: run[0].act.copy()?,
             target: 0,
         })?;
     }
     Ok(())
 }
 
-/// Appends the act of a branch to the set of its labels, if there are any. The set is put in where it isn't there.
-fn push_to_set(all: &mut List<Out>, sets: &mut Sets, b: &Branch) -> Result<(), AllocError>
-    requires { IsStrictlyIncreasing (labels b.now.targets) }
+/// Appends the act of outs of one act to the set of their labels, if there are any. The set is put in where it isn't there.
+fn push_to_set(all: &mut List<Out>, sets: &mut Sets, run: &[Out]) -> Result<(), AllocError>
+    requires some { 0 < length run.now }
+    requires ascend { IsStrictlyIncreasing (labels (targets_in run.now)) }
     ensures grows { SetsGrow sets.old sets.new }
     ensures is { OnOk result ((later : Items (Items ℕ)) → SetsGrow sets.new later →
-        all.new ≡ all.old ++ out_to_set later b.now.act (labels b.now.targets)) }
-    ensures there { OnOk result (IsThere sets.new (labels b.now.targets)) }
+        all.new ≡ all.old ++ out_to_set later (first_act run.now) (labels (targets_in run.now))) }
+    ensures there { OnOk result (IsThere sets.new (labels (targets_in run.now))) }
 {
-    let labels = labels_in(all.alloc(), b.targets.as_slice())?;
+    let labels = labels_in(all.alloc(), run)?;
     if labels.is_empty() {
         return Ok(());
     }
     let s = sets.put(labels)?;
     all.push(Out {
-        act: b.act.copy()?,
+        act: run[0].act.copy()?,
         target: s.target(),
     })
 }
