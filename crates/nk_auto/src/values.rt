@@ -61,7 +61,7 @@ fn tests_of(st: &mut Store, f: Fid, ps: &[Pol]) -> Result<Option<Id>, AllocError
 fn tested_values(alloc: Global, f: Fid, ps: &[Pol]) -> Result<Option<List<(u64, u64)>>, AllocError>
     ensures { IfOk result (λ o. IfSome o (λ intervals. KeepsWhere f intervals (sum_of (trees_of ps.now)))) }
 {
-    let mut found = List::new(alloc);
+    let mut found = List::with_capacity(alloc, ps.len())?;
     let mut i = ps.len();
     while i > 0 {
         i -= 1;
@@ -130,7 +130,8 @@ fn value_parts(
         (HaveParts st.now f (λ v pk. value_leaf intervals.now (min v (slice_index st.now.maxes f))))) }
 {
     let max = st.max(f);
-    let mut parts = List::new(st.alloc());
+    let most = intervals.len().saturating_mul(2).saturating_add(1);
+    let mut parts = List::with_capacity(st.alloc(), most)?;
     let mut from = 0;
     for i in 0..intervals.len() {
         let (lo, hi) = intervals[i];

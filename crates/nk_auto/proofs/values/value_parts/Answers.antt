@@ -8,7 +8,7 @@ pub loop-i-init : goal.loop-i-init
 loop-i-init c = record {
   within = omega arith;
   below = λ v l. refl;
-  built = subst (λ ps. Built (by_value []) c.args.st.now c.args.f 0 ps) (sym c.new-parts.ensures) (built_none (by_value []) c.args.st.now c.args.f);
+  built = subst (λ ps. Built (by_value []) c.args.st.now c.args.f 0 ps) (sym c.in_ok-parts.ensures) (built_none (by_value []) c.args.st.now c.args.f);
 }
 
 pub loop-i-preserved : goal.loop-i-preserved
