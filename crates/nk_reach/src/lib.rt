@@ -2,6 +2,7 @@
 //! and the least history that breaks the goal.
 #![tactic(auto)]
 
+mod alone;
 mod back;
 mod choice;
 mod entries;
@@ -19,6 +20,7 @@ mod rounds;
 mod search;
 mod sides;
 mod standing;
+mod together;
 
 pub use entries::{add, merge, under};
 pub use found::{Found, Side};

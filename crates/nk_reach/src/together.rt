@@ -1,0 +1,54 @@
+//! The steps of diagrams together.
+ghost use Rattle.std.specs.Prelude.{ℕ, ◌+◌, ◌<◌, List as Items, IfOk, IfSome};
+ghost use Rattle.nk_store.specs.Held.{IsId, IsPacket, Grows};
+ghost use Rattle.nk_algebra.specs.Unions.{AreIds};
+ghost use Rattle.nk_determ.specs.Exact.{Sends};
+ghost use Rattle.nk_determ.specs.Sets.{SetsGrow};
+ghost use Rattle.nk_determ.specs.States.{SomeLeads, AreLedTo};
+
+use crate::alone::steps_alone;
+use nk_determ::{Sets, state_of};
+use nk_store::{Id, Store};
+use std::alloc::AllocError;
+
+/// The steps of these diagrams together: for each packet that some diagram records next one out with target 1 + the number
+/// of the set of all labels with which some diagram records it. Sets that aren't there yet are put in. The only error is that
+/// memory ran out.
+pub(crate) fn steps_together(
+    st: &mut Store,
+    ss: &mut Sets,
+    diagrams: &[Id],
+) -> Result<Id, AllocError>
+    requires { AreIds st.old diagrams.now }
+    ensures grows { Grows st.old st.new }
+    ensures sets { SetsGrow ss.old ss.new }
+    ensures id { IfOk result (λ r. IsId st.new r) }
+    ensures leads { IfOk result (λ r. (pk y : Items ℕ) (i : ℕ) → IsPacket st.old pk → Sends st.new r pk y (i + 1) →
+        AreLedTo ss.new st.old diagrams.now pk y i) }
+    ensures led { IfOk result (λ r. (pk y : Items ℕ) (l : ℕ) → IsPacket st.old pk → 0 < l →
+        SomeLeads st.old diagrams.now pk y l → (i : ℕ) × Sends st.new r pk y (i + 1)) }
+{
+    let one = steps_of_one(st, ss, diagrams)?;
+    match one {
+        Some(r) => Ok(r),
+        None => state_of(st, ss, diagrams),
+    }
+}
+
+/// The same of one diagram whose leaves have one label each at most; `None` of others.
+fn steps_of_one(st: &mut Store, ss: &mut Sets, diagrams: &[Id]) -> Result<Option<Id>, AllocError>
+    requires { AreIds st.old diagrams.now }
+    ensures grows { Grows st.old st.new }
+    ensures sets { SetsGrow ss.old ss.new }
+    ensures id { IfOk result (λ o. IfSome o (λ r. IsId st.new r)) }
+    ensures leads { IfOk result (λ o. IfSome o (λ r. (pk y : Items ℕ) (i : ℕ) → IsPacket st.old pk →
+        Sends st.new r pk y (i + 1) → AreLedTo ss.new st.old diagrams.now pk y i)) }
+    ensures led { IfOk result (λ o. IfSome o (λ r. (pk y : Items ℕ) (l : ℕ) → IsPacket st.old pk → 0 < l →
+        SomeLeads st.old diagrams.now pk y l → (i : ℕ) × Sends st.new r pk y (i + 1))) }
+{
+    if diagrams.len() != 1 {
+        return Ok(None);
+    }
+    let steps = steps_alone(st, ss, diagrams[0])?;
+    Ok(steps)
+}
