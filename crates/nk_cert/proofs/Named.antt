@@ -14,7 +14,7 @@ use Rattle.nk_names.proofs.Weaker.{assigns_weaker}
 use Rattle.nk_store.specs.Held.{Held, IsOver}
 use Rattle.nk_store.proofs.InRange.{same_value}
 use Rattle.nk_auto.specs.Continued.{IsFit}
-use Rattle.nk_cert.specs.Written.{AreWritten}
+use Rattle.nk_cert.specs.Written.{AreWrittenTogether}
 use Rattle.nk_cert.proofs.Comparing.{right_numbered}
 
 -- two policies of a program have few dups
@@ -44,7 +44,7 @@ module _ (fields : FieldTable) (p q r : Policy) (n : ℕ) (k : IsLet fields p) (
 pub are_written :
     (program : Program) (left right : List ℕ) (p q r : Policy) (n : ℕ) → IsProgram program.fields program.topo program.lets
     → policy_named program left ≡ Some p → policy_named program right ≡ Some r → n ≡ 1 + dups_of p → q ≡ marked_from r n
-    → AreWritten program left right p q
+    → AreWrittenTogether program left right p q
 are_written program left right p q r n ok on_left on_right same is =
     let k = let_named program left p ok on_left in
     let l = let_named program right r ok on_right in

@@ -22,6 +22,6 @@ pub use compared::Compared;
 pub use comparison::{compare_owned, compare_policies};
 pub use error::CheckError;
 pub use leveling::{LevelsOfBoth, levels_of_both};
-pub use naming::{check, check_owned};
-pub use pairing::{Both, automaton_of_both, number_behind};
+pub use naming::{both_written, check, check_owned};
+pub use pairing::{Both, automaton_of_both};
 pub use printed::certificate_of;

@@ -1,5 +1,5 @@
 //! What is found of a certificate of two named policies.
-ghost use Rattle.std.specs.Prelude.{◌≡◌, ◌+◌, ◌<◌, ◌^◌, Err, IfOk, IfErr};
+ghost use Rattle.std.specs.Prelude.{◌≡◌, ◌+◌, ◌<◌, ◌^◌, IfOk, MatchOption};
 ghost use Rattle.nk_policy.specs.Policy.{marked_from, dups_of};
 ghost use Rattle.nk_policy.specs.Tree.{tree_of};
 ghost use Rattle.nk_policy.specs.Ranges.{IsOverFields};
@@ -7,8 +7,7 @@ ghost use Rattle.nk_names.specs.Complements.{NegatesPredicates};
 ghost use Rattle.nk_cert.specs.Verdicts.{HasPredicates, IsFinding};
 ghost use Rattle.nk_cert.specs.Values.{certificate_value, finding_of};
 ghost use Rattle.nk_cert.specs.Answers.{IsChecked};
-ghost use Rattle.nk_cert.specs.Certificates.{CertificateValue};
-ghost use Rattle.nk_cert.specs.Written.{AreWritten};
+ghost use Rattle.nk_cert.specs.Written.{IsNameUnknown, AreWrittenTogether};
 
 use crate::certificate::{Certificate, Verdict};
 use crate::checking::verdict_by;
@@ -35,8 +34,13 @@ pub fn check(
     requires { HasPredicates (certificate_value certificate.now) }
     ensures { IsChecked program.now left.now right.now (certificate_value certificate.now) result }
 {
-    let (p, q) = both_written(alloc, program, left, right)?;
-    Ok(check_both(alloc, &program.fields, p, q, certificate)?)
+    match both_written(alloc, program, left, right)? {
+        None => Err(CheckError::NoPolicy),
+        Some(both) => {
+            let (p, q) = both;
+            Ok(check_both(alloc, &program.fields, p, q, certificate)?)
+        }
+    }
 }
 
 /// The same of a program whose policies are let go once both are written out.
@@ -50,37 +54,36 @@ pub fn check_owned(
     requires { HasPredicates (certificate_value certificate.now) }
     ensures { IsChecked program left.now right.now (certificate_value certificate.now) result }
 {
-    let (p, q) = both_written(alloc, &program, left, right)?;
-    let fields = fields_of(program);
-    Ok(check_both(alloc, &fields, p, q, certificate)?)
+    match both_written(alloc, &program, left, right)? {
+        None => Err(CheckError::NoPolicy),
+        Some(both) => {
+            let (p, q) = both;
+            let fields = program.into_fields();
+            Ok(check_both(alloc, &fields, p, q, certificate)?)
+        }
+    }
 }
 
-/// Two named policies written out, the right one with its dups numbered on from the left one's.
-fn both_written(
+/// Two named policies written out, the right one with its dups numbered on from the left one's; None where a name is no policy's.
+/// The only error is that memory ran out.
+pub fn both_written(
     alloc: Global,
     program: &Program,
     left: &str,
     right: &str,
-) -> Result<(Pol, Pol), CheckError>
-    ensures written { IfOk result (λ r. AreWritten program.now left.now right.now (tree_of r.0) (tree_of r.1)) }
-    ensures error { IfErr result (λ e. (c : CertificateValue) → IsChecked program.now left.now right.now c (Err e)) }
+) -> Result<Option<(Pol, Pol)>, AllocError>
+    ensures { IfOk result (λ both. MatchOption both (IsNameUnknown program.now left.now right.now)
+        (λ r. AreWrittenTogether program.now left.now right.now (tree_of r.0) (tree_of r.1))) }
 {
     let Some(on_left) = program.find(left) else {
-        return Err(CheckError::NoPolicy);
+        return Ok(None);
     };
     let Some(on_right) = program.find(right) else {
-        return Err(CheckError::NoPolicy);
+        return Ok(None);
     };
     let p = on_left.written(alloc)?;
     let q = on_right.written_from(alloc, number_behind(&p))?;
-    Ok((p, q))
-}
-
-/// The fields of a program. All else of it is let go.
-fn fields_of(program: Program) -> Fields
-    ensures { result ≡ program.fields }
-{
-    program.fields
+    Ok(Some((p, q)))
 }
 
 /// What is found of a certificate of two policies, the right one's dups numbered on from the left one's. Both are let go once their

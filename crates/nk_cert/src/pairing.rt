@@ -38,7 +38,7 @@ pub fn automaton_of_both(st: &mut Store, p: &Pol, q: &Pol) -> Result<Both, Alloc
         → IsAutomatonOfBoth fields st.new b.states b.left b.right (tree_of p.now) (tree_of q.now)) }
 {
     let mut states = policy_automaton(st, p, 1)?;
-    let others = policy_automaton(st, q, number_behind(p))?;
+    let others = policy_automaton(st, q, states.len() as u32)?;
     let left = *states.at(0);
     let right = *others.at(0);
     let start = union(st, left, right)?;
@@ -53,7 +53,7 @@ pub fn automaton_of_both(st: &mut Store, p: &Pol, q: &Pol) -> Result<Both, Alloc
 }
 
 /// The number behind those of a policy's dups, which are numbered from 1 on.
-pub fn number_behind(p: &Pol) -> u32
+pub(crate) fn number_behind(p: &Pol) -> u32
     requires { 1 + dups_of (tree_of p.now) < 2 ^ 32 }
     ensures { result ≡ 1 + dups_of (tree_of p.now) }
 {

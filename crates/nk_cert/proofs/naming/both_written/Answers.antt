@@ -14,8 +14,8 @@ written_from-requires-clause-fit c =
     let l = let_named c.args.program.now c.args.right.now c.in-Some-find.on_right.now c.find.ensures.is (sym c.in-Some-find.ensures.found) in
     omega (arith, c.number_behind.ensures, few_of_both c.args.program.now.fields (tree_of c.in_ok-p.p) c.in-Some-find.on_right.now k l)
 
-pub returns-clause-written : goal.returns-clause-written
-returns-clause-written c =
+pub returns : goal.returns
+returns c =
     are_written c.args.program.now c.args.left.now c.args.right.now (tree_of c.in_ok-p.p) (tree_of c.in_ok-q.q) c.in-Some-find.on_right.now
     c.number_behind.result c.find.ensures.is (sym c.in-Some.ensures.found ∙ ap Some (sym c.in_ok-p.ensures)) (sym c.in-Some-find.ensures.found)
     c.number_behind.ensures c.in_ok-q.ensures

@@ -1,4 +1,4 @@
-use Rattle.std.proofs.Common.{◌<◌, ◌+◌, ◌++◌, ◌∙◌, sym, ap, subst, arith, length, drop}
+use Rattle.std.proofs.Common.{◌≡◌, ◌<◌, ◌+◌, ◌++◌, ◌∙◌, sym, ap, subst, arith, length, drop}
 use Rattle.std.specs.Prelude.{slice_set}
 use Rattle.std.proofs.lemmas.List.{get_or_default}
 use Rattle.nk_policy.specs.Policy.{dups_of}
@@ -18,7 +18,8 @@ returns-clause-ok c = λ fields over.
     let of_right = c.in_ok-others.others in
     let al : IsAutomaton c.policy_automaton.new.st of_left 1 p = c.in_ok-states.ensures.ok c.requires.left_fit in
     let fit : IsFit c.policy_automaton.new.st.maxes q = subst (λ m. IsFit m q) (sym c.policy_automaton.ensures.grows.maxes) c.requires.right_fit in
-    let ar : IsAutomaton c.policy_automaton-2.new.st of_right (1 + dups_of p) q = subst (λ n. IsAutomaton c.policy_automaton-2.new.st of_right n q) c.number_behind.ensures (c.in_ok-others.ensures.ok fit) in
+    let count : c.len.result ≡ 1 + dups_of p = omega (arith, c.len.ensures, al.count) in
+    let ar : IsAutomaton c.policy_automaton-2.new.st of_right (1 + dups_of p) q = subst (λ n. IsAutomaton c.policy_automaton-2.new.st of_right n q) count (c.in_ok-others.ensures.ok fit) in
     let some_left : 0 < length of_left = omega (arith, al.count) in
     let some_right : 0 < length of_right = omega (arith, ar.count) in
     both_are fields c.policy_automaton.new.st c.policy_automaton-2.new.st c.union.new.st of_left of_right c.push_rest.new.states c.at-left.result.now c.at-right.result.now c.in_ok-start.start p q
