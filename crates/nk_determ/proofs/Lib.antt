@@ -22,3 +22,4 @@ pub mod Cut
 pub mod Fields
 pub mod Naming
 pub mod Sending
+pub mod Plains

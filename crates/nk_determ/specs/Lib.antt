@@ -10,3 +10,5 @@ pub mod Levels
 pub mod Breaks
 pub mod InOrder
 pub mod Automaton
+pub mod Plain
+pub mod AllPlain

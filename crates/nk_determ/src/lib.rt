@@ -6,6 +6,7 @@ mod assigned;
 mod branches;
 mod changing;
 mod levels;
+mod plain;
 mod sets;
 mod splits;
 mod states;
