@@ -114,12 +114,7 @@ module _ (old sets : List (List ℕ)) (outs all rest run behind : List Out) (k :
       front c (inl e) = inr (subst (λ (z : Branch). IsThere more (labels z.targets)) e now)
       front c (inr j) = inl j
 
--- where nothing is left, all is made
-pub all_made : (old sets : List (List ℕ)) (outs all rest : List Out) → rest ≡ [] → IsLeft old sets outs all rest →
-    (later : List (List ℕ)) → SetsGrow sets later → all ++ [] ≡ flat_map (branch_outs later) (branches outs)
-all_made old sets outs all rest e k later g = ap (λ os. all ++ flat_map (branch_outs later) (branches_in os)) (sym e) ∙ k.made later g
-
--- and the leaf has its sets
+-- where nothing is left, the leaf has its sets
 pub all_there : (old sets : List (List ℕ)) (outs all rest : List Out) → length rest ≡ 0 → Strict outs → IsLeft old sets outs all rest → HasAll sets outs
 all_there old sets outs all rest e s k = leaf_has sets outs s (λ c h. elim (k.there c h) [ inl j ↦ absurd (none_in rest c e j) | inr t ↦ t ])
   where

@@ -72,7 +72,7 @@ exact_set maxes pk f n low (s ∷ ss) a l e =
     (λ k. e.0 (sym (get_or-set_other pk f s.0 n 0 ne) ∙ k), exact_set maxes pk f n (s.0 + 1) ss a.3 (omega (arith, a.0)) e.1)
 
 -- what an act's first assignment writes is there in the end
-first_there : (maxes pk : List ℕ) (low : ℕ) (s : ℕ × ℕ) (ss : List (ℕ × ℕ)) → IsWhole pk →
+pub first_there : (maxes pk : List ℕ) (low : ℕ) (s : ℕ × ℕ) (ss : List (ℕ × ℕ)) → IsWhole pk →
     IsActFrom maxes low (s ∷ ss) → get_or (applied (s ∷ ss) pk) s.0 0 ≡ s.1
 first_there maxes pk low s ss w a = applied_keeps maxes (s.0 + 1) s.0 ss (set pk s.0 s.1) a.3 (omega arith) ∙ get_or-set_same pk s.0 s.1 0 (omega (arith, a.1, w))
 

@@ -12,6 +12,7 @@ pub mod Regroupings
 pub mod Finals
 pub mod InPlace
 pub mod Followed
+pub mod PlainSteps
 pub mod Below
 pub mod Withouts
 pub mod Collected

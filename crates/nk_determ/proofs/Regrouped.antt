@@ -11,9 +11,10 @@ use Rattle.nk_algebra.proofs.Members.{Has, has_contains, contains_has, every_fro
 use Rattle.nk_determ.specs.Exact.{exact_out, split_leaf, IsExact, AreExact}
 use Rattle.nk_determ.specs.Sets.{holds, place_in}
 use Rattle.nk_determ.specs.Branches.{Branch, with_target, begun, runs, branches, targets_of, labels, labels_of}
-use Rattle.nk_determ.specs.States.{SomeSends, AreFollowed, IsStateOf, IsThere, final_of, out_to_set, branch_outs, regrouped}
+use Rattle.nk_determ.specs.States.{SomeSends, AreFollowed, IsSetOfMet, HasAll, IsStateOf, IsThere, final_of, out_to_set, branch_outs, regrouped}
 use Rattle.nk_determ.proofs.Laws.{exact_changes}
 use Rattle.nk_determ.proofs.Interned.{place_holds}
+use Rattle.nk_determ.proofs.StatesAt.{met_same}
 use Rattle.nk_determ.proofs.Runs.{branch_for, branches_are, target_has, has_target, label_has, has_label}
 
 -- the member of a list of one
@@ -165,7 +166,7 @@ module _ (sets : List (List ℕ)) (os : List Out) (s : Strict os) where
       (has_regrouped sets os c (record { act = c.act; target = 0 }) r.1 (has_front (final_of c.act c.targets) (out_to_set sets c.act (labels c.targets)) _ (has_final c.act c.targets there)))
 
   -- an out to a further set: its act is recorded, and the set's place is that of all labels of the act
-  next_only : (g : List (ℕ × ℕ)) (i : ℕ) → Has (regrouped sets os) (record { act = g; target = i + 1 }) → (l : ℕ) × (0 < l) × Has os (record { act = g; target = l }) × (place_in sets (labels_of g os) ≡ i)
+  pub next_only : (g : List (ℕ × ℕ)) (i : ℕ) → Has (regrouped sets os) (record { act = g; target = i + 1 }) → (l : ℕ) × (0 < l) × Has os (record { act = g; target = l }) × (place_in sets (labels_of g os) ≡ i)
   next_only g i h =
       let r = regrouped_has sets os (record { act = g; target = i + 1 }) h in
       let c = r.0 in
@@ -186,7 +187,7 @@ module _ (sets : List (List ℕ)) (os : List Out) (s : Strict os) where
       ]
 
   -- an act that some label records goes to the set of all labels of it
-  next_there : (g : List (ℕ × ℕ)) (l : ℕ) → 0 < l → Has os (record { act = g; target = l }) → Has (regrouped sets os) (record { act = g; target = place_in sets (labels_of g os) + 1 })
+  pub next_there : (g : List (ℕ × ℕ)) (l : ℕ) → 0 < l → Has os (record { act = g; target = l }) → Has (regrouped sets os) (record { act = g; target = place_in sets (labels_of g os) + 1 })
   next_there g l p h =
       let r = branch_for (begun []) os (record { act = g; target = l }) h in
       let c = r.0 in
@@ -216,6 +217,23 @@ module _ (sets : List (List ℕ)) (os : List Out) (s : Strict os) where
 there_holds : (sets : List (List ℕ)) (ls : List ℕ) (l : ℕ) → Has ls l → IsThere sets ls → holds sets ls ≡ true
 there_holds sets [] l h t = absurd h
 there_holds sets (x ∷ xs) l h t = t
+
+-- a further set has exactly the labels of the acts that go to it
+pub set_of_act : (sets : List (List ℕ)) (os : List Out) → Strict os → HasAll sets os → (g : List (ℕ × ℕ)) (i : ℕ) → Has (regrouped sets os) (record { act = g; target = i + 1 }) →
+    IsSetOfMet sets i (λ l. Has os (record { act = g; target = l }))
+set_of_act sets os s held g i h =
+    let n = next_only sets os s g i h in
+    let label : Has (labels_of g os) n.0 = has_label (targets_of g os) n.0 n.1 (has_target g os n.0 n.2) in
+    let at = place_holds sets (labels_of g os) (there_holds sets (labels_of g os) n.0 label (held g)) in
+    let members : get_or sets i [] ≡ labels_of g os = ap (λ j. get_or sets j []) (sym n.3) ∙ at.1 in
+    record {
+      within = subst (λ j. j < length sets) n.3 at.0;
+      some = λ e. subst (λ ls. Has ls n.0) (sym members ∙ e) label;
+      every = λ l. (
+        λ m. let q = label_has (targets_of g os) l (subst (λ ls. Has ls l) members (contains_has (get_or sets i []) l m)) in (q.0, target_has g os l q.1),
+        λ m. has_contains (get_or sets i []) l (subst (λ ls. Has ls l) (sym members) (has_label (targets_of g os) l m.0 (has_target g os l m.1))),
+      );
+    }
 
 -- what a split leaf sends is by an exact act
 leaf_exact : (maxes pk : List ℕ) (os : List Out) (g : List (ℕ × ℕ)) (t : ℕ) → InRange maxes pk → Contains (split_leaf maxes pk os) (record { act = g; target = t }) → IsExact pk g
@@ -250,20 +268,8 @@ module _ (old mid new : Held) (sets : List (List ℕ)) (ds : List ℕ) (d r : �
   -- an out to a further set says exactly which labels follow
   pub next_is : (pk : List ℕ) (g : List (ℕ × ℕ)) (i : ℕ) → IsWhole pk → Contains (look new r pk) (record { act = g; target = i + 1 }) → AreFollowed sets old ds pk g i
   next_is pk g i w c =
-      let os = look mid d pk in
-      let n = next_only sets os (k.sorted pk) g i (to_leaf pk (record { act = g; target = i + 1 }) w c) in
-      let label : Has (labels_of g os) n.0 = has_label (targets_of g os) n.0 n.1 (has_target g os n.0 n.2) in
-      let held : holds sets (labels_of g os) ≡ true = there_holds sets (labels_of g os) n.0 label (k.held pk g) in
-      let at = place_holds sets (labels_of g os) held in
-      let members : get_or sets i [] ≡ labels_of g os = ap (λ j. get_or sets j []) (sym n.3) ∙ at.1 in
-      record {
-        within = subst (λ j. j < length sets) n.3 at.0;
-        some = λ e. subst (λ ls. Has ls n.0) (sym members ∙ e) label;
-        every = λ l. (
-          λ m. let q = label_has (targets_of g os) l (subst (λ ls. Has ls l) members (contains_has (get_or sets i []) l m)) in (q.0, to_diagram pk g l w (target_has g os l q.1)),
-          λ m. has_contains (get_or sets i []) l (subst (λ ls. Has ls l) (sym members) (has_label (targets_of g os) l m.0 (has_target g os l (from_diagram pk g l w m.1)))),
-        );
-      }
+      met_same sets i (λ l. Has (look mid d pk) (record { act = g; target = l })) (λ l. SomeSends old ds pk g l) (λ l. (λ h. to_diagram pk g l w h, λ q. from_diagram pk g l w q))
+      (set_of_act sets (look mid d pk) (k.sorted pk) (k.held pk) g i (to_leaf pk (record { act = g; target = i + 1 }) w c))
 
   -- some diagram records an act that goes to a further set
   pub next_from : (pk : List ℕ) (g : List (ℕ × ℕ)) (i : ℕ) → IsWhole pk → Contains (look new r pk) (record { act = g; target = i + 1 }) → (l : ℕ) × SomeSends old ds pk g l

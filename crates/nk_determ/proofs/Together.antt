@@ -11,7 +11,7 @@ use Rattle.nk_determ.specs.Exact.{split_leaf}
 use Rattle.nk_determ.specs.States.{HaveEach, IsTogether}
 
 -- what many leaves together have, one of them has
-unions_has : (st : Held) (ds : List ℕ) (from n : ℕ) (pk : List ℕ) (o : Out) → Has (unions st ds from n pk) o →
+pub unions_has : (st : Held) (ds : List ℕ) (from n : ℕ) (pk : List ℕ) (o : Out) → Has (unions st ds from n pk) o →
     (k : ℕ) × (from ≤ k) × (k < from + n) × Has (look st (get_or ds k 0) pk) o
 unions_has st ds from zero pk o h = absurd h
 unions_has st ds from (suc n) pk o h = elim (merged_has o (look st (get_or ds from 0) pk) (unions st ds (from + 1) n pk) h) [
@@ -20,7 +20,7 @@ unions_has st ds from (suc n) pk o h = elim (merged_has o (look st (get_or ds fr
 ]
 
 -- and the other way round
-has_unions : (st : Held) (ds : List ℕ) (from n k : ℕ) (pk : List ℕ) (o : Out) → from ≤ k → k < from + n →
+pub has_unions : (st : Held) (ds : List ℕ) (from n k : ℕ) (pk : List ℕ) (o : Out) → from ≤ k → k < from + n →
     Has (look st (get_or ds k 0) pk) o → Has (unions st ds from n pk) o
 has_unions st ds from zero k pk o a b h = absurd (omega (arith, a, b))
 has_unions st ds from (suc n) k pk o a b h = elim (leb_tells k from) [

@@ -2,6 +2,8 @@ pub mod Exact
 pub mod Targets
 pub mod Sets
 pub mod Branches
+pub mod Plain
+pub mod AllPlain
 pub mod States
 pub mod Unchanged
 pub mod Reach
@@ -10,5 +12,3 @@ pub mod Levels
 pub mod Breaks
 pub mod InOrder
 pub mod Automaton
-pub mod Plain
-pub mod AllPlain

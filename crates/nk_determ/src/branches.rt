@@ -36,7 +36,7 @@ pub(crate) fn run_length(outs: &[Out]) -> usize
     end
 }
 
-/// The targets that are labels: 0 is the end.
+/// The labels among the targets of outs: 0 is the end.
 pub(crate) fn labels_in(alloc: Global, outs: &[Out]) -> Result<List<u64>, AllocError>
     ensures { IfOk result (λ ls. ls ≡ labels (targets_in outs.now)) }
 {

@@ -10,10 +10,12 @@ mod plain;
 mod sets;
 mod splits;
 mod states;
+mod steps;
 mod targets;
 
 pub use levels::Levels;
 pub use sets::{SetId, Sets};
 pub use splits::{mean_same, split};
 pub use states::{state, state_of};
+pub use steps::steps_of;
 pub use targets::retarget;

@@ -148,7 +148,7 @@ fn split_all(st: &mut Store, diagrams: &[Id]) -> Result<List<Id>, AllocError>
 }
 
 /// The diagram with the outs of each act to the set of all labels of the act. Each node is visited once.
-fn regroup(st: &mut Store, ss: &mut Sets, d: Id) -> Result<Id, AllocError>
+pub(crate) fn regroup(st: &mut Store, ss: &mut Sets, d: Id) -> Result<Id, AllocError>
     requires { IsId st.old d }
     ensures grows { Grows st.old st.new }
     ensures sets { SetsGrow ss.old ss.new }
