@@ -6,7 +6,7 @@ pub mod Outs
 pub mod Rounds
 pub mod Sides
 pub mod Local
-pub mod Alone
+pub mod Single
 pub mod Breaks
 pub mod Histories
 pub mod Pulls

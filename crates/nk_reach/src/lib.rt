@@ -2,7 +2,6 @@
 //! and the least history that breaks the goal.
 #![tactic(auto)]
 
-mod alone;
 mod back;
 mod choice;
 mod entries;
@@ -19,6 +18,7 @@ mod pull;
 mod rounds;
 mod search;
 mod sides;
+mod single;
 mod standing;
 mod together;
 

@@ -6,8 +6,8 @@ ghost use Rattle.nk_determ.specs.Exact.{Sends};
 ghost use Rattle.nk_determ.specs.Sets.{SetsGrow};
 ghost use Rattle.nk_determ.specs.States.{SomeLeads, AreLedTo};
 
-use crate::alone::steps_alone;
-use nk_determ::{Sets, state_of};
+use crate::single::steps_single;
+use nk_determ::{Sets, steps_of};
 use nk_store::{Id, Store};
 use std::alloc::AllocError;
 
@@ -31,7 +31,7 @@ pub(crate) fn steps_together(
     let one = steps_of_one(st, ss, diagrams)?;
     match one {
         Some(r) => Ok(r),
-        None => state_of(st, ss, diagrams),
+        None => steps_of(st, ss, diagrams),
     }
 }
 
@@ -49,6 +49,6 @@ fn steps_of_one(st: &mut Store, ss: &mut Sets, diagrams: &[Id]) -> Result<Option
     if diagrams.len() != 1 {
         return Ok(None);
     }
-    let steps = steps_alone(st, ss, diagrams[0])?;
+    let steps = steps_single(st, ss, diagrams[0])?;
     Ok(steps)
 }

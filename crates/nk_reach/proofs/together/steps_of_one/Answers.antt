@@ -8,7 +8,7 @@ pub returns-clause-leads : goal.returns-clause-leads
 returns-clause-leads c =
     let one : length c.args.diagrams.now ≡ 1 = omega arith in
     let are : c.index-diagrams-0.result ∷ [] ≡ c.args.diagrams.now = list_of_one c.args.diagrams.now c.index-diagrams-0.result _ one c.index-diagrams-0.is in
-    IfSome_then c.in_ok-steps.steps c.in_ok-steps.ensures.leads (λ r h. λ pk y i p s. subst (λ ds. AreLedTo c.steps_alone.new.ss c.args.st.now ds pk y i) are (h pk y i p s))
+    IfSome_then c.in_ok-steps.steps c.in_ok-steps.ensures.leads (λ r h. λ pk y i p s. subst (λ ds. AreLedTo c.steps_single.new.ss c.args.st.now ds pk y i) are (h pk y i p s))
 
 pub returns-clause-led : goal.returns-clause-led
 returns-clause-led c =

@@ -10,8 +10,8 @@ use Rattle.nk_determ.specs.Sets.{place_in}
 use Rattle.nk_determ.specs.States.{SomeLeads, AreLedTo}
 use Rattle.nk_determ.proofs.Interned.{sets_same, place_holds}
 use Rattle.nk_reach.specs.Rounds.{sent_to}
-use Rattle.nk_reach.specs.Alone.{alone_to, IsAlone}
-use Rattle.nk_reach.proofs.AloneLeaves.{stepped_has, has_stepped}
+use Rattle.nk_reach.specs.Single.{single_to, IsSingle}
+use Rattle.nk_reach.proofs.SingleLeaves.{stepped_has, has_stepped}
 
 -- the only member of a list of one
 only_member : (d e : ℕ) → Contains (d ∷ []) e → e ≡ d
@@ -30,16 +30,16 @@ module _ (old : Held) (d : ℕ) where
   one_leads : (pk y : List ℕ) (t : ℕ) → Sends old d pk y t → SomeLeads old (d ∷ []) pk y t
   one_leads pk y t s = (d, (0, omega arith, refl), s)
 
-  module _ (new : Held) (sets : List (List ℕ)) (r : ℕ) (k : IsAlone old d new sets r) where
+  module _ (new : Held) (sets : List (List ℕ)) (r : ℕ) (k : IsSingle old d new sets r) where
     -- the leaf of the steps
-    leaf_is : (pk : List ℕ) → IsPacket old pk → look new r pk ≡ alone_to sets (look old d pk)
+    leaf_is : (pk : List ℕ) → IsPacket old pk → look new r pk ≡ single_to sets (look old d pk)
     leaf_is pk p = (k.leaves sets (sets_same sets)).leaf pk p.0
 
     -- a step leads to the set of all labels that record the packet
-    pub alone_leads : (pk y : List ℕ) (i : ℕ) → IsPacket old pk → Sends new r pk y (i + 1) → AreLedTo sets old (d ∷ []) pk y i
-    alone_leads pk y i p s =
+    pub single_leads : (pk y : List ℕ) (i : ℕ) → IsPacket old pk → Sends new r pk y (i + 1) → AreLedTo sets old (d ∷ []) pk y i
+    single_leads pk y i p s =
         let os : List Out = look old d pk in
-        let c : Has (alone_to sets os) (sent_to s.0 (i + 1)) = subst (λ (xs : List Out). Has xs (sent_to s.0 (i + 1))) (leaf_is pk p) (contains_has (look new r pk) (sent_to s.0 (i + 1)) s.1) in
+        let c : Has (single_to sets os) (sent_to s.0 (i + 1)) = subst (λ (xs : List Out). Has xs (sent_to s.0 (i + 1))) (leaf_is pk p) (contains_has (look new r pk) (sent_to s.0 (i + 1)) s.1) in
         let m = stepped_has (λ o. place_in sets (o.target ∷ []) + 1) os (sent_to s.0 (i + 1)) c in
         let l : ℕ = m.0.target in
         let there : Contains os m.0 = has_contains os m.0 m.1 in
@@ -47,7 +47,7 @@ module _ (old : Held) (d : ℕ) where
         let place : place_in sets (l ∷ []) ≡ i = omega (arith, target) in
         let act : m.0.act ≡ s.0 = ap (λ (x : Out). x.act) m.3 in
         let sent : Sends old d pk y l = (m.0.act, there, s.2 ∙ ap (λ g. applied g pk) (sym act)) in
-        let at = place_holds sets (l ∷ []) ((k.alone pk).there m.0 there m.2) in
+        let at = place_holds sets (l ∷ []) ((k.single pk).there m.0 there m.2) in
         let members : get_or sets i [] ≡ l ∷ [] = ap (λ j. get_or sets j []) (sym place) ∙ at.1 in
         record {
           within = subst (λ j. j < length sets) place at.0;
@@ -56,18 +56,18 @@ module _ (old : Held) (d : ℕ) where
             λ c. let is : n ≡ l = only_member l n (subst (λ ls. Contains ls n) members c) in (subst (λ z. 0 < z) (sym is) m.2, subst (λ z. SomeLeads old (d ∷ []) pk y z) (sym is) (one_leads pk y l sent)),
             λ q.
                 let way = leads_one pk y n q.1 in
-                let is : n ≡ l = (k.alone pk).one (sent_to way.0 n) m.0 way.1 there q.0 m.2 in
+                let is : n ≡ l = (k.single pk).one (sent_to way.0 n) m.0 way.1 there q.0 m.2 in
                 subst (λ ls. Contains ls n) (sym members) (subst (λ z. Contains (l ∷ []) z) (sym is) (0, omega arith, refl)),
           );
         }
 
     -- what a label records a step leads to
-    pub alone_led : (pk y : List ℕ) (l : ℕ) → IsPacket old pk → 0 < l → SomeLeads old (d ∷ []) pk y l → (i : ℕ) × Sends new r pk y (i + 1)
-    alone_led pk y l p pos s =
+    pub single_led : (pk y : List ℕ) (l : ℕ) → IsPacket old pk → 0 < l → SomeLeads old (d ∷ []) pk y l → (i : ℕ) × Sends new r pk y (i + 1)
+    single_led pk y l p pos s =
         let os : List Out = look old d pk in
         let way = leads_one pk y l s in
         let made : Out = sent_to way.0 (place_in sets (l ∷ []) + 1) in
-        let h : Has (alone_to sets os) made = has_stepped (λ o. place_in sets (o.target ∷ []) + 1) os (sent_to way.0 l) pos (contains_has os (sent_to way.0 l) way.1) in
+        let h : Has (single_to sets os) made = has_stepped (λ o. place_in sets (o.target ∷ []) + 1) os (sent_to way.0 l) pos (contains_has os (sent_to way.0 l) way.1) in
         (place_in sets (l ∷ []), (way.0, has_contains (look new r pk) made (subst (λ (xs : List Out). Has xs made) (sym (leaf_is pk p)) h), way.2))
 
   module _ (none : (pk : List ℕ) → look old d pk ≡ []) where

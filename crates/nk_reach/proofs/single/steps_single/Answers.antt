@@ -1,7 +1,7 @@
 use Rattle.std.proofs.lemmas.Option.{IfSome_then}
 use Rattle.nk_determ.proofs.Interned.{sets_same}
-use Rattle.nk_reach.proofs.AloneSent.{alone_leads, alone_led, none_leads, none_led}
-use Rattle.nk_reach.proofs.alone.steps_alone.Goals as goal
+use Rattle.nk_reach.proofs.SingleSent.{single_leads, single_led, none_leads, none_led}
+use Rattle.nk_reach.proofs.single.steps_single.Goals as goal
 
 pub returns-then-drops-clause-sets : goal.returns-then-drops-clause-sets
 returns-then-drops-clause-sets c = sets_same c.args.ss.now
@@ -13,10 +13,10 @@ pub returns-then-drops-clause-led : goal.returns-then-drops-clause-led
 returns-then-drops-clause-led c = λ pk y l p pos s. none_led c.args.st.now c.args.d (c.drops.ensures.yes c.if-drops.true) pk y l s
 
 pub returns-clause-id : goal.returns-clause-id
-returns-clause-id c = IfSome_then c.in_ok-steps.steps c.in_ok-steps.ensures.ok (λ r k. (k.leaves c.alone_new.new.ss (sets_same c.alone_new.new.ss)).id)
+returns-clause-id c = IfSome_then c.in_ok-steps.steps c.in_ok-steps.ensures.ok (λ r k. (k.leaves c.single_new.new.ss (sets_same c.single_new.new.ss)).id)
 
 pub returns-clause-leads : goal.returns-clause-leads
-returns-clause-leads c = IfSome_then c.in_ok-steps.steps c.in_ok-steps.ensures.ok (λ r k. alone_leads c.args.st.now c.args.d c.alone_new.new.st c.alone_new.new.ss r k)
+returns-clause-leads c = IfSome_then c.in_ok-steps.steps c.in_ok-steps.ensures.ok (λ r k. single_leads c.args.st.now c.args.d c.single_new.new.st c.single_new.new.ss r k)
 
 pub returns-clause-led : goal.returns-clause-led
-returns-clause-led c = IfSome_then c.in_ok-steps.steps c.in_ok-steps.ensures.ok (λ r k. alone_led c.args.st.now c.args.d c.alone_new.new.st c.alone_new.new.ss r k)
+returns-clause-led c = IfSome_then c.in_ok-steps.steps c.in_ok-steps.ensures.ok (λ r k. single_led c.args.st.now c.args.d c.single_new.new.st c.single_new.new.ss r k)

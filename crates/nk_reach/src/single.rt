@@ -6,7 +6,7 @@ ghost use Rattle.nk_algebra.specs.Subs.{IsSplit};
 ghost use Rattle.nk_determ.specs.Exact.{Sends};
 ghost use Rattle.nk_determ.specs.Sets.{SetsGrow, holds, place_in};
 ghost use Rattle.nk_determ.specs.States.{SomeLeads, AreLedTo};
-ghost use Rattle.nk_reach.specs.Alone.{step_to, first_label, AreSteps, AreLeafSteps, IsAlone, AreAlone, AreAloneBy};
+ghost use Rattle.nk_reach.specs.Single.{step_to, first_label, AreSteps, AreLeafSteps, IsSingle, AreSingle, AreSingleBy};
 
 use nk_algebra::{known, part_near, tested};
 use nk_determ::Sets;
@@ -18,7 +18,7 @@ use std::collections::HashMap;
 /// The steps of a diagram whose leaves each have outs to one label at most beside finals: each out that is no final, to 1 +
 /// the number of the set of its label alone, which is put in where it isn't there. `None` where some leaf has outs to several
 /// labels. Each node is visited once. The only error is that memory ran out.
-pub(crate) fn steps_alone(st: &mut Store, ss: &mut Sets, d: Id) -> Result<Option<Id>, AllocError>
+pub(crate) fn steps_single(st: &mut Store, ss: &mut Sets, d: Id) -> Result<Option<Id>, AllocError>
     requires { IsId st.old d }
     ensures grows { Grows st.old st.new }
     ensures sets { SetsGrow ss.old ss.new }
@@ -32,29 +32,29 @@ pub(crate) fn steps_alone(st: &mut Store, ss: &mut Sets, d: Id) -> Result<Option
         return Ok(Some(d));
     }
     let mut seen = HashMap::new(st.alloc());
-    let steps = alone_new(st, ss, &mut seen, d)?;
+    let steps = single_new(st, ss, &mut seen, d)?;
     Ok(steps)
 }
 
 /// The steps of a diagram, which are looked up where they were made before.
-#[cycle(steps_alone)]
-fn alone_once(
+#[cycle(steps_single)]
+fn single_once(
     st: &mut Store,
     ss: &mut Sets,
     seen: &mut HashMap<Id, Id>,
     d: Id,
 ) -> Result<Option<Id>, AllocError>
     requires id { IsId st.old d }
-    requires seen { AreAlone st.old ss.old seen.old.entries }
+    requires seen { AreSingle st.old ss.old seen.old.entries }
     ensures grows { Grows st.old st.new }
     ensures sets { SetsGrow ss.old ss.new }
-    ensures ok { IfOk result (λ o. IfSome o (λ r. IsAlone st.old d st.new ss.new r)) }
-    ensures seen { OnOk result (AreAlone st.new ss.new seen.new.entries) }
+    ensures ok { IfOk result (λ o. IfSome o (λ r. IsSingle st.old d st.new ss.new r)) }
+    ensures seen { OnOk result (AreSingle st.new ss.new seen.new.entries) }
 {
     if let Some(made) = known(seen, d) {
         return Ok(Some(made));
     }
-    let Some(r) = alone_new(st, ss, seen, d)? else {
+    let Some(r) = single_new(st, ss, seen, d)? else {
         return Ok(None);
     };
     seen.insert(d, r)?;
@@ -62,29 +62,29 @@ fn alone_once(
 }
 
 /// The same, made anew.
-#[cycle(steps_alone)]
-fn alone_new(
+#[cycle(steps_single)]
+fn single_new(
     st: &mut Store,
     ss: &mut Sets,
     seen: &mut HashMap<Id, Id>,
     d: Id,
 ) -> Result<Option<Id>, AllocError>
     requires id { IsId st.old d }
-    requires seen { AreAlone st.old ss.old seen.old.entries }
+    requires seen { AreSingle st.old ss.old seen.old.entries }
     ensures grows { Grows st.old st.new }
     ensures sets { SetsGrow ss.old ss.new }
-    ensures ok { IfOk result (λ o. IfSome o (λ r. IsAlone st.old d st.new ss.new r)) }
-    ensures seen { OnOk result (AreAlone st.new ss.new seen.new.entries) }
+    ensures ok { IfOk result (λ o. IfSome o (λ r. IsSingle st.old d st.new ss.new r)) }
+    ensures seen { OnOk result (AreSingle st.new ss.new seen.new.entries) }
 {
     match tested(st, d) {
-        None => alone_leaf(st, ss, d),
-        Some(f) => alone_case(st, ss, seen, f, d),
+        None => single_leaf(st, ss, d),
+        Some(f) => single_case(st, ss, seen, f, d),
     }
 }
 
 /// The steps of a diagram by the field that it tests first.
-#[cycle(steps_alone)]
-fn alone_case(
+#[cycle(steps_single)]
+fn single_case(
     st: &mut Store,
     ss: &mut Sets,
     seen: &mut HashMap<Id, Id>,
@@ -95,13 +95,13 @@ fn alone_case(
     requires field { f < 18 }
     requires first { top st.old d ≡ f }
     requires split { IsSplit st.old f d }
-    requires seen { AreAlone st.old ss.old seen.old.entries }
+    requires seen { AreSingle st.old ss.old seen.old.entries }
     ensures grows { Grows st.old st.new }
     ensures sets { SetsGrow ss.old ss.new }
-    ensures ok { IfOk result (λ o. IfSome o (λ r. IsAlone st.old d st.new ss.new r)) }
-    ensures seen { OnOk result (AreAlone st.new ss.new seen.new.entries) }
+    ensures ok { IfOk result (λ o. IfSome o (λ r. IsSingle st.old d st.new ss.new r)) }
+    ensures seen { OnOk result (AreSingle st.new ss.new seen.new.entries) }
 {
-    let Some(parts) = alone_parts(st, ss, seen, f, d)? else {
+    let Some(parts) = single_parts(st, ss, seen, f, d)? else {
         return Ok(None);
     };
     let r = st.case(f, parts)?;
@@ -109,8 +109,8 @@ fn alone_case(
 }
 
 /// The parts of the steps by the first field.
-#[cycle(steps_alone)]
-fn alone_parts(
+#[cycle(steps_single)]
+fn single_parts(
     st: &mut Store,
     ss: &mut Sets,
     seen: &mut HashMap<Id, Id>,
@@ -121,11 +121,11 @@ fn alone_parts(
     requires field { f < 18 }
     requires first { top st.old d ≡ f }
     requires split { IsSplit st.old f d }
-    requires seen { AreAlone st.old ss.old seen.old.entries }
+    requires seen { AreSingle st.old ss.old seen.old.entries }
     ensures grows { Grows st.old st.new }
     ensures sets { SetsGrow ss.old ss.new }
-    ensures ok { IfOk result (λ o. IfSome o (λ ps. AreAloneBy st.old f d st.new ss.new ps)) }
-    ensures seen { OnOk result (AreAlone st.new ss.new seen.new.entries) }
+    ensures ok { IfOk result (λ o. IfSome o (λ ps. AreSingleBy st.old f d st.new ss.new ps)) }
+    ensures seen { OnOk result (AreSingle st.new ss.new seen.new.entries) }
 {
     let max = st.max(f);
     let mut parts = List::new(st.alloc());
@@ -133,7 +133,7 @@ fn alone_parts(
     let mut from = 0;
     loop {
         let (end, child) = part_near(st, d, f, from, &mut near);
-        let Some(to) = alone_once(st, ss, seen, child)? else {
+        let Some(to) = single_once(st, ss, seen, child)? else {
             return Ok(None);
         };
         parts.push((end, to))?;
@@ -145,12 +145,12 @@ fn alone_parts(
 }
 
 /// The steps of a leaf.
-fn alone_leaf(st: &mut Store, ss: &mut Sets, d: Id) -> Result<Option<Id>, AllocError>
+fn single_leaf(st: &mut Store, ss: &mut Sets, d: Id) -> Result<Option<Id>, AllocError>
     requires id { IsId st.old d }
     requires leaf { 18 ≤ top st.old d }
     ensures grows { Grows st.old st.new }
     ensures sets { SetsGrow ss.old ss.new }
-    ensures ok { IfOk result (λ o. IfSome o (λ r. IsAlone st.old d st.new ss.new r)) }
+    ensures ok { IfOk result (λ o. IfSome o (λ r. IsSingle st.old d st.new ss.new r)) }
 {
     let Some(outs) = leaf_steps(st, ss, d)? else {
         return Ok(None);
@@ -167,13 +167,13 @@ fn leaf_steps(st: &Store, ss: &mut Sets, d: Id) -> Result<Option<List<Out>>, All
     ensures ok { IfOk result (λ o. IfSome o (λ r. AreLeafSteps st.now d ss.new r)) }
 {
     match st.view(d) {
-        Node::Leaf(outs) => outs_alone(st.alloc(), ss, outs.as_slice()),
+        Node::Leaf(outs) => outs_single(st.alloc(), ss, outs.as_slice()),
         Node::Case(_, _) => unreachable!(),
     }
 }
 
 /// The steps among outs; `None` where they have several labels.
-fn outs_alone(alloc: Global, ss: &mut Sets, outs: &[Out]) -> Result<Option<List<Out>>, AllocError>
+fn outs_single(alloc: Global, ss: &mut Sets, outs: &[Out]) -> Result<Option<List<Out>>, AllocError>
     ensures sets { SetsGrow ss.old ss.new }
     ensures ok { IfOk result (λ o. IfSome o (λ r. AreSteps ss.new outs.now r)) }
 {
@@ -184,7 +184,7 @@ fn outs_alone(alloc: Global, ss: &mut Sets, outs: &[Out]) -> Result<Option<List<
     if label == 0 {
         return Ok(Some(List::new(alloc)));
     }
-    let target = target_alone(alloc, ss, label)?;
+    let target = target_single(alloc, ss, label)?;
     let steps = steps_to(alloc, outs, target)?;
     Ok(Some(steps))
 }
@@ -209,7 +209,7 @@ fn is_only(outs: &[Out], label: u64) -> bool
 }
 
 /// The target of the set of a label alone, which is put in where it isn't there.
-fn target_alone(alloc: Global, ss: &mut Sets, label: u64) -> Result<u64, AllocError>
+fn target_single(alloc: Global, ss: &mut Sets, label: u64) -> Result<u64, AllocError>
     ensures sets { SetsGrow ss.old ss.new }
     ensures ok { IfOk result (λ t. (later : Items (Items ℕ)) → SetsGrow ss.new later → t ≡ place_in later (label ∷ []) + 1) }
     ensures there { OnOk result (holds ss.new (label ∷ []) ≡ true) }

@@ -1,7 +1,7 @@
 use Rattle.std.proofs.Common.{◌≡◌, ◌+◌, ◌∙◌, ap, [], ◌∷◌, ◌++◌}
 use Rattle.nk_determ.specs.Sets.{holds, with_set, place_in}
 use Rattle.nk_determ.proofs.Interned.{set_there, number_placed}
-use Rattle.nk_reach.proofs.alone.target_alone.Goals as goal
+use Rattle.nk_reach.proofs.single.target_single.Goals as goal
 
 pub returns-clause-ok : goal.returns-clause-ok
 returns-clause-ok c = λ later g.

@@ -1,6 +1,6 @@
 use Rattle.std.proofs.Common.{◌≡◌, drop}
-use Rattle.nk_reach.specs.Alone.{first_label}
-use Rattle.nk_reach.proofs.alone.label_in.Given as goal
+use Rattle.nk_reach.specs.Single.{first_label}
+use Rattle.nk_reach.proofs.single.label_in.Given as goal
 
 -- the outs so far are finals
 abbrev pub invariant-loop-o : goal.invariant-loop-o

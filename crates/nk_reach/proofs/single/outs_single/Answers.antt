@@ -1,7 +1,7 @@
 use Rattle.std.proofs.Common.{◌∙◌, sym, subst}
-use Rattle.nk_reach.specs.Alone.{AreSteps}
-use Rattle.nk_reach.proofs.AloneLeaves.{steps_of_label, steps_of_finals}
-use Rattle.nk_reach.proofs.alone.outs_alone.Goals as goal
+use Rattle.nk_reach.specs.Single.{AreSteps}
+use Rattle.nk_reach.proofs.SingleLeaves.{steps_of_label, steps_of_finals}
+use Rattle.nk_reach.proofs.single.outs_single.Goals as goal
 
 pub returns-then-label-eq0-clause-ok : goal.returns-then-label-eq0-clause-ok
 returns-then-label-eq0-clause-ok c =
@@ -9,4 +9,4 @@ returns-then-label-eq0-clause-ok c =
 
 pub returns-clause-ok : goal.returns-clause-ok
 returns-clause-ok c =
-    steps_of_label c.target_alone.new.ss c.label_in-label.result c.in_ok-target.target c.args.outs.now c.in_ok-steps.steps (sym c.is_only.ensures ∙ c.if-not-is_only.false) c.in_ok-target.ensures.there c.in_ok-target.ensures.ok c.in_ok-steps.ensures
+    steps_of_label c.target_single.new.ss c.label_in-label.result c.in_ok-target.target c.args.outs.now c.in_ok-steps.steps (sym c.is_only.ensures ∙ c.if-not-is_only.false) c.in_ok-target.ensures.there c.in_ok-target.ensures.ok c.in_ok-steps.ensures

@@ -12,7 +12,7 @@ use Rattle.nk_store.specs.Held.{Held, IsLeaf}
 use Rattle.nk_algebra.proofs.Members.{Has, has_contains, contains_has, every_has, every_from}
 use Rattle.nk_determ.specs.Sets.{SetsGrow, holds, place_in}
 use Rattle.nk_determ.proofs.Interned.{holds_grow, sets_same}
-use Rattle.nk_reach.specs.Alone.{step_to, alone_to, IsAloneIn, AreSteps, AreLeafSteps}
+use Rattle.nk_reach.specs.Single.{step_to, single_to, IsSingleIn, AreSteps, AreLeafSteps}
 
 -- outs with one target stay in order with another one
 same_targets : (x y : Out) (t u : ℕ) → x.target ≡ y.target → t ≡ u → out_cmp x y ≡ Less → out_cmp (record { act = x.act; target = t }) (record { act = y.act; target = u }) ≡ Less
@@ -113,29 +113,29 @@ only_label label (o ∷ os) e p h l = by (eqb o.target 0) refl (eqb o.target lab
     by false ea false eb k m go = cc
 
 -- a leaf whose only label stands alone as one of the sets
-pub alone_in : (sets : List (List ℕ)) (label : ℕ) (os : List Out) → ((p : Out) → Has os p → 0 < p.target → p.target ≡ label) → ((p : Out) → Has os p → 0 < p.target → holds sets (label ∷ []) ≡ true) → IsAloneIn sets os
-alone_in sets label os only held = record {
+pub single_in : (sets : List (List ℕ)) (label : ℕ) (os : List Out) → ((p : Out) → Has os p → 0 < p.target → p.target ≡ label) → ((p : Out) → Has os p → 0 < p.target → holds sets (label ∷ []) ≡ true) → IsSingleIn sets os
+single_in sets label os only held = record {
   one = λ o p co cp lo lp. only o (contains_has os o co) lo ∙ sym (only p (contains_has os p cp) lp);
   there = λ o c l. subst (λ t. holds sets (t ∷ []) ≡ true) (sym (only o (contains_has os o c) l)) (held o (contains_has os o c) l);
 }
 
 -- it stays so among more sets
-pub alone_grow : (sets more : List (List ℕ)) (os : List Out) → SetsGrow sets more → IsAloneIn sets os → IsAloneIn more os
-alone_grow sets more os g k = record { one = k.one; there = λ o c l. holds_grow sets more (o.target ∷ []) g (k.there o c l) }
+pub single_grow : (sets more : List (List ℕ)) (os : List Out) → SetsGrow sets more → IsSingleIn sets os → IsSingleIn more os
+single_grow sets more os g k = record { one = k.one; there = λ o c l. holds_grow sets more (o.target ∷ []) g (k.there o c l) }
 
 -- the steps of outs with one label, which its set stands for
 pub steps_of_label : (sets : List (List ℕ)) (label t : ℕ) (os r : List Out) → list_all (λ o. eqb o.target 0 || eqb o.target label) os ≡ true → holds sets (label ∷ []) ≡ true →
     ((later : List (List ℕ)) → SetsGrow sets later → t ≡ place_in later (label ∷ []) + 1) → r ≡ flat_map (step_to t) os → AreSteps sets os r
 steps_of_label sets label t os r e held target is = record {
   steps = λ later g. is ∙ stepped_same (λ _. t) (λ o. place_in later (o.target ∷ []) + 1) os (λ p h l. target later g ∙ ap (λ k. place_in later (k ∷ []) + 1) (sym (only_label label os e p h l)));
-  alone = alone_in sets label os (only_label label os e) (λ p h l. held);
+  single = single_in sets label os (only_label label os e) (λ p h l. held);
 }
 
 -- where all are finals there are no steps
 pub steps_of_finals : (sets : List (List ℕ)) (label : ℕ) (os : List Out) → list_all (λ o. eqb o.target 0 || eqb o.target label) os ≡ true → label ≡ 0 → AreSteps sets os []
 steps_of_finals sets label os e z = record {
   steps = λ later g. sym (stepped_none (λ o. place_in later (o.target ∷ []) + 1) os none);
-  alone = alone_in sets label os (only_label label os e) (λ p h l. absurd (none p h l));
+  single = single_in sets label os (only_label label os e) (λ p h l. absurd (none p h l));
 }
   where
     none : (p : Out) → Has os p → 0 < p.target → ⊥
@@ -153,11 +153,11 @@ leaf_steps_of st d sets outs items r leaf same k = record {
     T : Out → ℕ
     T o = place_in sets (o.target ∷ []) + 1
 
-    is : r ≡ alone_to sets outs
-    is = k.steps sets (sets_same sets) ∙ ap (alone_to sets) same
+    is : r ≡ single_to sets outs
+    is = k.steps sets (sets_same sets) ∙ ap (single_to sets) same
 
     one : (o p : Out) → Has outs o → Has outs p → 0 < o.target → 0 < p.target → (o.target ≡ p.target) × (T o ≡ T p)
     one o p ho hp lo lp =
-        let among = subst (IsAloneIn sets) same k.alone in
+        let among = subst (IsSingleIn sets) same k.single in
         let e : o.target ≡ p.target = among.one o p (has_contains outs o ho) (has_contains outs p hp) lo lp in
         (e, ap (λ t. place_in sets (t ∷ []) + 1) e)

@@ -1,7 +1,7 @@
 use Rattle.std.proofs.Common.{◌≡◌, take}
 use Rattle.std.specs.List.{flat_map}
-use Rattle.nk_reach.specs.Alone.{step_to}
-use Rattle.nk_reach.proofs.alone.steps_to.Given as goal
+use Rattle.nk_reach.specs.Single.{step_to}
+use Rattle.nk_reach.proofs.single.steps_to.Given as goal
 
 -- the steps among the outs so far
 abbrev pub invariant-loop-o : goal.invariant-loop-o

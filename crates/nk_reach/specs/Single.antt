@@ -13,8 +13,8 @@ abbrev pub step_to : ℕ → Out → List Out
 step_to target o = cond (eqb o.target 0) [] (record { act = o.act; target = target } ∷ [])
 
 -- the outs that are no finals, each to 1 + the number of the set of its label alone
-abbrev pub alone_to : List (List ℕ) → List Out → List Out
-alone_to sets outs = flat_map (λ o. step_to (place_in sets (o.target ∷ []) + 1) o) outs
+abbrev pub single_to : List (List ℕ) → List Out → List Out
+single_to sets outs = flat_map (λ o. step_to (place_in sets (o.target ∷ []) + 1) o) outs
 
 -- the first label among the targets; 0 where all are finals
 abbrev pub first_label : List Out → ℕ
@@ -22,14 +22,14 @@ first_label [] = 0
 first_label (o ∷ os) = cond (eqb o.target 0) (first_label os) o.target
 
 -- the leaf has one label at most, and the set of it alone is one of the sets
-pub record IsAloneIn (sets : List (List ℕ)) (outs : List Out) : Type 0 where
+pub record IsSingleIn (sets : List (List ℕ)) (outs : List Out) : Type 0 where
   pub one : (o p : Out) → Contains outs o → Contains outs p → 0 < o.target → 0 < p.target → o.target ≡ p.target
   pub there : (o : Out) → Contains outs o → 0 < o.target → holds sets (o.target ∷ []) ≡ true
 
 -- those are the steps among the outs, whatever sets come later
 pub record AreSteps (sets : List (List ℕ)) (outs r : List Out) : Type 0 where
-  pub steps : (later : List (List ℕ)) → SetsGrow sets later → r ≡ alone_to later outs
-  pub alone : IsAloneIn sets outs
+  pub steps : (later : List (List ℕ)) → SetsGrow sets later → r ≡ single_to later outs
+  pub single : IsSingleIn sets outs
 
 -- the diagram is a leaf, and those are its steps, which can be made a leaf
 pub record AreLeafSteps (st : Held) (d : ℕ) (sets : List (List ℕ)) (r : List Out) : Type 0 where
@@ -40,18 +40,18 @@ pub record AreLeafSteps (st : Held) (d : ℕ) (sets : List (List ℕ)) (r : List
 
 -- each leaf of d has one label at most, and r has the steps of d, whatever sets come later; it tests no field before those
 -- that d tests
-pub record IsAlone (old : Held) (d : ℕ) (new : Held) (sets : List (List ℕ)) (r : ℕ) : Type 0 where
-  pub leaves : (later : List (List ℕ)) → SetsGrow sets later → HasLeaves new r (λ pk. alone_to later (look old d pk))
-  pub alone : (pk : List ℕ) → IsAloneIn sets (look old d pk)
+pub record IsSingle (old : Held) (d : ℕ) (new : Held) (sets : List (List ℕ)) (r : ℕ) : Type 0 where
+  pub leaves : (later : List (List ℕ)) → SetsGrow sets later → HasLeaves new r (λ pk. single_to later (look old d pk))
+  pub single : (pk : List ℕ) → IsSingleIn sets (look old d pk)
   pub later : top old d ≤ top new r
 
 -- the same of the parts by the field f
-pub record AreAloneBy (old : Held) (f d : ℕ) (new : Held) (sets : List (List ℕ)) (ps : List (ℕ × ℕ)) : Type 0 where
+pub record AreSingleBy (old : Held) (f d : ℕ) (new : Held) (sets : List (List ℕ)) (ps : List (ℕ × ℕ)) : Type 0 where
   pub parts : AreParts new f ps
   pub leaves : (later : List (List ℕ)) → SetsGrow sets later → (v : ℕ) (pk : List ℕ) → IsWhole pk →
-      look new (child_at 0 ps v) pk ≡ alone_to later (look old (sub old f v d) pk)
-  pub alone : (pk : List ℕ) → IsAloneIn sets (look old d pk)
+      look new (child_at 0 ps v) pk ≡ single_to later (look old (sub old f v d) pk)
+  pub single : (pk : List ℕ) → IsSingleIn sets (look old d pk)
 
 -- each entry leads from a diagram to its steps
-abbrev pub AreAlone : Held → List (List ℕ) → List (ℕ × ℕ) → Type 0
-AreAlone st sets entries = (d r : ℕ) → lookup (eqb d) entries ≡ Some r → IsId st d × IsAlone st d st sets r
+abbrev pub AreSingle : Held → List (List ℕ) → List (ℕ × ℕ) → Type 0
+AreSingle st sets entries = (d r : ℕ) → lookup (eqb d) entries ≡ Some r → IsId st d × IsSingle st d st sets r
