@@ -1,6 +1,5 @@
 -- Named policies of a program: what holds of them, and that they fit a store over the program's fields.
-use Rattle.std.proofs.Common.{◌≡◌, ℕ, ◌+◌, ◌<◌, ◌≤◌, Some, Ok, Err, List, ap, sym, subst, ◌∙◌, arith}
-use Rattle.std.specs.Prelude.{Result, IsErrAnd}
+use Rattle.std.proofs.Common.{◌≡◌, ℕ, ◌+◌, ◌<◌, ◌≤◌, Some, List, ap, sym, subst, ◌∙◌, arith}
 use Rattle.nk_field.specs.Packet.{FieldTable}
 use Rattle.nk_policy.specs.Policy.{Policy, marked_from, dups_of}
 use Rattle.nk_policy.specs.Ranges.{IsInRange, IsOverFields}
@@ -59,11 +58,6 @@ are_written program left right p q r n ok on_left on_right same is =
       left_over = k.over;
       right_over = over_behind program.fields p r q n k l is;
     }
-
--- what holds of an error holds of a result that passes it on
-pub passed_on : {X E : Type 0} (r : Result X E) (e : E) (Q : Result X E → Type 0) → IsErrAnd r (λ x. x ≡ e) → Q (Err e) → Q r
-passed_on (Ok x) e Q h q = absurd h
-passed_on (Err d) e Q h q = subst (λ k. Q (Err k)) (sym h) q
 
 -- a policy of the fields fits a store over them
 pub fits_store : (fields : FieldTable) (st : Held) → IsOver fields st → (p : Policy) → NegatesPredicates p → IsInRange p fields → IsFit st.maxes p

@@ -1,4 +1,4 @@
-//! What is found of a certificate of two named policies.
+//! Two named policies written out together, and what is found of a certificate of both.
 ghost use Rattle.std.specs.Prelude.{◌≡◌, ◌+◌, ◌<◌, ◌^◌, IfOk, MatchOption};
 ghost use Rattle.nk_policy.specs.Policy.{marked_from, dups_of};
 ghost use Rattle.nk_policy.specs.Tree.{tree_of};
