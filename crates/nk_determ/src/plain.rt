@@ -12,8 +12,8 @@ use std::alloc::AllocError;
 use std::collections::HashSet;
 
 /// Whether each leaf of a diagram is plain, so that what packets are sent to can be told by the acts alone: the outs that
-/// are no finals (target 0) have one label, or their acts assign the same fields. Each node is visited once. The only error
-/// is that memory ran out.
+/// are no finals (target 0) have one label, or their acts assign the same fields. A node with parts or with two outs and
+/// more is visited once. The only error is that memory ran out.
 pub(crate) fn is_plain(st: &Store, d: Id) -> Result<bool, AllocError>
     requires { IsId st.now d }
     ensures { IfOk result (λ b. b ≡ true → (pk : Items ℕ) → IsPlain (look st.now d pk)) }

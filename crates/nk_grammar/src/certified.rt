@@ -172,8 +172,8 @@ impl SoundReader {
         }
     }
 
-    /// Reads one more token inside a policy before the certificate or a row's policy, and says whether it was taken; else that policy
-    /// doesn't go on with it, or none is being read, and nothing changed. What is taken completes nothing. An error is as `take` says.
+    /// Reads one more token inside a policy before the certificate or a row's policy, and says whether it was taken; else nothing
+    /// changed, and a row's policy that is being read doesn't go on with it. What is taken completes nothing. An error is as `take` says.
     pub fn take_inside(&mut self, alloc: Global, token: &Token) -> Result<bool, GrammarError>
         ensures { CertifiedTakesInside (certified_phase_in self.old) (certified_phase_in self.new) token.now.line
             (terminal_of token.now) result }

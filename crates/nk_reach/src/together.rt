@@ -11,9 +11,9 @@ use nk_determ::{Sets, steps_of};
 use nk_store::{Id, Store};
 use std::alloc::AllocError;
 
-/// The steps of these diagrams together: for each packet that some diagram records next one out with target 1 + the number
-/// of the set of all labels with which some diagram records it. Sets that aren't there yet are put in. The only error is that
-/// memory ran out.
+/// The steps of these diagrams together: for each packet that some diagram records next an out with target 1 + the number
+/// of the set of all labels with which some diagram records it. Nothing is said of finals. Sets that aren't there yet are put
+/// in. The only error is that memory ran out.
 pub(crate) fn steps_together(
     st: &mut Store,
     ss: &mut Sets,
