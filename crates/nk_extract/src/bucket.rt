@@ -1,5 +1,6 @@
 //! The bucket of an out: where it sends a copy, and what it assigns.
-ghost use Rattle.std.specs.Prelude.{◌≡◌, IfOk};
+ghost use Rattle.std.specs.Prelude.{◌≡◌, ◌==◌, length, IfOk};
+ghost use Rattle.nk_field.specs.Act.{left_without};
 ghost use Rattle.nk_extract.specs.Ways.{exit_of, bucket_for, bucket_list};
 
 use nk_field::{Act, Fid, List};
@@ -23,13 +24,26 @@ pub(crate) fn buckets(alloc: Global, tag: Fid, outs: &[Out]) -> Result<List<Buck
 fn bucket(alloc: Global, tag: Fid, out: &Out) -> Result<Bucket, AllocError>
     ensures { IfOk result (λ b. b ≡ bucket_for tag out.now) }
 {
-    let kept = out.act.without(alloc, Fid::PORT)?;
+    let exit = exit(out.act.as_slice());
     let last = Act::one(alloc, tag, out.target)?;
+    if sets_port_alone(out.act.as_slice()) {
+        return Ok(Bucket { sets: last, exit });
+    }
+    let kept = out.act.without(alloc, Fid::PORT)?;
     let sets = kept.then(&last)?;
-    Ok(Bucket {
-        sets,
-        exit: exit(out.act.as_slice()),
-    })
+    Ok(Bucket { sets, exit })
+}
+
+/// Whether the assignments set no field but the port.
+fn sets_port_alone(sets: &[(Fid, u64)]) -> bool
+    ensures { result ≡ (length (left_without 1 sets.now) == 0) }
+{
+    for (f, _) in sets {
+        if f.place() != 1 {
+            return false;
+        }
+    }
+    true
 }
 
 /// The port that the assignments set, or back. Ports are at most 65,535.

@@ -89,10 +89,20 @@ fn tagged(
 {
     let k = place(tag.0, matches);
     let mut all = Vec::with_capacity(alloc, matches.len().saturating_add(1))?;
-    all.extend_from_slice(&matches[..k])?;
+    push_all(&mut all, &matches[..k])?;
     all.push(tag)?;
-    all.extend_from_slice(&matches[k..])?;
+    push_all(&mut all, &matches[k..])?;
     Ok(List::from_vec(all))
+}
+
+/// Puts matches at the end, one by one, as they are few.
+fn push_all(all: &mut Vec<(Fid, u64, u8)>, matches: &[(Fid, u64, u8)]) -> Result<(), AllocError>
+    ensures { OnOk result (all.new.items ≡ all.old.items ++ matches.now) }
+{
+    for m in matches {
+        all.push(*m)?;
+    }
+    Ok(())
 }
 
 /// Where a field's match stands among the matches.
