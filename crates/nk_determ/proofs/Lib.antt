@@ -13,6 +13,7 @@ pub mod Finals
 pub mod InPlace
 pub mod Followed
 pub mod PlainSteps
+pub mod ByActs
 pub mod Below
 pub mod Withouts
 pub mod Collected

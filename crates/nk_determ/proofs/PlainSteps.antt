@@ -25,7 +25,7 @@ behind [] = []
 behind (x ∷ xs) = xs
 
 -- two acts that assign the same fields and make one packet are one
-same_act : (maxes pk : List ℕ) (low : ℕ) (g h : List (ℕ × ℕ)) → IsWhole pk → IsActFrom maxes low g →
+pub same_act : (maxes pk : List ℕ) (low : ℕ) (g h : List (ℕ × ℕ)) → IsWhole pk → IsActFrom maxes low g →
     IsActFrom maxes low h → fields_in g ≡ fields_in h → applied g pk ≡ applied h pk → g ≡ h
 same_act maxes pk low [] [] w a b f e = refl
 same_act maxes pk low [] (t ∷ ts) w a b f e = let l : length (fields_in []) ≡ length (fields_in (t ∷ ts)) = ap (λ (k : List ℕ). length k) f in absurd (omega (arith, l))

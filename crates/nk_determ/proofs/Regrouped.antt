@@ -40,13 +40,13 @@ has_either (x ∷ xs) ys o (inl e) = inl (inl e)
 has_either (x ∷ xs) ys o (inr h) = elim (has_either xs ys o h) [ inl k ↦ inl (inr k) | inr k ↦ inr k ]
 
 -- what F makes of a member is there
-flat_has : {X Y : Type 0} (F : X → List Y) (xs : List X) (x : X) (y : Y) → Has xs x → Has (F x) y → Has (flat_map F xs) y
+pub flat_has : {X Y : Type 0} (F : X → List Y) (xs : List X) (x : X) (y : Y) → Has xs x → Has (F x) y → Has (flat_map F xs) y
 flat_has F [] x y h k = absurd h
 flat_has F (z ∷ zs) x y (inl e) k = has_front (F z) (flat_map F zs) y (subst (λ w. Has (F w) y) (sym e) k)
 flat_has F (z ∷ zs) x y (inr h) k = has_back (F z) (flat_map F zs) y (flat_has F zs x y h k)
 
 -- and all that is there is made of a member
-has_flat : {X Y : Type 0} (F : X → List Y) (xs : List X) (y : Y) → Has (flat_map F xs) y → (x : X) × Has xs x × Has (F x) y
+pub has_flat : {X Y : Type 0} (F : X → List Y) (xs : List X) (y : Y) → Has (flat_map F xs) y → (x : X) × Has xs x × Has (F x) y
 has_flat F [] y h = absurd h
 has_flat F (z ∷ zs) y h = elim (has_either (F z) (flat_map F zs) y h) [
   | inl k ↦ (z, inl refl, k)

@@ -5,6 +5,7 @@ pub mod Branches
 pub mod Plain
 pub mod AllPlain
 pub mod States
+pub mod ByAct
 pub mod Unchanged
 pub mod Reach
 pub mod Pairs

@@ -4,6 +4,7 @@
 
 mod assigned;
 mod branches;
+mod by_act;
 mod changing;
 mod levels;
 mod plain;

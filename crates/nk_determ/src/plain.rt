@@ -114,7 +114,7 @@ fn assign_all(outs: &[Out], act: &[(Fid, u64)]) -> bool
 }
 
 /// Whether two acts assign the same fields.
-fn assigns_same(a: &[(Fid, u64)], b: &[(Fid, u64)]) -> bool
+pub(crate) fn assigns_same(a: &[(Fid, u64)], b: &[(Fid, u64)]) -> bool
     ensures { result ≡ true → fields_in a.now ≡ fields_in b.now }
 {
     if a.len() != b.len() {

@@ -12,7 +12,7 @@ ghost use Rattle.nk_determ.specs.Sets.{SetsGrow};
 ghost use Rattle.nk_determ.specs.Branches.{branches, branch_of, first_act, labels, targets_in};
 ghost use Rattle.nk_determ.specs.States.{SomeSends, SomeLeads, IsRegrouped, AreRegrouped, AreFollowed, AreLedTo, StateSends, StateLeads, IsLedByAct, IsLedTo, HaveEach, IsTogether, IsStateOf, IsThere, HasAll, HasSets, final_of, out_to_set, branch_outs, regrouped};
 
-use crate::branches::{are_final, is_ended, labels_in, run_length};
+use crate::branches::{are_final, is_ended, labels_in, made_count, run_length};
 use crate::sets::{SetId, Sets};
 use crate::splits::split;
 use nk_algebra::{known, part_near, tested, union_all};
@@ -273,7 +273,7 @@ fn outs_to_sets(alloc: Global, sets: &mut Sets, outs: &[Out]) -> Result<List<Out
         r ≡ flat_map (branch_outs later) (branches outs.now)) }
     ensures held { OnOk result (HasAll sets.new outs.now) }
 {
-    let mut all = List::with_capacity(alloc, outs.len())?;
+    let mut all = List::with_capacity(alloc, made_count(outs))?;
     let mut rest = outs;
     while !rest.is_empty() {
         let (run, behind) = rest.split_at(run_length(rest));

@@ -1,4 +1,5 @@
-//! The steps of diagrams together, split field by field only where their leaves need it.
+//! The steps of diagrams together: act by act where all are leaves with few acts that assign the same fields, else of their
+//! union, split field by field only where its leaves need it.
 ghost use Rattle.std.specs.Prelude.{ℕ, ◌+◌, ◌<◌, List as Items, IfOk};
 ghost use Rattle.nk_store.specs.Held.{IsId, IsPacket, Grows};
 ghost use Rattle.nk_algebra.specs.Unions.{AreIds};
@@ -6,6 +7,7 @@ ghost use Rattle.nk_determ.specs.Exact.{Sends};
 ghost use Rattle.nk_determ.specs.Sets.{SetsGrow};
 ghost use Rattle.nk_determ.specs.States.{SomeLeads, AreLedTo};
 
+use crate::by_act::{acts_of, steps_by_act};
 use crate::plain::is_plain;
 use crate::sets::Sets;
 use crate::states::{regroup, state_of};
@@ -26,6 +28,9 @@ pub fn steps_of(st: &mut Store, ss: &mut Sets, diagrams: &[Id]) -> Result<Id, Al
     ensures led { IfOk result (λ r. (pk y : Items ℕ) (l : ℕ) → IsPacket st.old pk → 0 < l →
         SomeLeads st.old diagrams.now pk y l → (i : ℕ) × Sends st.new r pk y (i + 1)) }
 {
+    if let Some(acts) = acts_of(st, diagrams)? {
+        return steps_by_act(st, ss, diagrams, acts);
+    }
     let d = union_all(st, diagrams)?;
     st.laws();
     if is_plain(st, d)? {
