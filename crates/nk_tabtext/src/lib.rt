@@ -19,6 +19,7 @@ mod laws;
 mod partial;
 mod reading;
 mod rules;
+mod short;
 mod tables;
 mod values;
 mod writer;
@@ -86,6 +87,5 @@ fn long_number(out: &mut Vec<u8>, n: u64) -> Result<(), AllocError>
         return Ok(());
     }
     let mut buffer = Buffer::new();
-    out.extend_from_slice(buffer.format(n).as_bytes())?;
-    Ok(())
+    short::piece(out, buffer.format(n).as_bytes())
 }

@@ -6,7 +6,7 @@ ghost use Rattle.nk_tabtext.specs.Text as text;
 ghost use Rattle.nk_tabtext.specs.Text.{is_tag, length_text, match_text, set_text, where_same, matches_text, sets_text, exit_text, bucket_text, target_text, row_text, group_text, rules_text, section_text, version_of, AreTablesFrom};
 ghost use Rattle.nk_tabtext.specs.Written.{own_rules_text, own_section_text, switch_line_text};
 
-use crate::number;
+use crate::{number, short};
 use nk_field::{Fid, Fields};
 use nk_table::{Bucket, Exit, Group, Row, Table, Tables, Target, digits_at, rows_at};
 use std::alloc::AllocError;
@@ -122,7 +122,7 @@ fn one_match(out: &mut Vec<u8>, fs: &Fields, m: &(Fid, u64, u8)) -> Result<(), A
     ensures { OnOk result (out.new.items ≡ out.old.items ++ match_text fs.now m.now) }
 {
     let (f, value, _) = *m;
-    out.extend_from_slice(fs.name(f).as_bytes())?;
+    short::piece(out, fs.name(f).as_bytes())?;
     out.push(b'=')?;
     number(out, value)?;
     length(out, fs, m)?;
@@ -134,8 +134,9 @@ fn one_match(out: &mut Vec<u8>, fs: &Fields, m: &(Fid, u64, u8)) -> Result<(), A
 fn one_set(out: &mut Vec<u8>, fs: &Fields, f: Fid, n: u64) -> Result<(), AllocError>
     ensures { OnOk result (out.new.items ≡ out.old.items ++ set_text fs.now (f, n)) }
 {
-    out.extend_from_slice(fs.name(f).as_bytes())?;
-    out.extend_from_slice(b":=")?;
+    short::piece(out, fs.name(f).as_bytes())?;
+    out.push(b':')?;
+    out.push(b'=')?;
     number(out, n)?;
     out.push(b' ')?;
     Ok(())
@@ -216,7 +217,7 @@ fn exit(out: &mut Vec<u8>, e: &Exit) -> Result<(), AllocError>
             Ok(())
         }
         Exit::Port(n) => {
-            out.extend_from_slice(b"out ")?;
+            short::out_word(out)?;
             number(out, *n as u64)
         }
     }
@@ -243,12 +244,12 @@ fn target(out: &mut Vec<u8>, fs: &Fields, t: &Target) -> Result<(), AllocError>
 fn row(out: &mut Vec<u8>, fs: &Fields, r: &Row) -> Result<(), AllocError>
     ensures { OnOk result (out.new.items ≡ out.old.items ++ row_text fs.now r.now) }
 {
-    out.extend_from_slice(b"row ")?;
+    short::row_word(out)?;
     number(out, r.priority as u64)?;
-    out.extend_from_slice(b" : ")?;
+    short::colon(out)?;
     some_matches(out, fs, r.matches.as_slice(), true)?;
     some_matches(out, fs, r.matches.as_slice(), false)?;
-    out.extend_from_slice(b"-> ")?;
+    short::arrow(out)?;
     target(out, fs, &r.target)?;
     out.push(b'\n')?;
     Ok(())
