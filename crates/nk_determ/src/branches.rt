@@ -53,14 +53,3 @@ pub(crate) fn labels_in(alloc: Global, outs: &[Out]) -> Result<List<u64>, AllocE
 fn label_count(outs: &[Out]) -> usize {
     outs.iter().filter(|o| o.target != 0).count()
 }
-
-/// How many outs are made of a leaf's branches: of each act one for its finals and one for its labels, which stand behind them.
-pub(crate) fn made_count(outs: &[Out]) -> usize {
-    let mut count = 0usize;
-    for i in 0..outs.len() {
-        if i == 0 || outs[i - 1].target == 0 || outs[i - 1].act != outs[i].act {
-            count = count.saturating_add(1);
-        }
-    }
-    count
-}

@@ -17,6 +17,6 @@ mod targets;
 pub use levels::Levels;
 pub use sets::{SetId, Sets};
 pub use splits::{mean_same, split};
-pub use states::{state, state_of};
+pub use states::{state, state_of, states_at};
 pub use steps::steps_of;
 pub use targets::retarget;

@@ -12,7 +12,7 @@ ghost use Rattle.nk_determ.specs.Sets.{SetsGrow};
 ghost use Rattle.nk_determ.specs.Branches.{branches, branch_of, first_act, labels, targets_in};
 ghost use Rattle.nk_determ.specs.States.{SomeSends, SomeLeads, IsRegrouped, AreRegrouped, AreFollowed, AreLedTo, StateSends, StateLeads, IsLedByAct, IsLedTo, HaveEach, IsTogether, IsStateOf, IsThere, HasAll, HasSets, final_of, out_to_set, branch_outs, regrouped};
 
-use crate::branches::{are_final, is_ended, labels_in, made_count, run_length};
+use crate::branches::{are_final, is_ended, labels_in, run_length};
 use crate::sets::{SetId, Sets};
 use crate::splits::split;
 use nk_algebra::{known, part_near, tested, union_all};
@@ -20,6 +20,9 @@ use nk_field::{Fid, List};
 use nk_store::{Id, Node, Out, Store};
 use std::alloc::{AllocError, Global};
 use std::collections::HashMap;
+
+/// For how many outs of a regrouped leaf there is room at first: mostly many outs go together.
+const FIRST_ROOM: usize = 4;
 
 /// The diagram of a set of labels, each of which is a place among the states: a final act with target 0 for each packet that
 /// some member ends at, and for each packet that some member records next one act with target 1 + the number of the set of
@@ -56,8 +59,8 @@ pub fn state(st: &mut Store, ss: &mut Sets, states: &[Id], s: SetId) -> Result<I
     Ok(r)
 }
 
-/// The states at these labels.
-fn states_at(alloc: Global, states: &[Id], labels: &[u64]) -> Result<List<Id>, AllocError>
+/// The states at these labels, in their order. The only error is that memory ran out.
+pub fn states_at(alloc: Global, states: &[Id], labels: &[u64]) -> Result<List<Id>, AllocError>
     requires { All (λ l. l < length states.now) labels.now }
     ensures { IfOk result (λ ds. ds ≡ map (λ l. slice_index states.now l) labels.now) }
 {
@@ -273,7 +276,7 @@ fn outs_to_sets(alloc: Global, sets: &mut Sets, outs: &[Out]) -> Result<List<Out
         r ≡ flat_map (branch_outs later) (branches outs.now)) }
     ensures held { OnOk result (HasAll sets.new outs.now) }
 {
-    let mut all = List::with_capacity(alloc, made_count(outs))?;
+    let mut all = List::with_capacity(alloc, outs.len().min(FIRST_ROOM))?;
     let mut rest = outs;
     while !rest.is_empty() {
         let (run, behind) = rest.split_at(run_length(rest));
