@@ -27,12 +27,12 @@ cut_before old st new states labels k state x d g id ix is one = record {
 }
 
 -- a guard that has an out leaves what it guards
-guard_in : (xs ys : List Out) (o : Out) → has_out xs ≡ true → Contains ys o → Contains (guarded xs ys) o
+pub guard_in : (xs ys : List Out) (o : Out) → has_out xs ≡ true → Contains ys o → Contains (guarded xs ys) o
 guard_in [] ys o h c = absurd cc
 guard_in (x ∷ xs) ys o h c = c
 
 -- what a guard leaves it guards, and it has an out
-guard_out : (xs ys : List Out) (o : Out) → Contains (guarded xs ys) o → (has_out xs ≡ true) × Contains ys o
+pub guard_out : (xs ys : List Out) (o : Out) → Contains (guarded xs ys) o → (has_out xs ≡ true) × Contains ys o
 guard_out [] ys o c = absurd (omega (arith, c.1))
 guard_out (x ∷ xs) ys o c = (refl, c)
 
