@@ -218,7 +218,7 @@ fn ends_at(alloc: Global, ends: &[Id], labels: &[u64]) -> Result<List<Id>, Alloc
 }
 
 /// The diagrams in order, each once.
-fn each_once(ds: List<Id>) -> List<Id>
+pub(crate) fn each_once(ds: List<Id>) -> List<Id>
     ensures members { (d : ℕ) → Contains result d ↔ Contains ds d }
     ensures once { IsStrictlyIncreasing result }
 {
