@@ -66,7 +66,7 @@ fn declarations(program: Program) -> (Fields, Topo)
     ensures fields { result.0 ≡ program.fields }
     ensures topo { result.1 ≡ program.topo }
 {
-    (program.fields, program.topo)
+    program.into_declarations()
 }
 
 /// The text of the printed tables of a named policy. Each table is written as soon as it is made, and none is kept.

@@ -56,7 +56,7 @@ fn read_tokens(alloc: Global, tokens: ProgramTokens) -> Result<ReadText, AllocEr
     requires small { (ts : List Token) × AreTaken ts tokens × All (λ t. t.value ≤ largest) ts }
     ensures { (ts : List Token) → AreTaken ts tokens → TokensSayDeclared ts → IfOk result (λ r. IsReadOfTokens ts r) }
 {
-    let ProgramTokens { grammar, program } = tokens;
+    let (grammar, program) = tokens.into_readers();
     match grammar.end(alloc) {
         Ok(last) => read_last(alloc, program, last),
         Err(error) => grammar_fault(alloc, error),

@@ -1,5 +1,5 @@
 //! The program of a text whose tokens are taken one by one.
-ghost use Rattle.std.specs.Prelude.{◌++◌, ◌∷◌, [], List, IfOk, OnOk};
+ghost use Rattle.std.specs.Prelude.{◌≡◌, ◌++◌, ◌∷◌, [], List, IfOk, OnOk};
 ghost use Rattle.nk_lex.specs.declared.token.Token.{Token};
 ghost use Rattle.nk_grammar.specs.File.{Declaration};
 ghost use Rattle.nk_grammar.specs.FileReader.{declaration_done};
@@ -13,10 +13,28 @@ use std::alloc::{AllocError, Global};
 
 /// What the tokens of a program's text say so far. Each declaration goes to the program with the token that completes it, and neither
 /// tokens nor declarations are kept.
-#[derive(Drop)]
 pub struct ProgramTokens {
     pub(crate) grammar: TextReader,
     pub(crate) program: ProgramReader,
+}
+
+impl ProgramTokens {
+    /// The two readers.
+    pub(crate) fn into_readers(self) -> (TextReader, ProgramReader)
+        ensures { result ≡ (self.grammar, self.program) }
+    {
+        let Self { grammar, program } = self;
+        (grammar, program)
+    }
+}
+
+impl Drop for ProgramTokens {
+    fn drop(self) {
+        let Self {
+            grammar: _,
+            program: _,
+        } = self;
+    }
 }
 
 /// Declares what a token, or the end of the text, completes, if it does.

@@ -26,11 +26,20 @@ use std::alloc::{AllocError, Global};
 
 /// The plan of an update, and so many turns of it that are drawn from a seed: in each the packet comes in, a copy is handled,
 /// or a switch does its next plan step.
-#[derive(Drop)]
 struct Turns {
     plan: Plan,
     seed: u64,
     steps: u64,
+}
+
+impl Drop for Turns {
+    fn drop(self) {
+        let Self {
+            plan: _,
+            seed: _,
+            steps: _,
+        } = self;
+    }
 }
 
 impl Follow for Turns {

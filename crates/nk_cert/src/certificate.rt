@@ -4,7 +4,6 @@ use nk_policy::Pol;
 
 /// A certificate that two policies do the same: rows of packets at which both can be at their starts, or behind the
 /// same dups. Where each row meets its four parts, the policies give the same histories on every packet.
-#[derive(Drop)]
 pub struct Certificate {
     /// The predicate of the start row: at these packets both policies stand at their starts.
     pub start: Pol,
@@ -12,6 +11,12 @@ pub struct Certificate {
     /// of the packets at which runs of both can be behind these dups. A row may have no number, and several rows may have
     /// the same numbers.
     pub rows: List<(List<u64>, Pol)>,
+}
+
+impl Drop for Certificate {
+    fn drop(self) {
+        let Self { start: _, rows: _ } = self;
+    }
 }
 
 /// A part of a row, in the order in which parts are looked at.

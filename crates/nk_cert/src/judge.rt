@@ -19,7 +19,6 @@ use nk_store::{Id, Store};
 use std::alloc::{AllocError, Global};
 
 /// What rows are judged by: the automaton of both policies, and the certificate's rows as sets of labels and packets.
-#[derive(Drop)]
 pub(crate) struct Judge {
     /// The automaton of both policies, of which the first state is that of both starts.
     pub(crate) states: List<Id>,
@@ -29,6 +28,17 @@ pub(crate) struct Judge {
     pub(crate) entries: List<(SetId, Id)>,
     /// The packets of all later rows, by their sets.
     pub(crate) told: IndexMap<SetId, Id>,
+}
+
+impl Drop for Judge {
+    fn drop(self) {
+        let Self {
+            states: _,
+            start: _,
+            entries: _,
+            told: _,
+        } = self;
+    }
 }
 
 /// What is found of all rows, the start row first.

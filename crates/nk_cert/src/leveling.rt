@@ -15,12 +15,17 @@ use nk_store::{Id, Store};
 use std::alloc::{AllocError, Global};
 
 /// The levels of two policies together, and the goal that they go up to.
-#[derive(Drop)]
 pub struct LevelsOfBoth {
     /// The levels; they are broken where they end with a level at which one policy alone ends.
     pub levels: Levels,
     /// The goal: ends of one policy alone.
     pub goal: OneSide,
+}
+
+impl Drop for LevelsOfBoth {
+    fn drop(self) {
+        let Self { levels: _, goal: _ } = self;
+    }
 }
 
 /// The levels of an automaton of two policies from all packets, up to an end of one of them alone. Labels below `bound` are

@@ -26,10 +26,18 @@ use std::alloc::{AllocError, Global};
 use std::marker::Model;
 
 /// What is known of the declarations and rows that are complete.
-#[derive(Drop)]
 struct Parts {
     program: ProgramReader,
     rows: RowsRead,
+}
+
+impl Drop for Parts {
+    fn drop(self) {
+        let Self {
+            program: _,
+            rows: _,
+        } = self;
+    }
 }
 
 impl Parts {
@@ -129,12 +137,21 @@ fn keep_part(pending: &mut Option<Completed>, part: Option<Completed>)
 /// A text with a certificate read token by token. Its declarations become a program and its rows predicates as they come: neither
 /// the tokens nor the declarations and rows are kept, but for the last one that is complete. After a fault of the grammar nothing
 /// more is taken in. A fault of the declarations stands in place of the program, and one of the rows in place of the certificate.
-#[derive(Drop)]
 pub struct CertReader {
     grammar: CertifiedReader,
     parts: Parts,
     /// What the last token completed. It counts as put in.
     pending: Option<Completed>,
+}
+
+impl Drop for CertReader {
+    fn drop(self) {
+        let Self {
+            grammar: _,
+            parts: _,
+            pending: _,
+        } = self;
+    }
 }
 
 impl Model for CertReader {

@@ -18,7 +18,6 @@ use nk_topo::Topo;
 use std::alloc::Global;
 
 /// The printed tables of an old and a new policy: the new one's tags are numbered behind the old one's.
-#[derive(Drop)]
 pub struct TablePair {
     /// The tables of the old policy.
     pub old: Tables,
@@ -26,6 +25,16 @@ pub struct TablePair {
     pub new: Tables,
     /// How many tag sets the old policy has: its tags are 1 to this, the new one's greater.
     pub old_tags: u64,
+}
+
+impl Drop for TablePair {
+    fn drop(self) {
+        let Self {
+            old: _,
+            new: _,
+            old_tags: _,
+        } = self;
+    }
 }
 
 /// The printed tables of two named policies for an update from the first to the second: each carries its policy, and the tags

@@ -15,7 +15,6 @@ use std::alloc::{AllocError, Global};
 use std::collections::HashMap;
 
 /// For each state of an automaton the ends that it must not have: those at packets of a set.
-#[derive(Drop)]
 pub struct WrongEnds {
     /// The states.
     pub states: List<Id>,
@@ -23,6 +22,16 @@ pub struct WrongEnds {
     pub set: Id,
     /// The diagrams of those ends, at the places of their states.
     pub ends: List<Id>,
+}
+
+impl Drop for WrongEnds {
+    fn drop(self) {
+        let Self {
+            states: _,
+            set: _,
+            ends: _,
+        } = self;
+    }
 }
 
 impl Goal for WrongEnds {

@@ -7,12 +7,20 @@ use nk_store::Id;
 
 /// A walk of an automaton, level by level: the level at place k has each set state with the packets that are
 /// first met under it after k records.
-#[derive(Drop)]
 pub struct Levels {
     /// The levels, that of the start first. Each is a list of a set's number and its packets, each set once.
     pub levels: List<List<(SetId, Id)>>,
     /// Whether they ended at a level with a bad final.
     broken: bool,
+}
+
+impl Drop for Levels {
+    fn drop(self) {
+        let Self {
+            levels: _,
+            broken: _,
+        } = self;
+    }
 }
 
 impl Levels {

@@ -57,9 +57,14 @@ impl SetId {
 }
 
 /// Sets of labels, as ascending lists, each once, numbered in the order in which they came.
-#[derive(Drop)]
 pub struct Sets {
     sets: IndexSet<List<u64>>,
+}
+
+impl Drop for Sets {
+    fn drop(self) {
+        let Self { sets: _ } = self;
+    }
 }
 
 impl Model for Sets {

@@ -6,12 +6,20 @@ use nk_policy::{Pol, dups};
 use std::alloc::{AllocError, Global};
 
 /// A row of a certificate.
-#[derive(Drop)]
 pub struct Row {
     /// The numbers of the dups behind which the policies stand; nothing where they stand at their starts.
     pub positions: Option<Vec<u64>>,
     /// The packets that its predicate keeps.
     pub packets: Vec<Packet>,
+}
+
+impl Drop for Row {
+    fn drop(self) {
+        let Self {
+            positions: _,
+            packets: _,
+        } = self;
+    }
 }
 
 /// Two policies, each with its dups numbered from 1 on; the second one's numbers go on from those of the first.
@@ -24,12 +32,20 @@ pub struct Sides<'a> {
 }
 
 /// What a policy does from a packet before it records anything more.
-#[derive(Drop)]
 struct Steps {
     /// Where it ends.
     ends: Vec<Packet>,
     /// What it records next, with the number of the dup.
     records: Vec<(Packet, u64)>,
+}
+
+impl Drop for Steps {
+    fn drop(self) {
+        let Self {
+            ends: _,
+            records: _,
+        } = self;
+    }
 }
 
 /// Puts what these runs of at most one record do; so many numbers come before those of the policy's dups.

@@ -173,12 +173,22 @@ fn agrees(alloc: Global, program: &Program, query: &Query, asked: Asked) -> Resu
 }
 
 /// The policy and the predicates of a network, written out.
-#[derive(Drop)]
 struct Written {
     policy: Pol,
     from: Pol,
     middle: Pol,
     target: Pol,
+}
+
+impl Drop for Written {
+    fn drop(self) {
+        let Self {
+            policy: _,
+            from: _,
+            middle: _,
+            target: _,
+        } = self;
+    }
 }
 
 /// Those of a program, and nothing where one is missing.

@@ -9,9 +9,15 @@ use std::marker::Model;
 
 /// What is assigned to a packet's fields: pairs of a field and a value, ascending by field, each field once. A contract
 /// sees it as the list of its pairs.
-#[derive(PartialEq, Eq, PartialOrd, Ord, Hash, Debug, Drop)]
+#[derive(PartialEq, Eq, PartialOrd, Ord, Hash, Debug)]
 pub struct Act {
     sets: Short<(Fid, u64)>,
+}
+
+impl Drop for Act {
+    fn drop(self) {
+        let Self { sets: _ } = self;
+    }
 }
 
 impl Model for Act {

@@ -30,11 +30,21 @@ pub enum FieldsError {
 
 /// The fields, by place: the switch, the port, then the declared ones. Each has a name of its own and a largest
 /// value, and one of the declared ones may be the tag.
-#[derive(Debug, Drop)]
+#[derive(Debug)]
 pub struct Fields {
     names: Vec<String>,
     maxima: Vec<u64>,
     tag: Option<Fid>,
+}
+
+impl Drop for Fields {
+    fn drop(self) {
+        let Self {
+            names: _,
+            maxima: _,
+            tag: _,
+        } = self;
+    }
 }
 
 impl Model for Fields {

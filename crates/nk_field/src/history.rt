@@ -7,12 +7,21 @@ use std::alloc::AllocError;
 
 /// A history: the recorded packets, oldest first, and the last packet. Histories are ordered by their records in turn,
 /// then by the last packet.
-#[derive(PartialEq, Eq, PartialOrd, Ord, Debug, Drop)]
+#[derive(PartialEq, Eq, PartialOrd, Ord, Debug)]
 pub struct History {
     /// The recorded packets, oldest first.
     pub records: List<Packet>,
     /// The packet at the end.
     pub last: Packet,
+}
+
+impl Drop for History {
+    fn drop(self) {
+        let Self {
+            records: _,
+            last: _,
+        } = self;
+    }
 }
 
 impl History {

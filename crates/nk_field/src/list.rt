@@ -10,9 +10,15 @@ use std::hash::{Hash, Hasher};
 use std::marker::Model;
 
 /// A growing list of values. A contract sees it as the list of its items.
-#[derive(Debug, Drop)]
+#[derive(Debug)]
 pub struct List<T> {
     vec: Vec<T>,
+}
+
+impl<T: Drop> Drop for List<T> {
+    fn drop(self) {
+        let Self { vec: _ } = self;
+    }
 }
 
 impl<T> Model for List<T> {
@@ -74,7 +80,8 @@ impl<T> List<T> {
     pub fn into_vec(self) -> Vec<T>
         ensures { result.items ≡ self }
     {
-        self.vec
+        let Self { vec } = self;
+        vec
     }
 
     /// The allocator that the list grows with.

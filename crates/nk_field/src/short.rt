@@ -13,9 +13,15 @@ use std::marker::Model;
 
 /// A growing list of values. It keeps up to two of them in place, without memory of its own. A
 /// contract sees it as the list of its items.
-#[derive(Debug, Drop)]
+#[derive(Debug)]
 pub struct Short<T> {
     vec: SmallVec<T, 2>,
+}
+
+impl<T: Drop> Drop for Short<T> {
+    fn drop(self) {
+        let Self { vec: _ } = self;
+    }
 }
 
 impl<T> Model for Short<T> {

@@ -13,10 +13,18 @@ pub struct Flying {
 }
 
 /// A history with which a copy has left.
-#[derive(Drop)]
 pub struct Left {
     /// The number of the packet's injection.
     pub number: u64,
     /// The history.
     pub history: History,
+}
+
+impl Drop for Left {
+    fn drop(self) {
+        let Self {
+            number: _,
+            history: _,
+        } = self;
+    }
 }

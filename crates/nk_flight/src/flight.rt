@@ -17,7 +17,6 @@ use std::marker::Model;
 
 /// Packets in flight through tables. Copies and histories bear the number of their packet's injection; a copy waits
 /// until it is handled, and which one is handled next is up to the caller. A contract sees it as a `FlightState`.
-#[derive(Drop)]
 pub struct Flight {
     tables: Tables,
     finder: Finder,
@@ -25,6 +24,19 @@ pub struct Flight {
     hops: Vec<Hop>,
     flying: Waiting,
     left: Vec<Left>,
+}
+
+impl Drop for Flight {
+    fn drop(self) {
+        let Self {
+            tables: _,
+            finder: _,
+            packets: _,
+            hops: _,
+            flying: _,
+            left: _,
+        } = self;
+    }
 }
 
 impl Model for Flight {

@@ -9,12 +9,22 @@ use std::alloc::{AllocError, Global};
 use std::marker::Model;
 
 /// How many plan steps each switch has done. A contract sees it as a `ProgressState`.
-#[derive(Drop)]
 pub(crate) struct Progress {
     switches: Vec<u16>,
     done: Vec<u8>,
     once: usize,
     twice: usize,
+}
+
+impl Drop for Progress {
+    fn drop(self) {
+        let Self {
+            switches: _,
+            done: _,
+            once: _,
+            twice: _,
+        } = self;
+    }
 }
 
 impl Model for Progress {

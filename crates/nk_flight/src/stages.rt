@@ -19,10 +19,18 @@ use std::alloc::{AllocError, Global};
 use std::marker::Model;
 
 /// The tables of all switches after so many plan steps at each, and where each switch's stands.
-#[derive(Drop)]
 struct Stage {
     tables: Tables,
     finder: Finder,
+}
+
+impl Drop for Stage {
+    fn drop(self) {
+        let Self {
+            tables: _,
+            finder: _,
+        } = self;
+    }
 }
 
 impl Model for Stage {
@@ -88,13 +96,24 @@ fn table_of(switch: &PlanTables, steps: u8) -> Result<Table, AllocError>
 }
 
 /// The tables of a plan before its first step and after each of the three. A contract sees them as `Stages`.
-#[derive(Drop)]
 pub(crate) struct StageTables {
     before: Stage,
     added: Stage,
     replaced: Stage,
     removed: Stage,
     old_tags: u64,
+}
+
+impl Drop for StageTables {
+    fn drop(self) {
+        let Self {
+            before: _,
+            added: _,
+            replaced: _,
+            removed: _,
+            old_tags: _,
+        } = self;
+    }
 }
 
 impl Model for StageTables {

@@ -20,7 +20,6 @@ use std::marker::Model;
 /// Packets in flight while each switch goes over from old tables to new ones by the three steps of a plan. Which packet
 /// comes in, which copy is handled and which switch does its next step is up to the caller. A contract sees it as an
 /// `UpdateValue`.
-#[derive(Drop)]
 pub struct UpdateFlight {
     stages: StageTables,
     progress: Progress,
@@ -30,6 +29,21 @@ pub struct UpdateFlight {
     left: Vec<Left>,
     versions: Vec<Option<Version>>,
     tagged: usize,
+}
+
+impl Drop for UpdateFlight {
+    fn drop(self) {
+        let Self {
+            stages: _,
+            progress: _,
+            packets: _,
+            hops: _,
+            flying: _,
+            left: _,
+            versions: _,
+            tagged: _,
+        } = self;
+    }
 }
 
 impl Model for UpdateFlight {

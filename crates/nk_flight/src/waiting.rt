@@ -9,9 +9,14 @@ use std::marker::Model;
 const ENOUGH: usize = 2048;
 
 /// Some of the places, one behind the other. A contract sees it as their list.
-#[derive(Drop)]
 struct Block {
     places: Vec<usize>,
+}
+
+impl Drop for Block {
+    fn drop(self) {
+        let Self { places: _ } = self;
+    }
 }
 
 impl Model for Block {
@@ -57,10 +62,18 @@ impl Block {
 }
 
 /// The places of copies that wait, in order. A contract sees it as their list.
-#[derive(Drop)]
 pub(crate) struct Waiting {
     blocks: Vec<Block>,
     count: usize,
+}
+
+impl Drop for Waiting {
+    fn drop(self) {
+        let Self {
+            blocks: _,
+            count: _,
+        } = self;
+    }
 }
 
 impl Model for Waiting {

@@ -57,14 +57,32 @@ pub enum CertifiedStage {
     InRow(u64, Vec<u64>),
 }
 
+impl CertifiedStage {
+    /// Another stage takes this one's place.
+    fn set(&mut self, stage: CertifiedStage)
+        ensures { self.new ≡ stage }
+    {
+        *self = stage;
+    }
+}
+
 /// Reads a text and the certificate behind it, token by token. It keeps what may come next, and the policy that is being read. A
 /// declaration or row is handed out by the token that completes it. A token for which memory runs out changes nothing; after a fault
 /// nothing is said of the state.
-#[derive(Drop)]
 pub struct SoundReader {
     stage: CertifiedStage,
     reader: Reader,
     policy: PolicyReader,
+}
+
+impl Drop for SoundReader {
+    fn drop(self) {
+        let Self {
+            stage: _,
+            reader: _,
+            policy: _,
+        } = self;
+    }
 }
 
 /// The line of a word `row`, if the token is one.
@@ -111,7 +129,7 @@ impl SoundReader {
         ensures policy { self.new.policy ≡ self.old.policy }
         ensures reader { self.new.reader ≡ self.old.reader }
     {
-        self.stage = stage;
+        self.stage.set(stage);
         Ok(done)
     }
 
@@ -212,7 +230,7 @@ impl SoundReader {
             }
             Ok(None) => Err(GrammarError::Unexpected { line: token.line }),
             Err(AllocError) => {
-                self.stage = CertifiedStage::InRow(line, positions);
+                self.stage.set(CertifiedStage::InRow(line, positions));
                 Err(GrammarError::NoMemory)
             }
         }
@@ -240,7 +258,7 @@ impl SoundReader {
             Kind::Number => match positions.push(token.value) {
                 Ok(()) => self.go(CertifiedStage::NumbersRead(line, positions), None),
                 Err(AllocFailed { .. }) => {
-                    self.stage = CertifiedStage::NumbersRead(line, positions);
+                    self.stage.set(CertifiedStage::NumbersRead(line, positions));
                     Err(GrammarError::NoMemory)
                 }
             },
@@ -266,7 +284,7 @@ impl SoundReader {
                 match positions.push(number.value) {
                     Ok(()) => self.go(CertifiedStage::NumbersRead(line, positions), None),
                     Err(AllocFailed { .. }) => {
-                        self.stage = CertifiedStage::NumberWanted(line);
+                        self.stage.set(CertifiedStage::NumberWanted(line));
                         Err(GrammarError::NoMemory)
                     }
                 }

@@ -40,10 +40,15 @@ pub enum Known {
 
 /// Reads a text and the certificate behind it, token by token. Each declaration and each row is handed out by the token that completes
 /// it, and none is kept. After a fault of the grammar nothing but the fault is kept.
-#[derive(Drop)]
 pub struct CertifiedReader {
     known: Known,
     line: u64,
+}
+
+impl Drop for CertifiedReader {
+    fn drop(self) {
+        let Self { known: _, line: _ } = self;
+    }
 }
 
 impl Model for CertifiedReader {

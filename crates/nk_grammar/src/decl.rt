@@ -29,7 +29,6 @@ pub enum Decl {
 }
 
 /// A row of a certificate, with the line of the word `row`.
-#[derive(Drop)]
 pub struct CertRow {
     /// The numbers before the colon: none in the start row, else at least one.
     pub positions: List<u64>,
@@ -39,13 +38,28 @@ pub struct CertRow {
     pub line: u64,
 }
 
+impl Drop for CertRow {
+    fn drop(self) {
+        let Self {
+            positions: _,
+            pred: _,
+            line: _,
+        } = self;
+    }
+}
+
 /// The declarations of a text, in order, and the rows of its certificate.
-#[derive(Drop)]
 pub struct File {
     /// The declarations.
     pub decls: List<Decl>,
     /// The certificate's rows, the start row first; none where the text has no certificate.
     pub rows: List<CertRow>,
+}
+
+impl Drop for File {
+    fn drop(self) {
+        let Self { decls: _, rows: _ } = self;
+    }
 }
 
 /// What one more token completes.
@@ -102,6 +116,15 @@ pub enum Stage {
     PolicyNamed(PolicyWord, Word, u64),
     /// The policy itself.
     Policy(PolicyWord, Word, u64),
+}
+
+impl Stage {
+    /// Another stage takes this one's place.
+    pub fn set(&mut self, stage: Stage)
+        ensures { self.new ≡ stage }
+    {
+        *self = stage;
+    }
 }
 
 /// Why tokens are no text: their first fault, or want of memory.

@@ -1,4 +1,6 @@
 //! What may come next in a policy.
+ghost use Rattle.std.specs.Prelude.{◌≡◌};
+
 use nk_lex::{Number, Word};
 
 /// How much of `NUMBER : NUMBER => NUMBER : NUMBER` has been read.
@@ -52,4 +54,13 @@ pub enum Place {
     Linked(Quad),
     /// A factor, with a star or without.
     After(bool),
+}
+
+impl Place {
+    /// Another place takes this one's.
+    pub fn set(&mut self, place: Place)
+        ensures { self.new ≡ place }
+    {
+        *self = place;
+    }
 }

@@ -63,13 +63,24 @@ const DEEPEST: usize = 256;
 /// A token for which memory runs out, or with which no policy goes on, changes nothing. So what may fail comes first and changes no
 /// value: room is made, and the last factor, which stands apart since it took no room, is put behind the others. What is moved out to
 /// look at the token is put back where it doesn't fit.
-#[derive(Drop)]
 pub struct PolicyReader {
     place: Place,
     frames: Vec<Frame>,
     terms: Vec<Ast>,
     factors: Vec<Ast>,
     last: Option<Ast>,
+}
+
+impl Drop for PolicyReader {
+    fn drop(self) {
+        let Self {
+            place: _,
+            frames: _,
+            terms: _,
+            factors: _,
+            last: _,
+        } = self;
+    }
 }
 
 impl PolicyReader {
@@ -134,7 +145,7 @@ impl PolicyReader {
     {
         let factor = close_negations(&mut self.frames, atom);
         self.last = Some(factor);
-        self.place = Place::After(false);
+        self.place.set(Place::After(false));
     }
 
     /// An atom ended that was the last token.
@@ -157,7 +168,7 @@ impl PolicyReader {
         ensures taken { result ≡ true }
     {
         self.frames.push_reserved(frame);
-        self.place = Place::Want;
+        self.place.set(Place::Want);
         true
     }
 
@@ -185,7 +196,7 @@ impl PolicyReader {
             Kind::Drop => Ok(self.take_atom(sum(Vec::new(alloc)))),
             Kind::Dup => Ok(self.take_atom(Ast::Dup)),
             Kind::Name => {
-                self.place = Place::Named(word_of(alloc, token)?);
+                self.place.set(Place::Named(word_of(alloc, token)?));
                 Ok(true)
             }
             Kind::Number => {
@@ -193,7 +204,7 @@ impl PolicyReader {
                     value: token.value,
                     line: token.line,
                 };
-                self.place = Place::Linked(Quad::Switch(number));
+                self.place.set(Place::Linked(Quad::Switch(number)));
                 Ok(true)
             }
             _ => Ok(false),
@@ -258,7 +269,7 @@ impl PolicyReader {
     {
         self.put_last();
         push_term(alloc, &mut self.terms, &mut self.factors);
-        self.place = Place::Want;
+        self.place.set(Place::Want);
         true
     }
 
@@ -268,7 +279,7 @@ impl PolicyReader {
             (factors_in self.old) }
         ensures taken { result ≡ true }
     {
-        self.place = Place::Want;
+        self.place.set(Place::Want);
         true
     }
 
@@ -281,7 +292,7 @@ impl PolicyReader {
     {
         self.put_last();
         self.last = star_last(cell, &mut self.factors);
-        self.place = Place::After(true);
+        self.place.set(Place::After(true));
         true
     }
 
@@ -324,7 +335,7 @@ impl PolicyReader {
                 Ok(self.star(cell))
             }
             Err(AllocFailed { .. }) => {
-                self.place = Place::Named(word);
+                self.place.set(Place::Named(word));
                 Err(AllocError)
             }
         }
@@ -336,7 +347,7 @@ impl PolicyReader {
             (factors_in self.old) }
         ensures refused { result ≡ false }
     {
-        self.place = place;
+        self.place.set(place);
         false
     }
 
@@ -370,15 +381,15 @@ impl PolicyReader {
     {
         match token.kind {
             Kind::Equal => {
-                self.place = Place::Tested(word);
+                self.place.set(Place::Tested(word));
                 Ok(true)
             }
             Kind::In => {
-                self.place = Place::Ranged(word);
+                self.place.set(Place::Ranged(word));
                 Ok(true)
             }
             Kind::Assign => {
-                self.place = Place::Assigned(word);
+                self.place.set(Place::Assigned(word));
                 Ok(true)
             }
             Kind::Star => self.star_on_name(alloc, word),
@@ -405,7 +416,7 @@ impl PolicyReader {
         match quad_after(true, quad, token) {
             QuadNext::Refused => self.stay(Place::Linked(quad)),
             QuadNext::Going(quad) => {
-                self.place = Place::Linked(quad);
+                self.place.set(Place::Linked(quad));
                 true
             }
             QuadNext::Full(a, m, b, n) => self.take_atom(Ast::Link(a, m, b, n)),
@@ -430,14 +441,14 @@ impl PolicyReader {
             },
             Place::Ranged(word) => match number_of(token) {
                 Some(low) => {
-                    self.place = Place::RangedFrom(word, low);
+                    self.place.set(Place::RangedFrom(word, low));
                     Ok(true)
                 }
                 None => Ok(self.stay(Place::Ranged(word))),
             },
             Place::RangedFrom(word, low) => {
                 if is_dots_token(token) {
-                    self.place = Place::RangedTo(word, low);
+                    self.place.set(Place::RangedTo(word, low));
                     Ok(true)
                 } else {
                     Ok(self.stay(Place::RangedFrom(word, low)))

@@ -60,10 +60,18 @@ fn policy_of(word: PolicyWord, name: Word, policy: Ast, line: u64) -> Decl
 
 /// Reads a text token by token. It keeps what may come next, and the policy that is being read. A declaration is handed out by the token
 /// that completes it. A token for which memory runs out changes nothing; after a fault nothing is said of the state.
-#[derive(Drop)]
 pub struct Reader {
     stage: Stage,
     policy: PolicyReader,
+}
+
+impl Drop for Reader {
+    fn drop(self) {
+        let Self {
+            stage: _,
+            policy: _,
+        } = self;
+    }
 }
 
 impl Reader {
@@ -83,7 +91,7 @@ impl Reader {
         ensures stage { self.new.stage ≡ stage }
         ensures policy { self.new.policy ≡ self.old.policy }
     {
-        self.stage = stage;
+        self.stage.set(stage);
         Ok(done)
     }
 
@@ -111,7 +119,10 @@ impl Reader {
                     done,
                 )
             }
-            _ => Err(GrammarError::Unexpected { line: token.line }),
+            _ => {
+                drop(done);
+                Err(GrammarError::Unexpected { line: token.line })
+            }
         }
     }
 
@@ -222,7 +233,7 @@ impl Reader {
             Some(port) => match ports.push(port) {
                 Ok(()) => self.go(Stage::PortRead(number, ports), None),
                 Err(AllocFailed { .. }) => {
-                    self.stage = Stage::Ports(number, ports);
+                    self.stage.set(Stage::Ports(number, ports));
                     Err(GrammarError::NoMemory)
                 }
             },
@@ -273,7 +284,7 @@ impl Reader {
             },
             Ok(None) => Err(GrammarError::Unexpected { line: token.line }),
             Err(AllocError) => {
-                self.stage = Stage::Name(naming);
+                self.stage.set(Stage::Name(naming));
                 Err(GrammarError::NoMemory)
             }
         }
@@ -378,7 +389,7 @@ impl Reader {
                 Ok(Some(policy)) => Ok(Some(policy_of(word, name, policy, of_word))),
                 Ok(None) => Err(GrammarError::Unexpected { line }),
                 Err(AllocError) => {
-                    self.stage = Stage::Policy(word, name, of_word);
+                    self.stage.set(Stage::Policy(word, name, of_word));
                     Err(GrammarError::NoMemory)
                 }
             },

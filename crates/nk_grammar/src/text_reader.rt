@@ -26,10 +26,15 @@ pub enum KnownText {
 
 /// Reads a program's text, token by token. Each declaration is handed out by the token that completes it, and none is kept. After a
 /// fault of the grammar nothing but the fault is kept.
-#[derive(Drop)]
 pub struct TextReader {
     known: KnownText,
     line: u64,
+}
+
+impl Drop for TextReader {
+    fn drop(self) {
+        let Self { known: _, line: _ } = self;
+    }
 }
 
 impl Model for TextReader {

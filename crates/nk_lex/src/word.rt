@@ -5,12 +5,17 @@ use crate::{Bytes, Token};
 use std::alloc::{AllocError, Global};
 
 /// A name with its line.
-#[derive(Drop)]
 pub struct Word {
     /// The name's bytes.
     pub text: Bytes,
     /// The line that it stands on.
     pub line: u64,
+}
+
+impl Drop for Word {
+    fn drop(self) {
+        let Self { text: _, line: _ } = self;
+    }
 }
 
 /// A number with its line.

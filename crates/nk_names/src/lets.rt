@@ -15,7 +15,6 @@ use std::alloc::{AllocError, Global};
 use std::collections::HashMap;
 
 /// Policies in the order of the text, each with its name, what is known of it, and its place by its name.
-#[derive(Drop)]
 pub(crate) struct Lets {
     pub(crate) entries: Vec<(List<u8>, NamedPolicy)>,
     shapes: Vec<Shape>,
@@ -23,6 +22,16 @@ pub(crate) struct Lets {
     ghost shaped: { shapes.items ≡ map (λ e. shape_of e.1) entries.items },
     ghost placed: { (q : Items ℕ) → get_by (λ k. pointwise nat_eq q k.items) places
         ≡ position_from (λ e. bytes_eq e.0 q) 0 entries.items },
+}
+
+impl Drop for Lets {
+    fn drop(self) {
+        let Self {
+            entries: _,
+            shapes: _,
+            places: _,
+        } = self;
+    }
 }
 
 impl Lets {

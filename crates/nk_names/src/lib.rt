@@ -35,7 +35,6 @@ pub use virtual_link::VirtualLink;
 /// names of fabrics are a set of their own. Each policy's dups are
 /// numbered from 1 in text order; it has at most 1,048,576 elements and is at most 256 deep. The names
 /// in a policy are kept as names, so a program takes room as its text does; `NamedPolicy::written` writes them out.
-#[derive(Drop)]
 pub struct Program {
     /// The fields; the largest value of each is at most 281,474,976,710,655.
     pub fields: Fields,
@@ -47,6 +46,18 @@ pub struct Program {
     pub fabrics: List<(List<u8>, NamedPolicy)>,
     /// The virtual links.
     pub virtuals: List<VirtualLink>,
+}
+
+impl Drop for Program {
+    fn drop(self) {
+        let Self {
+            fields: _,
+            topo: _,
+            lets: _,
+            fabrics: _,
+            virtuals: _,
+        } = self;
+    }
 }
 
 impl Model for Program {
@@ -95,10 +106,32 @@ impl Program {
         self.virtuals.as_slice()
     }
 
+    /// The fields and the topology. The policies are let go.
+    pub fn into_declarations(self) -> (Fields, Topo)
+        ensures fields { result.0 ≡ self.fields }
+        ensures topo { result.1 ≡ self.topo }
+    {
+        let Self {
+            fields,
+            topo,
+            lets: _,
+            fabrics: _,
+            virtuals: _,
+        } = self;
+        (fields, topo)
+    }
+
     /// The fields. All else of the program is let go.
     pub fn into_fields(self) -> Fields
         ensures { result ≡ self.fields }
     {
-        self.fields
+        let Self {
+            fields,
+            topo: _,
+            lets: _,
+            fabrics: _,
+            virtuals: _,
+        } = self;
+        fields
     }
 }

@@ -102,9 +102,14 @@ fn program_in(names: Names) -> Result<Program, AllocError>
 /// The declarations of a text taken one by one, in order: they become the fields, the topology, the policies, the fabrics and
 /// the virtual links of a program as they come, and no declaration is kept. After a fault nothing but the fault is kept. A contract sees what is said so far, or
 /// the first fault.
-#[derive(Drop)]
 pub struct ProgramReader {
     known: Known,
+}
+
+impl Drop for ProgramReader {
+    fn drop(self) {
+        let Self { known: _ } = self;
+    }
 }
 
 impl Model for ProgramReader {

@@ -33,11 +33,20 @@ pub(crate) struct Calls {
 }
 
 /// The numbers, from 1, of the calls that fail.
-#[derive(Drop)]
 pub(crate) struct Fails {
     pub(crate) source: Vec<u64>,
     pub(crate) out: Vec<u64>,
     pub(crate) err: Vec<u64>,
+}
+
+impl Drop for Fails {
+    fn drop(self) {
+        let Self {
+            source: _,
+            out: _,
+            err: _,
+        } = self;
+    }
 }
 
 impl Fails {
@@ -52,13 +61,23 @@ impl Fails {
 }
 
 /// What has to come.
-#[derive(Drop)]
 pub(crate) struct Wanted {
     /// The lengths of the cuts of which this is said; of the whole input no length is given.
     pub(crate) lengths: Vec<u64>,
     pub(crate) status: Option<u64>,
     pub(crate) out: Option<Vec<u8>>,
     pub(crate) err: Option<Vec<u8>>,
+}
+
+impl Drop for Wanted {
+    fn drop(self) {
+        let Self {
+            lengths: _,
+            status: _,
+            out: _,
+            err: _,
+        } = self;
+    }
 }
 
 impl Wanted {
@@ -82,7 +101,6 @@ pub(crate) fn bytes_of(text: &Option<Vec<u8>>) -> &[u8] {
 }
 
 /// A row of a file.
-#[derive(Drop)]
 pub(crate) struct Row {
     pub(crate) name: String,
     /// The line at which it begins, from 1.
@@ -102,6 +120,26 @@ pub(crate) struct Row {
     /// The same by the cut's length.
     pub(crate) ends: Option<Vec<u64>>,
     pub(crate) cuts: Vec<Wanted>,
+}
+
+impl Drop for Row {
+    fn drop(self) {
+        let Self {
+            name: _,
+            line: _,
+            words: _,
+            input: _,
+            pieces: _,
+            fails: _,
+            whole: _,
+            calls: _,
+            fails_in_turn: _,
+            is_cut: _,
+            elsewhere: _,
+            ends: _,
+            cuts: _,
+        } = self;
+    }
 }
 
 impl Row {

@@ -46,12 +46,22 @@ enum Due<'a> {
 }
 
 /// What came of a run.
-#[derive(Drop)]
 struct Came {
     status: u64,
     out: MemSink,
     err: MemSink,
     calls: Calls,
+}
+
+impl Drop for Came {
+    fn drop(self) {
+        let Self {
+            status: _,
+            out: _,
+            err: _,
+            calls: _,
+        } = self;
+    }
 }
 
 /// A row that is being tried.

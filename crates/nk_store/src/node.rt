@@ -36,12 +36,18 @@ impl Id {
 }
 
 /// One thing that a leaf does: it changes the packet by the act and sends it to the target.
-#[derive(PartialEq, Eq, PartialOrd, Ord, Drop)]
+#[derive(PartialEq, Eq, PartialOrd, Ord)]
 pub struct Out {
     /// The assignments that are made.
     pub act: Act,
     /// The number of the target, which the user of the store gives a meaning.
     pub target: u64,
+}
+
+impl Drop for Out {
+    fn drop(self) {
+        let Self { act: _, target: _ } = self;
+    }
 }
 
 impl Out {
@@ -58,11 +64,20 @@ impl Out {
 }
 
 /// A leaf with its outs, or a choice by the value of a field: pairs of an interval's upper end and its child.
-#[derive(PartialEq, Eq, Drop)]
+#[derive(PartialEq, Eq)]
 pub enum Node {
     /// A leaf: its outs ascend, each once.
     Leaf(List<Out>),
     /// A choice by the value of a field: ends rise to the field's largest value, two parts or more, neighbours with
     /// different children.
     Case(Fid, List<(u64, Id)>),
+}
+
+impl Drop for Node {
+    fn drop(self) {
+        match self {
+            Node::Leaf(_) => {}
+            Node::Case(_, _) => {}
+        }
+    }
 }

@@ -19,11 +19,20 @@ use std::marker::Model;
 
 /// Diagrams that share their nodes. Two diagrams are equal exactly where their numbers are. The store also keeps answers
 /// of operations, which its contract value shows, and the two leaves that are asked for most, which it doesn't show.
-#[derive(Drop)]
 pub struct Store {
     table: NodeTable,
     empty: Option<Id>,
     identity: Option<Id>,
+}
+
+impl Drop for Store {
+    fn drop(self) {
+        let Self {
+            table: _,
+            empty: _,
+            identity: _,
+        } = self;
+    }
 }
 
 impl Model for Store {

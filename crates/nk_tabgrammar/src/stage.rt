@@ -36,7 +36,6 @@ pub enum QuadNext {
 }
 
 /// How much of a bucket stands there, the bracket at least.
-#[derive(Drop)]
 pub enum Place {
     /// The assignments so far.
     Sets(List<Pair>),
@@ -50,8 +49,19 @@ pub enum Place {
     Left(List<Pair>, Way),
 }
 
+impl Drop for Place {
+    fn drop(self) {
+        match self {
+            Place::Sets(_) => {}
+            Place::Named(_, _) => {}
+            Place::Assigned(_, _) => {}
+            Place::Out(_) => {}
+            Place::Left(_, _) => {}
+        }
+    }
+}
+
 /// What one more token makes of a part of a bucket.
-#[derive(Drop)]
 pub enum PlaceNext {
     /// No bucket can continue with it.
     Refused,
@@ -59,6 +69,16 @@ pub enum PlaceNext {
     Going(Place),
     /// The bucket is complete.
     Full(WrittenBucket),
+}
+
+impl Drop for PlaceNext {
+    fn drop(self) {
+        match self {
+            PlaceNext::Refused => {}
+            PlaceNext::Going(_) => {}
+            PlaceNext::Full(_) => {}
+        }
+    }
 }
 
 /// What a bucket is part of.
@@ -101,7 +121,6 @@ pub enum Grouping {
 }
 
 /// What stands before the next token, within a row but a bucket.
-#[derive(Drop)]
 pub enum InRow {
     Row,
     RowNumbered(Number),
@@ -119,8 +138,23 @@ pub enum InRow {
     TargetGroup(Number, List<WrittenMatch>),
 }
 
+impl Drop for InRow {
+    fn drop(self) {
+        match self {
+            InRow::Row => {}
+            InRow::RowNumbered(_) => {}
+            InRow::Matches(_, _) => {}
+            InRow::MatchNamed(_, _, _) => {}
+            InRow::MatchTested(_, _, _) => {}
+            InRow::MatchValued(_, _, _, _) => {}
+            InRow::MatchSlashed(_, _, _, _) => {}
+            InRow::Target(_, _) => {}
+            InRow::TargetGroup(_, _) => {}
+        }
+    }
+}
+
 /// What stands before the next token of a text.
-#[derive(Drop)]
 pub enum Stage {
     /// Nothing.
     Start,
@@ -141,4 +175,21 @@ pub enum Stage {
     Rows,
     /// A part of a row.
     InRow(InRow),
+}
+
+impl Drop for Stage {
+    fn drop(self) {
+        match self {
+            Stage::Start => {}
+            Stage::Version => {}
+            Stage::Between => {}
+            Stage::Declared(_) => {}
+            Stage::Table => {}
+            Stage::Groups => {}
+            Stage::Grouped(_) => {}
+            Stage::InBucket(_, _) => {}
+            Stage::Rows => {}
+            Stage::InRow(_) => {}
+        }
+    }
 }

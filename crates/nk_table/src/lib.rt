@@ -72,7 +72,6 @@ pub struct Group {
 }
 
 /// The table of one switch.
-#[derive(Drop)]
 pub struct Table {
     /// The switch.
     pub switch: u16,
@@ -82,8 +81,17 @@ pub struct Table {
     pub rows: List<Row>,
 }
 
+impl Drop for Table {
+    fn drop(self) {
+        let Self {
+            switch: _,
+            groups: _,
+            rows: _,
+        } = self;
+    }
+}
+
 /// The tables of all switches, with the fields and the topology.
-#[derive(Drop)]
 pub struct Tables {
     /// The fields.
     pub fields: Fields,
@@ -91,4 +99,14 @@ pub struct Tables {
     pub topo: Topo,
     /// The table of each switch.
     pub tables: List<Table>,
+}
+
+impl Drop for Tables {
+    fn drop(self) {
+        let Self {
+            fields: _,
+            topo: _,
+            tables: _,
+        } = self;
+    }
 }

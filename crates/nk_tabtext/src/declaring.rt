@@ -11,7 +11,6 @@ use nk_tabgrammar::ReadError;
 use std::alloc::{AllocError, Global};
 
 /// What is declared, and what is told so far of the declaration that is read.
-#[derive(Drop)]
 pub(crate) struct Declaring {
     pub(crate) said: Declared,
     name: Word,
@@ -20,6 +19,20 @@ pub(crate) struct Declaring {
     from_switch: Number,
     from_port: Number,
     to_switch: Number,
+}
+
+impl Drop for Declaring {
+    fn drop(self) {
+        let Self {
+            said: _,
+            name: _,
+            switch: _,
+            ports: _,
+            from_switch: _,
+            from_port: _,
+            to_switch: _,
+        } = self;
+    }
 }
 
 /// The number that a token is.

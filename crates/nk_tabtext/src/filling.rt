@@ -41,7 +41,6 @@ use std::collections::BTreeMap;
 use std::mem::replace;
 
 /// The groups and rows of the table that is read, and what is told so far of the group or row that is read.
-#[derive(Drop)]
 pub(crate) struct Filling {
     switch: Option<u16>,
     groups: Groups,
@@ -55,6 +54,25 @@ pub(crate) struct Filling {
     value: Number,
     sets: Act,
     exit: Exit,
+}
+
+impl Drop for Filling {
+    fn drop(self) {
+        let Self {
+            switch: _,
+            groups: _,
+            rows: _,
+            number: _,
+            buckets: _,
+            priority: _,
+            matches: _,
+            field: _,
+            max: _,
+            value: _,
+            sets: _,
+            exit: _,
+        } = self;
+    }
 }
 
 /// A bucket that is whole. It takes no memory.

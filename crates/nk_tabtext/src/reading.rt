@@ -97,11 +97,20 @@ impl Known {
 /// A table text read token by token. Each token becomes a part of the tables as it comes: neither the tokens nor what they
 /// write is kept. After a fault of the rules nothing but its line and what may come next is kept; after a token with which no
 /// text goes on nothing but that token's line.
-#[derive(Drop)]
 pub struct TableReader {
     state: State,
     line: u64,
     known: Known,
+}
+
+impl Drop for TableReader {
+    fn drop(self) {
+        let Self {
+            state: _,
+            line: _,
+            known: _,
+        } = self;
+    }
 }
 
 impl Model for TableReader {

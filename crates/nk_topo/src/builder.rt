@@ -14,12 +14,22 @@ use std::marker::Model;
 
 /// A topology in the making. Switches and links may be declared in any order; each takes the time of a search in a map,
 /// and they are listed once, at the end. A contract sees it as the `Topology` that is declared so far.
-#[derive(Drop)]
 pub struct TopoBuilder {
     alloc: Global,
     switches: BTreeMap<u16, Vec<u16>>,
     links: BTreeMap<(u16, u16), (u16, u16)>,
     targets: HashSet<(u16, u16)>,
+}
+
+impl Drop for TopoBuilder {
+    fn drop(self) {
+        let Self {
+            alloc: _,
+            switches: _,
+            links: _,
+            targets: _,
+        } = self;
+    }
 }
 
 impl Model for TopoBuilder {

@@ -49,12 +49,22 @@ pub enum TopoError {
 ///
 /// All are kept sorted, so adding a switch or a link moves those behind it. A `TopoBuilder` is quicker where they come in
 /// any order.
-#[derive(Drop)]
 pub struct Topo {
     pub(crate) numbers: Vec<u16>,
     pub(crate) ports: Vec<Vec<u16>>,
     pub(crate) links: Vec<(u16, u16, u16, u16)>,
     pub(crate) targets: HashSet<(u16, u16)>,
+}
+
+impl Drop for Topo {
+    fn drop(self) {
+        let Self {
+            numbers: _,
+            ports: _,
+            links: _,
+            targets: _,
+        } = self;
+    }
 }
 
 impl Model for Topo {

@@ -4,7 +4,6 @@ use nk_table::Table;
 use nk_topo::Topo;
 
 /// By which tables a running network goes over from old tables to new ones.
-#[derive(Drop)]
 pub struct Plan {
     /// The fields of both.
     pub fields: Fields,
@@ -16,8 +15,18 @@ pub struct Plan {
     pub switches: List<PlanTables>,
 }
 
+impl Drop for Plan {
+    fn drop(self) {
+        let Self {
+            fields: _,
+            topo: _,
+            old_tags: _,
+            switches: _,
+        } = self;
+    }
+}
+
 /// The four tables of a switch: the old one, and those after each of its three plan steps.
-#[derive(Drop)]
 pub struct PlanTables {
     /// The switch.
     pub switch: u16,
@@ -29,4 +38,16 @@ pub struct PlanTables {
     pub replaced: Table,
     /// Without the old tagged rows.
     pub removed: Table,
+}
+
+impl Drop for PlanTables {
+    fn drop(self) {
+        let Self {
+            switch: _,
+            before: _,
+            added: _,
+            replaced: _,
+            removed: _,
+        } = self;
+    }
 }

@@ -18,7 +18,6 @@ use std::alloc::{AllocError, Global};
 use thiserror::Error;
 
 /// What the words ask for.
-#[derive(Drop)]
 pub enum Command {
     /// `compile NAME`: the table of every switch for the policy of this name.
     Compile(Bytes),
@@ -56,6 +55,27 @@ pub enum Command {
     /// `virtual NAME`: the table of every switch for the physical policy of the virtual one of this name, with each virtual
     /// link by its fabric.
     Virtual(Bytes),
+}
+
+impl Drop for Command {
+    fn drop(self) {
+        match self {
+            Command::Compile(_) => {}
+            Command::Trace(_, _) => {}
+            Command::Equal(_, _) => {}
+            Command::Check(_, _) => {}
+            Command::Fly(_, _, _) => {}
+            Command::Apart(_, _, _) => {}
+            Command::Waypoint(_, _, _, _) => {}
+            Command::CheckApart(_, _, _) => {}
+            Command::CheckWaypoint(_, _, _, _) => {}
+            Command::Gen(_, _) => {}
+            Command::Job(_, _) => {}
+            Command::Update(_, _, _, _, _) => {}
+            Command::Compact(_) => {}
+            Command::Virtual(_) => {}
+        }
+    }
 }
 
 /// Why the words give no command.
