@@ -12,8 +12,8 @@ use Rattle.nk_query.specs.declared.error.QueryError.{QueryError}
 use Rattle.nk_query.specs.declared.error.QueryError.TheVariants as query
 use Rattle.nk_names.proofs.Alike.{fields_alike, named_alike, one_policy}
 use Rattle.nk_query.proofs.OneQuestion.{no_cause, one_question}
-use Rattle.nk.specs.Comparing.{AreNamed}
-use Rattle.nk.specs.Messages.{TellsQuery}
+use Rattle.nk_comparing.specs.Comparing.{AreNamed}
+use Rattle.nk_comparing.specs.Messages.{TellsQuery}
 
 some_none : {X : Type 0} (x : X) → ◌≡◌ {A = Option X} None (Some x) → ⊥
 some_none x e = cc

@@ -24,18 +24,18 @@ use Rattle.nk_query.specs.Asked.{Asked, NoneBreaks}
 use Rattle.nk_query.specs.Answers.{asked_policy}
 use Rattle.nk_compile.proofs.ReasonByName.{never_refused}
 use Rattle.nk_cert.proofs.OneAlone.{no_difference}
-use Rattle.nk.specs.Asking.{IsAskAnswer}
-use Rattle.nk.specs.CertifiedText.{HoldsCertificate}
-use Rattle.nk.specs.Checking.{IsCheckAnswer}
-use Rattle.nk.specs.Comparing.{IsEqualAnswer}
-use Rattle.nk.specs.Compiling.{IsCompileAnswer}
-use Rattle.nk.specs.Following.{TableOutcome, ToPacket, ToTables}
-use Rattle.nk.specs.Judging.{IsJudgeAnswer}
-use Rattle.nk.specs.Outcome.{Outcome, done, differs, text_refused, policy_refused}
-use Rattle.nk.specs.ProgramText.{Declares}
+use Rattle.nk_comparing.specs.Asking.{IsAskAnswer}
+use Rattle.nk_comparing.specs.CertifiedText.{HoldsCertificate}
+use Rattle.nk_comparing.specs.Checking.{IsCheckAnswer}
+use Rattle.nk_comparing.specs.Comparing.{IsEqualAnswer}
+use Rattle.nk_compiling.specs.Compiling.{IsCompileAnswer}
+use Rattle.nk_following.specs.Following.{TableOutcome, ToPacket, ToTables}
+use Rattle.nk_comparing.specs.Judging.{IsJudgeAnswer}
+use Rattle.nk_reply.specs.Outcome.{Outcome, done, differs, text_refused, policy_refused}
+use Rattle.nk_input.specs.ProgramText.{Declares}
 use Rattle.nk.specs.Succeeding.{AcceptsNamed, HavePolicies, HaveCertified, HasQuestion, HasCertifiedQuestion, HasLocated, GiveSame, AreCertified, IsUnbroken, IsCertified}
-use Rattle.nk.specs.Tracing.{ToLocated}
-use Rattle.nk.specs.Flying.{ToFlown}
+use Rattle.nk_following.specs.Tracing.{ToLocated}
+use Rattle.nk_following.specs.Flying.{ToFlown}
 use Rattle.nk.proofs.Alike.{of_named, never_lacking, of_question, never_caused}
 use Rattle.nk.proofs.OneText.{declares_once, holds_once, certificate_once, no_fault, no_certified_fault}
 

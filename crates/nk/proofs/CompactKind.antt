@@ -2,9 +2,9 @@
 use Rattle.std.proofs.Common.{List, ℕ, ◌∙◌, sym, subst}
 use Rattle.nk_names.specs.ProgramOf.{said_by}
 use Rattle.nk_compile.proofs.CompactReasons.{never_refused_compact}
-use Rattle.nk.specs.Compacting.{IsCompactAnswer}
-use Rattle.nk.specs.Outcome.{Outcome, done, differs, text_refused, policy_refused}
-use Rattle.nk.specs.ProgramText.{Declares}
+use Rattle.nk_compiling.specs.Compacting.{IsCompactAnswer}
+use Rattle.nk_reply.specs.Outcome.{Outcome, done, differs, text_refused, policy_refused}
+use Rattle.nk_input.specs.ProgramText.{Declares}
 use Rattle.nk.specs.Succeeding.{AcceptsMerged}
 use Rattle.nk.proofs.ByKind.{Kind}
 use Rattle.nk.proofs.OneText.{declares_once, no_fault}

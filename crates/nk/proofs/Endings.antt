@@ -5,12 +5,15 @@ use Rattle.std.specs.Prelude.{Some, None}
 use Rattle.std.specs.Io.KnownBytes.{IsAtEnd}
 use Rattle.nk_words.specs.declared.words.Command.{Command}
 use Rattle.nk_words.specs.Words.{command_of}
-use Rattle.nk.specs.declared.status.Status.{Status}
-use Rattle.nk.specs.declared.status.Status.TheVariants.{ReadFault, Usage, WriteFault, NoMemory}
-use Rattle.nk.specs.Outcome.{Outcome, done, differs, text_refused, policy_refused}
-use Rattle.nk.specs.Answer.{Answer, IsOutcome, IsOutcomeOf, answer_of, limit, reads, too_long}
-use Rattle.nk.specs.Use.{FailedAt, HadLeft, HasRisen, IsQuiet, IsUntouched, Use}
-use Rattle.nk.specs.Ends.{Ends, IsCauseTo, IsCaused, IsComplete, IsFixedBy, IsInput, IsReadWhere, IsSentWhole, IsUsage}
+use Rattle.nk_reply.specs.declared.status.Status.{Status}
+use Rattle.nk_reply.specs.declared.status.Status.TheVariants.{ReadFault, Usage, WriteFault, NoMemory}
+use Rattle.nk_reply.specs.Outcome.{Outcome, done, differs, text_refused, policy_refused}
+use Rattle.nk_reply.specs.Answer.{Answer, answer_of, limit, too_long}
+use Rattle.nk.specs.Answer.{IsOutcome, IsOutcomeOf, reads}
+use Rattle.nk_reply.specs.Use.{FailedAt, HadLeft, HasRisen, IsQuiet, IsUntouched, Use}
+use Rattle.nk.specs.Ends.{Ends, IsCauseTo, IsCaused, IsComplete, IsFixedBy, IsInput, IsUsage}
+use Rattle.nk_reply.specs.Meant.{IsReadWhere}
+use Rattle.nk_reply.specs.Sent.{IsSentWhole}
 
 -- the outcome of a command, once it was sent, is the cause of its status
 outcome_caused : (words : List (List ℕ)) (source out err : Use) (c : Command) (bytes : List ℕ) (outcome : Outcome)

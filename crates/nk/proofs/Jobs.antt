@@ -14,15 +14,15 @@ use Rattle.nk_certtext.specs.Text.{cert_bytes}
 use Rattle.nk_bisim.specs.Answers.{IsRelated}
 use Rattle.nk_compile.specs.Counted.{HasTagCount}
 use Rattle.nk_compile.specs.Headline.{IsCompiled}
-use Rattle.nk.specs.TextTables.{CompilesPrintable}
-use Rattle.nk.specs.Comparing.{AreNamed, IsEqualAnswer, ToCompared}
-use Rattle.nk.specs.Compiling.{IsCompileAnswer, ToProgram}
-use Rattle.nk.specs.Declarable.{CanBeDeclared}
+use Rattle.nk_compiling.specs.TextTables.{CompilesPrintable}
+use Rattle.nk_comparing.specs.Comparing.{AreNamed, IsEqualAnswer, ToCompared}
+use Rattle.nk_compiling.specs.Compiling.{IsCompileAnswer, ToProgram}
+use Rattle.nk_input.specs.Declarable.{CanBeDeclared}
 use Rattle.nk.specs.Generating.{CountsRows, CountsTables, IsJobOver, IsNotDone, rows_line, tables_line}
-use Rattle.nk.specs.Outcome.{Outcome, done, differs, text_refused, policy_refused}
-use Rattle.nk.specs.ProgramText.{Declares}
-use Rattle.nk.proofs.Certified.{is_same}
-use Rattle.nk.proofs.Printing.{is_printed}
+use Rattle.nk_reply.specs.Outcome.{Outcome, done, differs, text_refused, policy_refused}
+use Rattle.nk_input.specs.ProgramText.{Declares}
+use Rattle.nk_comparing.proofs.Certified.{is_same}
+use Rattle.nk_compiling.proofs.Printing.{is_printed}
 
 -- a step that is done: the text of the command's answer, and a line that counts
 abbrev pub Step : (Outcome → Type 0) → (List ℕ → List ℕ → Type 0) → List ℕ → Type 0

@@ -19,8 +19,8 @@ use Rattle.nk_cert.specs.Certificates.{CertificateValue}
 use Rattle.nk_certtext.specs.declared.error.CertError.{CertError}
 use Rattle.nk_certtext.specs.declared.error.CertError.TheVariants as rows
 use Rattle.nk_certtext.specs.Rows.{certificate_of}
-use Rattle.nk.specs.ProgramText.{Declares, HasFault, TellsGrammar, TellsLexical, TellsNames, IsFaultOfNames, IsFaultOfTokens, IsFaultOfBytes}
-use Rattle.nk.specs.CertifiedText.{HoldsCertificate, HasCertifiedFault, TellsRows, IsFaultOfRows, IsFaultOfSaid, IsFaultOfCertifiedTokens, IsFaultOfCertifiedBytes}
+use Rattle.nk_input.specs.ProgramText.{Declares, HasFault, TellsGrammar, TellsLexical, TellsNames, IsFaultOfNames, IsFaultOfTokens, IsFaultOfBytes}
+use Rattle.nk_comparing.specs.CertifiedText.{HoldsCertificate, HasCertifiedFault, TellsRows, IsFaultOfRows, IsFaultOfSaid, IsFaultOfCertifiedTokens, IsFaultOfCertifiedBytes}
 
 pub ok_is : {X E : Type 0} (x y : X) → ◌≡◌ {A = Result X E} (Ok x) (Ok y) → x ≡ y
 ok_is x y e = cc

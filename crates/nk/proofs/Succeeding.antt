@@ -7,13 +7,14 @@ use Rattle.nk_query.specs.Asked.{apart, waypoint}
 use Rattle.nk_words.specs.declared.words.Command.{Command}
 use Rattle.nk_words.specs.declared.words.Command.TheVariants.{Compile, Trace, Equal, Check, Fly}
 use Rattle.nk_words.specs.declared.words.Command.TheVariants.{Apart, Waypoint, CheckApart, CheckWaypoint, Gen, Job, Update, Compact, Virtual}
-use Rattle.nk.specs.declared.status.Status.{Status}
-use Rattle.nk.specs.declared.status.Status.TheVariants.{Done, Differs, NoMemory}
-use Rattle.nk.specs.Answer.{Answer, IsAnswerTo, IsOutcome, IsOutcomeOf, answer_of, limit, reads, too_long}
+use Rattle.nk_reply.specs.declared.status.Status.{Status}
+use Rattle.nk_reply.specs.declared.status.Status.TheVariants.{Done, Differs, NoMemory}
+use Rattle.nk_reply.specs.Answer.{Answer, answer_of, limit, too_long}
+use Rattle.nk.specs.Answer.{IsAnswerTo, IsOutcome, IsOutcomeOf, reads}
 use Rattle.nk.specs.Ends.{Ends, IsFixedBy}
-use Rattle.nk.specs.Outcome.{Outcome, done, differs, text_refused, policy_refused}
+use Rattle.nk_reply.specs.Outcome.{Outcome, done, differs, text_refused, policy_refused}
 use Rattle.nk.specs.Succeeding.{IsDone, IsOtherwise, IsStatusOf, IsOffered, Succeeds}
-use Rattle.nk.specs.Use.{Use}
+use Rattle.nk_reply.specs.Use.{Use}
 use Rattle.nk.proofs.Endings.{complete}
 use Rattle.nk_gen.specs.Text.{generated}
 use Rattle.nk.specs.Generating.{IsGenAnswer}

@@ -13,11 +13,11 @@ use Rattle.nk_names.proofs.Alike.{fields_alike, topo_alike}
 use Rattle.nk_table.specs.declared.Tables.{Tables}
 use Rattle.nk_compile.proofs.PairReasonByName.{fitting_never_refused}
 use Rattle.nk_update.specs.declared.plans.Plan.{Plan}
-use Rattle.nk.specs.Following.{ToPacket}
-use Rattle.nk.specs.Outcome.{Outcome, done, differs, text_refused, policy_refused}
-use Rattle.nk.specs.ProgramText.{Declares}
+use Rattle.nk_following.specs.Following.{ToPacket}
+use Rattle.nk_reply.specs.Outcome.{Outcome, done, differs, text_refused, policy_refused}
+use Rattle.nk_input.specs.ProgramText.{Declares}
 use Rattle.nk.specs.Succeeding.{AcceptsUpdate}
-use Rattle.nk.specs.Updating.{ToTurned, IsPlannedAnswer, IsPairRefusal, IsUpdateAnswer, plan_for}
+use Rattle.nk_compiling.specs.Updating.{ToTurned, IsPlannedAnswer, IsPairRefusal, IsUpdateAnswer, plan_for}
 use Rattle.nk.proofs.ByKind.{Kind}
 use Rattle.nk.proofs.OneText.{declares_once, no_fault}
 

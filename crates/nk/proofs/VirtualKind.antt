@@ -18,10 +18,10 @@ use Rattle.nk_virtual.specs.Reasons.{IsLaterFlaw, IsReasonAgainst, IsVirtualReas
 use Rattle.nk_virtual.specs.declared.refusal.VirtualRefusal.{VirtualRefusal}
 use Rattle.nk_virtual.specs.declared.refusal.VirtualRefusal.TheVariants.{NoPolicy, NoTag, Seen, OffTarget, NotCarried, TooLarge}
 use Rattle.nk_virtual.proofs.OneReason.{none_some, number_is, no_first, none_over}
-use Rattle.nk.specs.Outcome.{Outcome, done, differs, text_refused, policy_refused}
-use Rattle.nk.specs.ProgramText.{Declares}
+use Rattle.nk_reply.specs.Outcome.{Outcome, done, differs, text_refused, policy_refused}
+use Rattle.nk_input.specs.ProgramText.{Declares}
 use Rattle.nk.specs.Succeeding.{AcceptsVirtual}
-use Rattle.nk.specs.Virtualizing.{LacksPhysical, IsPhysicalRefusal, IsVirtualizeAnswer}
+use Rattle.nk_compiling.specs.Virtualizing.{LacksPhysical, IsPhysicalRefusal, IsVirtualizeAnswer}
 use Rattle.nk.proofs.ByKind.{Kind}
 use Rattle.nk.proofs.OneText.{declares_once, no_fault}
 

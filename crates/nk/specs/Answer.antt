@@ -1,62 +1,24 @@
 -- The status and the text that the words and the input fix.
-use Rattle.std.specs.Prelude.{◌≡◌, ℕ, List, [], Bool, true, false, Option, Some, None, MatchBool}
-use Rattle.std.specs.Prelude.{codes, length, nat_lt}
-use Rattle.nk.specs.declared.status.Status.{Status}
-use Rattle.nk.specs.declared.status.Status.TheVariants.{Done, Differs, Usage, Text, Refused}
-use Rattle.nk.specs.declared.status.Status.TheVariants.{ReadFault, NoMemory, TooLong}
+use Rattle.std.specs.Prelude.{◌≡◌, ℕ, List, [], Bool, true, false, Option, Some, None, MatchBool, length, nat_lt}
 use Rattle.nk_words.specs.declared.words.Command.{Command}
 use Rattle.nk_words.specs.declared.words.Command.TheVariants.{Compile, Trace, Equal, Check, Fly}
 use Rattle.nk_words.specs.declared.words.Command.TheVariants.{Apart, Waypoint, CheckApart, CheckWaypoint, Gen, Job, Update, Compact, Virtual}
 use Rattle.nk_query.specs.Asked.{apart, waypoint}
-use Rattle.nk.specs.Outcome.{Outcome, done, differs, text_refused, policy_refused}
-use Rattle.nk.specs.Asking.{IsAskAnswer}
-use Rattle.nk.specs.Checking.{IsCheckAnswer}
-use Rattle.nk.specs.Compacting.{IsCompactAnswer}
-use Rattle.nk.specs.Compiling.{IsCompileAnswer}
-use Rattle.nk.specs.Comparing.{IsEqualAnswer}
-use Rattle.nk.specs.Flying.{IsFlyAnswer}
+use Rattle.nk_reply.specs.declared.reply.Reply.{Reply}
+use Rattle.nk_reply.specs.Answer.{Answer, answer_of, limit, too_long, usage}
+use Rattle.nk_reply.specs.Outcome.{Outcome}
+use Rattle.nk_reply.specs.Reply.{IsReplyOf}
+use Rattle.nk_comparing.specs.Asking.{IsAskAnswer}
+use Rattle.nk_comparing.specs.Checking.{IsCheckAnswer}
+use Rattle.nk_compiling.specs.Compacting.{IsCompactAnswer}
+use Rattle.nk_compiling.specs.Compiling.{IsCompileAnswer}
+use Rattle.nk_comparing.specs.Comparing.{IsEqualAnswer}
+use Rattle.nk_following.specs.Flying.{IsFlyAnswer}
 use Rattle.nk.specs.Generating.{IsGenAnswer, IsJobAnswer}
-use Rattle.nk.specs.Judging.{IsJudgeAnswer}
-use Rattle.nk.specs.Tracing.{IsTraceAnswer}
-use Rattle.nk.specs.Updating.{IsUpdateAnswer}
-use Rattle.nk.specs.Virtualizing.{IsVirtualizeAnswer}
-
--- a status and its text
-pub record Answer : Type 0 where
-  pub status : Status
-  pub text : List ℕ
-
-abbrev pub answer : Status → List ℕ → Answer
-answer s text = record { status = s; text = text }
-
--- the text goes to `out`, and nothing to `err`; else the other way round
-abbrev pub goes_out : Status → Bool
-goes_out Done = true
-goes_out Differs = true
-goes_out s = false
-
-abbrev pub usage : Answer
-usage = answer Usage (codes "usage: nk COMMAND ARGUMENTS\n")
-
-abbrev pub read_fault : Answer
-read_fault = answer ReadFault (codes "read fault\n")
-
-abbrev pub no_memory : Answer
-no_memory = answer NoMemory (codes "no memory\n")
-
-abbrev pub too_long : Answer
-too_long = answer TooLong (codes "too long\n")
-
--- how many bytes an input has at most
-abbrev pub limit : ℕ
-limit = 16777216
-
--- the status of each kind of answer that a command has
-abbrev pub answer_of : Outcome → Answer
-answer_of (done text) = answer Done text
-answer_of (differs text) = answer Differs text
-answer_of (text_refused text) = answer Text text
-answer_of (policy_refused text) = answer Refused text
+use Rattle.nk_comparing.specs.Judging.{IsJudgeAnswer}
+use Rattle.nk_following.specs.Tracing.{IsTraceAnswer}
+use Rattle.nk_compiling.specs.Updating.{IsUpdateAnswer}
+use Rattle.nk_compiling.specs.Virtualizing.{IsVirtualizeAnswer}
 
 -- whether a command reads the input
 abbrev pub reads : Command → Bool
@@ -101,3 +63,7 @@ IsAnswerTo (Some c) bytes a =
     MatchBool (reads c)
     (MatchBool (nat_lt limit (length bytes)) (a ≡ too_long) (IsOutcomeOf c bytes a))
     (IsOutcomeOf c [] a)
+
+-- the reply is what the command answers to the input, or memory ran out
+abbrev pub IsReplyTo : Command → List ℕ → Reply → Type 0
+IsReplyTo c bytes r = IsReplyOf (IsOutcome c bytes) r

@@ -1,29 +1,25 @@
 -- How a run ends.
-use Rattle.std.specs.Prelude.{◌≡◌, ◌⊎◌, ◌<◌, ◌≤◌, ℕ, List, [], length, Bool, true, false, Option, Some, None, MatchBool}
+use Rattle.std.specs.Prelude.{◌≡◌, ◌⊎◌, ◌<◌, ◌≤◌, ℕ, List, [], length, Bool, true, false, Option, Some, None}
 use Rattle.std.specs.Io.KnownBytes.{IsAtEnd, Keeps}
 use Rattle.nk_io.specs.Reading.{GaveMore, GaveWithin}
 use Rattle.nk_words.specs.Words.{command_of}
 use Rattle.nk_words.specs.declared.words.Command.{Command}
-use Rattle.nk.specs.declared.status.Status.{Status}
-use Rattle.nk.specs.declared.status.Status.TheVariants.{Done, Differs, Usage, Text, Refused}
-use Rattle.nk.specs.declared.status.Status.TheVariants.{ReadFault, WriteFault, NoMemory, TooLong}
-use Rattle.nk.specs.Outcome.{Outcome, done, differs, text_refused, policy_refused}
-use Rattle.nk.specs.Answer.{Answer, IsAnswerTo, IsOutcome, answer_of, goes_out, limit, reads}
-use Rattle.nk.specs.Answer.{no_memory, read_fault, too_long, usage}
-use Rattle.nk.specs.Use.{FailedAt, HadLeft, HasRisen, IsQuiet, IsUntouched, Took, Use}
+use Rattle.nk_reply.specs.declared.status.Status.{Status}
+use Rattle.nk_reply.specs.declared.status.Status.TheVariants.{Done, Differs, Usage, Text, Refused}
+use Rattle.nk_reply.specs.declared.status.Status.TheVariants.{ReadFault, WriteFault, NoMemory, TooLong}
+use Rattle.nk_reply.specs.Outcome.{Outcome, done, differs, text_refused, policy_refused}
+use Rattle.nk_reply.specs.Answer.{Answer, answer_of, limit, no_memory, read_fault, too_long, usage}
+use Rattle.nk_reply.specs.Meant.{IsNoMemory, IsReadWhere}
+use Rattle.nk_reply.specs.Sent.{Delivers, FailsIn, IsSentWhole}
+use Rattle.nk_reply.specs.Use.{HadLeft, HasRisen, IsQuiet, IsUntouched, Use}
+use Rattle.nk.specs.Answer.{IsAnswerTo, IsOutcome, reads}
 
 -- whether the words ask for the input: they are a command that reads it
 abbrev pub asks_for_input : Option Command → Bool
 asks_for_input None = false
 asks_for_input (Some c) = reads c
 
--- What was read for an answer with this status, where the input is asked for and where it is not: nothing where it is not,
--- more than the limit where that is the answer, and else all that was left.
-abbrev pub IsReadWhere : Bool → Use → Status → Type 0
-IsReadWhere false source s = Keeps source.old source.new
-IsReadWhere true source TooLong = GaveMore limit source.old source.new
-IsReadWhere true source s = IsAtEnd source.new
-
+-- What was read for an answer with this status, where the words ask for the input or do not.
 abbrev pub IsReadFor : Option Command → Use → Status → Type 0
 IsReadFor c source s = IsReadWhere (asks_for_input c) source s
 
@@ -42,12 +38,6 @@ pub record IsReadFault (c : Option Command) (source : Use) (a : Answer) : Type 0
   pub asks : asks_for_input c ≡ true
   pub given : GaveWithin limit source.old source.new
 
--- memory ran out, and no call of the source failed
-pub record IsNoMemory (source : Use) (a : Answer) : Type 0 where
-  pub answer : a ≡ no_memory
-  pub quiet : IsQuiet source
-  pub given : GaveWithin limit source.old source.new
-
 -- Why a run means to give an answer with this status. A failed write is no answer.
 abbrev pub IsCauseTo : Status → Option Command → Use → Answer → Type 0
 IsCauseTo ReadFault c source a = IsReadFault c source a
@@ -63,21 +53,6 @@ IsMeantTo c source a = IsCauseTo a.status c source a
 -- the one that the words and the input fix
 abbrev pub IsMeant : List (List ℕ) → Use → Answer → Type 0
 IsMeant words source a = IsMeantTo (command_of words) source a
-
--- the sink that the answer goes to took the whole of it, and the other was not touched
-abbrev pub IsSentWhole : Answer → Use → Use → Type 0
-IsSentWhole a out err = MatchBool (goes_out a.status)
-    (Took out a.text × IsUntouched err) (Took err a.text × IsUntouched out)
-
--- the sink that the answer goes to failed at it, and the other was not touched
-abbrev pub FailsIn : Answer → Use → Use → Type 0
-FailsIn a out err = MatchBool (goes_out a.status)
-    (FailedAt out a.text × IsUntouched err) (FailedAt err a.text × IsUntouched out)
-
--- the answer went out whole, or its sink failed at it
-abbrev pub Delivers : Answer → Use → Use → Status → Type 0
-Delivers a out err s =
-    ((s ≡ a.status) × IsSentWhole a out err) ⊎ ((s ≡ WriteFault) × FailsIn a out err)
 
 -- the run meant an answer for a cause, and then sent it or failed at it
 pub record Ends (words : List (List ℕ)) (source out err : Use) (s : Status) : Type 0 where
@@ -168,10 +143,3 @@ pub record TellsFaults (source out err : Use) (s : Status) : Type 0 where
       → ((s ≡ ReadFault) × IsSentWhole read_fault out err)
       ⊎ ((s ≡ WriteFault) × FailsIn read_fault out err)
   pub write : (out.before < out.now) ⊎ (err.before < err.now) → s ≡ WriteFault
-
--- Of two facts about `out` and `err`, the one of the sink that a run with this status leaves alone.
-abbrev pub LeavesAlone : Status → Type 0 → Type 0 → Type 0
-LeavesAlone Done out err = err
-LeavesAlone Differs out err = err
-LeavesAlone WriteFault out err = out ⊎ err
-LeavesAlone s out err = out

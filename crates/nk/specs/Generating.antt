@@ -14,10 +14,10 @@ use Rattle.nk_certtext.specs.Text.{cert_bytes}
 use Rattle.nk_bisim.specs.Answers.{IsRelated}
 use Rattle.nk_compile.specs.Counted.{HasTagCount}
 use Rattle.nk_compile.specs.Headline.{IsCompiled}
-use Rattle.nk.specs.Comparing.{AreNamed, IsEqualAnswer}
-use Rattle.nk.specs.Compiling.{IsCompileAnswer}
-use Rattle.nk.specs.Outcome.{Outcome, done}
-use Rattle.nk.specs.ProgramText.{Declares}
+use Rattle.nk_comparing.specs.Comparing.{AreNamed, IsEqualAnswer}
+use Rattle.nk_compiling.specs.Compiling.{IsCompileAnswer}
+use Rattle.nk_reply.specs.Outcome.{Outcome, done}
+use Rattle.nk_input.specs.ProgramText.{Declares}
 
 -- the answer of `gen SIZE SEED`
 abbrev pub IsGenAnswer : ℕ → ℕ → Outcome → Type 0

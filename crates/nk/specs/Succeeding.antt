@@ -26,13 +26,14 @@ use Rattle.nk_words.specs.Words.{command_of}
 use Rattle.nk_words.specs.declared.words.Command.{Command}
 use Rattle.nk_words.specs.declared.words.Command.TheVariants.{Compile, Trace, Equal, Check, Fly}
 use Rattle.nk_words.specs.declared.words.Command.TheVariants.{Apart, Waypoint, CheckApart, CheckWaypoint, Gen, Job, Update, Compact, Virtual}
-use Rattle.nk.specs.declared.status.Status.{Status}
-use Rattle.nk.specs.declared.status.Status.TheVariants.{Done, Differs, NoMemory}
-use Rattle.nk.specs.Answer.{limit, reads}
-use Rattle.nk.specs.CertifiedText.{HoldsCertificate}
-use Rattle.nk.specs.Comparing.{AreNamed}
-use Rattle.nk.specs.ProgramText.{Declares}
-use Rattle.nk.specs.Use.{HasRisen, Use}
+use Rattle.nk_reply.specs.declared.status.Status.{Status}
+use Rattle.nk_reply.specs.declared.status.Status.TheVariants.{Done, Differs, NoMemory}
+use Rattle.nk_reply.specs.Answer.{limit}
+use Rattle.nk.specs.Answer.{reads}
+use Rattle.nk_comparing.specs.CertifiedText.{HoldsCertificate}
+use Rattle.nk_comparing.specs.Comparing.{AreNamed}
+use Rattle.nk_input.specs.ProgramText.{Declares}
+use Rattle.nk_reply.specs.Use.{HasRisen, Use}
 
 -- the bytes are a program's text, and the program accepts its policy of this name
 pub record AcceptsNamed (name bytes : List ℕ) : Type 0 where

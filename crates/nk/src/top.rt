@@ -1,27 +1,20 @@
 //! The top call.
 ghost use Rattle.std.specs.Prelude.{◌≡◌, false, None, Some, IfOk};
 ghost use Rattle.nk_words.specs.Words.{IsWithinLimits, command_of, texts};
-ghost use Rattle.nk.specs.Answer.{IsOutcome, reads, reads_in_pieces};
-ghost use Rattle.nk.specs.Use.{use_of};
-ghost use Rattle.nk.specs.Ends.{Ends, IsCaused, IsComplete, IsMeant, IsMeantTo, asks_for_input};
-ghost use Rattle.nk.specs.Ends.{LeavesAlone, TellsFaults};
-ghost use Rattle.nk.specs.Reply.{answer_in, said, IsReplyTo};
+ghost use Rattle.nk.specs.Answer.{IsOutcome, reads, reads_in_pieces, IsReplyTo};
+ghost use Rattle.nk_reply.specs.Use.{use_of};
+ghost use Rattle.nk.specs.Ends.{Ends, IsCaused, IsComplete, IsMeant, IsMeantTo, asks_for_input, TellsFaults};
+ghost use Rattle.nk_reply.specs.Sent.{LeavesAlone};
+ghost use Rattle.nk_reply.specs.Reply.{answer_in, said};
 ghost use Rattle.nk.specs.Succeeding.{Succeeds};
 
-use crate::Status;
-use crate::asking::{apart_query, ask_answer, waypoint_query};
-use crate::checking::check_reply;
-use crate::compacting::compact_answer;
-use crate::comparing::equal_answer;
-use crate::compiling::compile_answer;
-use crate::flying::fly_reply;
 use crate::generating::{gen_answer, job_answer};
-use crate::judging::{check_apart_reply, check_waypoint_reply};
-use crate::reply::{Reply, Said, deliver};
-use crate::tracing::trace_reply;
-use crate::updating::update_answer;
-use crate::virtualizing::virtual_answer;
+use nk_comparing::{apart_query, ask_answer, check_apart_reply, check_reply, check_waypoint_reply};
+use nk_comparing::{equal_answer, waypoint_query};
+use nk_compiling::{compact_answer, compile_answer, update_answer, virtual_answer};
+use nk_following::{fly_reply, trace_reply};
 use nk_io::{LONGEST, Sink, Source, read_all};
+use nk_reply::{Reply, Said, Status, deliver};
 use nk_words::{Command, WordsError, read_words};
 use std::alloc::{AllocError, Global};
 

@@ -12,12 +12,13 @@ use Rattle.nk_words.specs.declared.words.Command.TheVariants.{Apart, Waypoint, C
 use Rattle.nk_gen.specs.Text.{generated}
 use Rattle.nk_uniqueness.specs.Texts.{TextsHavePackets}
 use Rattle.nk_uniqueness.proofs.Comparing.{OnePrinted, OneFinding}
-use Rattle.nk.specs.Answer.{Answer, IsAnswerTo, IsOutcome, IsOutcomeOf, answer_of, limit, reads, too_long}
+use Rattle.nk_reply.specs.Answer.{Answer, answer_of, limit, too_long}
+use Rattle.nk.specs.Answer.{IsAnswerTo, IsOutcome, IsOutcomeOf, reads}
 use Rattle.nk.specs.Ends.{IsFixedBy}
-use Rattle.nk.specs.Flying.{ToFlown}
-use Rattle.nk.specs.Outcome.{Outcome}
-use Rattle.nk.specs.Tracing.{ToLocated}
-use Rattle.nk.specs.Use.{Use}
+use Rattle.nk_following.specs.Flying.{ToFlown}
+use Rattle.nk_reply.specs.Outcome.{Outcome}
+use Rattle.nk_following.specs.Tracing.{ToLocated}
+use Rattle.nk_reply.specs.Use.{Use}
 use Rattle.nk_one_answer.proofs.Following.{OneTrace, by_tables, one_located, one_flown}
 use Rattle.nk_one_answer.proofs.OneJob.{one_job}
 use Rattle.nk_one_answer.proofs.Compacting.{one_compacting}

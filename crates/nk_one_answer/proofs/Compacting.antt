@@ -4,10 +4,10 @@ use Rattle.nk_names.proofs.Alike.{fields_alike}
 use Rattle.nk_compile.proofs.CompactReasons.{never_refused_compact, one_compact_refusal}
 use Rattle.nk_uniqueness.specs.Texts.{TextsHavePackets}
 use Rattle.nk_uniqueness.proofs.OneCompact.{one_compacted}
-use Rattle.nk.specs.Compacting.{IsCompactPrinted, IsCompactRefusal, IsCompactAnswer, compact_bytes}
-use Rattle.nk.specs.Messages.{refusal_line}
-use Rattle.nk.specs.Outcome.{Outcome, done, differs, text_refused, policy_refused}
-use Rattle.nk.specs.ProgramText.{HasFault}
+use Rattle.nk_compiling.specs.Compacting.{IsCompactPrinted, IsCompactRefusal, IsCompactAnswer, compact_bytes}
+use Rattle.nk_compiling.specs.Messages.{refusal_line}
+use Rattle.nk_reply.specs.Outcome.{Outcome, done, differs, text_refused, policy_refused}
+use Rattle.nk_input.specs.ProgramText.{HasFault}
 use Rattle.nk.proofs.OneText.{no_fault, one_fault}
 use Rattle.nk_one_answer.proofs.Named.{Declared, alike, packets_of}
 use Rattle.nk_one_answer.proofs.Outcomes.{AreApart, IsKind, one_kind}

@@ -21,16 +21,17 @@ use Rattle.nk_uniqueness.proofs.Asking.{one_cause, one_told_of_named, one_found_
 use Rattle.nk_compile.proofs.ReasonByName.{never_refused, one_refusal}
 use Rattle.nk_uniqueness.proofs.ByName.{one_compiled}
 use Rattle.nk_uniqueness.proofs.Comparing.{OnePrinted, OneFinding, one_told_for, none_told, one_found_for, none_found}
-use Rattle.nk.specs.Asking.{IsHeldQuery, IsBroken, LacksQuestion, IsAskAnswer, broken_lines}
-use Rattle.nk.specs.CertifiedText.{HoldsCertificate, HasCertifiedFault}
-use Rattle.nk.specs.Checking.{IsValid, IsInvalid, IsFound, IsCheckAnswer, invalid_line}
-use Rattle.nk.specs.Comparing.{IsSame, IsDifference, LacksPolicy, IsEqualAnswer, difference_lines}
-use Rattle.nk.specs.Compiling.{IsCompiledText, IsRefusal, IsCompileAnswer}
-use Rattle.nk.specs.Judging.{IsValidFor, IsInvalidFor, IsJudgeAnswer}
-use Rattle.nk.specs.Judging.{IsFoundForAsked}
-use Rattle.nk.specs.Messages.{TellsQuery, refusal_line}
-use Rattle.nk.specs.Outcome.{Outcome, done, differs, text_refused, policy_refused}
-use Rattle.nk.specs.ProgramText.{Declares, HasFault}
+use Rattle.nk_comparing.specs.Asking.{IsHeldQuery, IsBroken, LacksQuestion, IsAskAnswer, broken_lines}
+use Rattle.nk_comparing.specs.CertifiedText.{HoldsCertificate, HasCertifiedFault}
+use Rattle.nk_comparing.specs.Checking.{IsValid, IsInvalid, IsFound, IsCheckAnswer, invalid_line}
+use Rattle.nk_comparing.specs.Comparing.{IsSame, IsDifference, LacksPolicy, IsEqualAnswer, difference_lines}
+use Rattle.nk_compiling.specs.Compiling.{IsCompiledText, IsRefusal, IsCompileAnswer}
+use Rattle.nk_comparing.specs.Judging.{IsValidFor, IsInvalidFor, IsJudgeAnswer}
+use Rattle.nk_comparing.specs.Judging.{IsFoundForAsked}
+use Rattle.nk_comparing.specs.Messages.{TellsQuery}
+use Rattle.nk_compiling.specs.Messages.{refusal_line}
+use Rattle.nk_reply.specs.Outcome.{Outcome, done, differs, text_refused, policy_refused}
+use Rattle.nk_input.specs.ProgramText.{Declares, HasFault}
 use Rattle.nk.proofs.Alike.{never_caused}
 use Rattle.nk.proofs.OneText.{declares_once, holds_once, certificate_once, no_fault, no_certified_fault, one_fault, one_certified_fault}
 use Rattle.nk_one_answer.proofs.Outcomes.{AreApart, IsKind, one_kind}

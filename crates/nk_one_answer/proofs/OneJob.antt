@@ -15,10 +15,10 @@ use Rattle.nk_names.proofs.Alike.{fields_alike, topo_alike, one_policy}
 use Rattle.nk_uniqueness.proofs.ByName.{one_compiled}
 use Rattle.nk_uniqueness.proofs.Comparing.{OnePrinted, one_told_for}
 use Rattle.nk_compile.proofs.OneTagList.{one_tag_list}
-use Rattle.nk.specs.Comparing.{IsEqualAnswer}
-use Rattle.nk.specs.Compiling.{IsCompileAnswer}
+use Rattle.nk_comparing.specs.Comparing.{IsEqualAnswer}
+use Rattle.nk_compiling.specs.Compiling.{IsCompileAnswer}
 use Rattle.nk.specs.Generating.{CountsTables, CountsRows, IsCounted, IsJobOver, IsNotDone, OrThen, tables_line, rows_line}
-use Rattle.nk.specs.Outcome.{Outcome, done}
+use Rattle.nk_reply.specs.Outcome.{Outcome, done}
 use Rattle.nk.proofs.OneText.{declares_once}
 use Rattle.nk_one_answer.proofs.Named.{packets_of, table_of, one_compile, one_equal}
 

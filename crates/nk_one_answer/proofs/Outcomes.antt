@@ -1,6 +1,6 @@
 -- Of four kinds of answer, each with at most one text and no two at once, there is one.
 use Rattle.std.proofs.Common.{◌≡◌, ℕ, List, ap}
-use Rattle.nk.specs.Outcome.{Outcome, done, differs, text_refused, policy_refused}
+use Rattle.nk_reply.specs.Outcome.{Outcome, done, differs, text_refused, policy_refused}
 
 -- at most one text is so
 abbrev pub Once : (List ℕ → Type 0) → Type 0

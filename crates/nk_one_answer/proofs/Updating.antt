@@ -11,11 +11,11 @@ use Rattle.nk_compile.specs.declared.pair.TablePair.{TablePair}
 use Rattle.nk_compile.proofs.PairReasonByName.{one_pair_refusal}
 use Rattle.nk_uniqueness.specs.Texts.{TextsHavePackets}
 use Rattle.nk_uniqueness.proofs.Pairs.{never_both, one_pair}
-use Rattle.nk.specs.Following.{ToPacket}
-use Rattle.nk.specs.Messages.{refusal_line}
-use Rattle.nk.specs.Outcome.{Outcome, done, differs, text_refused, policy_refused}
-use Rattle.nk.specs.ProgramText.{Declares, HasFault}
-use Rattle.nk.specs.Updating.{ToTurned, ToPair, IsPlannedAnswer, IsPairRefusal, IsUpdateAnswer, plan_for}
+use Rattle.nk_following.specs.Following.{ToPacket}
+use Rattle.nk_compiling.specs.Messages.{refusal_line}
+use Rattle.nk_reply.specs.Outcome.{Outcome, done, differs, text_refused, policy_refused}
+use Rattle.nk_input.specs.ProgramText.{Declares, HasFault}
+use Rattle.nk_compiling.specs.Updating.{ToTurned, ToPair, IsPlannedAnswer, IsPairRefusal, IsUpdateAnswer, plan_for}
 use Rattle.nk.proofs.OneText.{declares_once, no_fault, one_fault}
 use Rattle.nk_one_answer.proofs.Following.{by_packet}
 use Rattle.nk_one_answer.proofs.Named.{packets_of}

@@ -2,9 +2,10 @@
 ghost use Rattle.std.specs.Prelude.{◌≡◌, ℕ, List, Option, Some};
 ghost use Rattle.nk_words.specs.Words.{command_of};
 ghost use Rattle.nk_words.specs.declared.words.Command.{Command};
-ghost use Rattle.nk.specs.Answer.{Answer, IsAnswerTo};
+ghost use Rattle.nk_reply.specs.Answer.{Answer};
+ghost use Rattle.nk.specs.Answer.{IsAnswerTo};
 ghost use Rattle.nk.specs.Ends.{IsFixedBy};
-ghost use Rattle.nk.specs.Use.{Use};
+ghost use Rattle.nk_reply.specs.Use.{Use};
 
 use nk_cert::laws::{one_certificate_is_printed, one_thing_is_found};
 use nk_grammar::fields_of_texts_have_names;

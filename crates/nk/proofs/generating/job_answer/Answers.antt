@@ -1,6 +1,6 @@
 use Rattle.std.proofs.Common.{IfOk, List, ℕ, subst}
 use Rattle.nk.specs.Generating.{IsJobOver}
-use Rattle.nk.specs.Reply.{said}
+use Rattle.nk_reply.specs.Reply.{said}
 use Rattle.nk.proofs.generating.job_answer.Goals as goal
 
 pub returns : goal.returns

@@ -1,11 +1,11 @@
 use Rattle.std.proofs.Common.{rules, ◌≡◌, ◌++◌, subst}
 use Rattle.std.specs.Prelude.{codes}
 use Rattle.nk_names.specs.ProgramOf.{said_by}
-use Rattle.nk.specs.Comparing.{ToCompared}
-use Rattle.nk.specs.Compiling.{ToProgram}
+use Rattle.nk_comparing.specs.Comparing.{ToCompared}
+use Rattle.nk_compiling.specs.Compiling.{ToProgram}
 use Rattle.nk.specs.Generating.{CountsRows, CountsTables}
 use Rattle.nk.specs.JobSteps.{IsJobStep}
-use Rattle.nk.specs.Reply.{said}
+use Rattle.nk_reply.specs.Reply.{said}
 use Rattle.nk.proofs.Jobs.{all_counted, ends_second, ends_third}
 use Rattle.nk.proofs.generating.job_of_program.Goals as goal
 

@@ -1,6 +1,6 @@
 use Rattle.std.proofs.Common.{subst}
 use Rattle.std.proofs.lemmas.Result.{IfOk-weaker}
-use Rattle.nk.specs.ReadText.{IsOfBytes, IsReadOf}
+use Rattle.nk_input.specs.ReadText.{IsOfBytes, IsReadOf}
 use Rattle.nk.proofs.generating.job_over.Goals as goal
 
 -- the text declares the program

@@ -1,7 +1,7 @@
 use Rattle.std.proofs.Common.{IfOk, subst, sym}
 use Rattle.nk_words.specs.declared.words.Command.{Command}
 use Rattle.nk.specs.Answer.{IsOutcome}
-use Rattle.nk.specs.Reply.{said}
+use Rattle.nk_reply.specs.Reply.{said}
 use Rattle.nk.proofs.top.perform.Goals as goal
 
 pub returns-in-Job : goal.returns-in-Job

@@ -1,9 +1,0 @@
-use Rattle.nk.proofs.Meant.{whole_meant}
-use Rattle.nk.proofs.following.follow_word.Goals as goal
-
--- all of the source was read
-pub returns-in-Ok-read_pieces : goal.returns-in-Ok-read_pieces
-returns-in-Ok-read_pieces g c = λ k is h.
-    let read = c.in-Ok-read_pieces.ensures.lexed in
-    whole_meant _ k read.bytes _ is read.left read.fits read.read read.end c.in-Ok-read_pieces.ensures.cause
-    (c.reply_to_text.ensures k read.bytes read.lexed (h read.bytes))

@@ -1,0 +1,70 @@
+//! The answer of `virtual NAME`.
+ghost use Rattle.std.specs.Prelude.{IfOk};
+ghost use Rattle.nk_policy.specs.Tree.{tree_of};
+ghost use Rattle.nk_names.specs.ProgramOf.{said_by};
+ghost use Rattle.nk_names.specs.ProgramValue.{IsProgram};
+ghost use Rattle.nk_virtual.specs.Answers.{IsPhysical};
+ghost use Rattle.nk_input.specs.Declarable.{CanBeDeclared};
+ghost use Rattle.nk_reply.specs.Reply.{said};
+ghost use Rattle.nk_compiling.specs.Virtualizing.{IsVirtualizeAnswer, ToVirtual};
+
+use crate::laws::{policies_tables_are_in_order, policies_tables_are_printable};
+use crate::messages::{refusal_message, unphysical_message};
+use nk_compile::{CompileError, compile_policy};
+use nk_input::{ReadText, read_program};
+use nk_names::Program;
+use nk_policy::Pol;
+use nk_reply::Said;
+use nk_tabtext::{printed_tables_are_read, table_text};
+use nk_virtual::{VirtualError, physical};
+use std::alloc::{AllocError, Global};
+
+/// What virtualizing the policy of this name answers, over the bytes of a text.
+pub fn virtual_answer(alloc: Global, name: &str, bytes: Vec<u8>) -> Result<Said, AllocError>
+    ensures { IfOk result (λ s. IsVirtualizeAnswer name.now bytes.items (said s)) }
+{
+    match read_program(alloc, bytes)? {
+        ReadText::Program(program) => answer_to_program(alloc, name, &program),
+        ReadText::Fault(line) => Ok(Said::Text(line)),
+    }
+}
+
+/// The same over a program.
+fn answer_to_program(alloc: Global, name: &str, program: &Program) -> Result<Said, AllocError>
+    requires is { IsProgram program.now.fields program.now.topo program.now.lets }
+    requires declared { CanBeDeclared (said_by program.now) }
+    ensures { IfOk result (λ s. ToVirtual (said_by program.now) name.now (said s)) }
+{
+    match physical(alloc, program, name) {
+        Ok(policy) => answer_to_physical(alloc, name, program, &policy),
+        Err(VirtualError::Refused(reason)) => {
+            Ok(Said::Refused(unphysical_message(alloc, &program.fields, &reason)?))
+        }
+        Err(VirtualError::NoMemory) => Err(AllocError),
+    }
+}
+
+/// The same where this is the physical policy of the name.
+fn answer_to_physical(
+    alloc: Global,
+    name: &str,
+    program: &Program,
+    policy: &Pol,
+) -> Result<Said, AllocError>
+    requires is { IsProgram program.now.fields program.now.topo program.now.lets }
+    requires declared { CanBeDeclared (said_by program.now) }
+    requires physical { IsPhysical program.now name.now (tree_of policy.now) }
+    ensures { IfOk result (λ s. ToVirtual (said_by program.now) name.now (said s)) }
+{
+    // These are laws: what is compiled is in order, and such as is read back, and that is read back.
+    policies_tables_are_in_order();
+    policies_tables_are_printable();
+    printed_tables_are_read();
+    match compile_policy(alloc, program, policy) {
+        Ok(tables) => Ok(Said::Done(table_text(alloc, &tables)?)),
+        Err(CompileError::Refused(reason)) => {
+            Ok(Said::Refused(refusal_message(alloc, &program.fields, &reason)?))
+        }
+        Err(CompileError::NoMemory) => Err(AllocError),
+    }
+}

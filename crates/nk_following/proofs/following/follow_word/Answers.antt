@@ -1,0 +1,9 @@
+use Rattle.nk_reply.proofs.Meant.{whole_meant}
+use Rattle.nk_following.proofs.following.follow_word.Goals as goal
+
+-- all of the source was read
+pub returns-in-Ok-read_pieces : goal.returns-in-Ok-read_pieces
+returns-in-Ok-read_pieces g c =
+    let read = c.in-Ok-read_pieces.ensures.lexed in
+    whole_meant _ _ read.bytes _ read.left read.fits read.read read.end c.in-Ok-read_pieces.ensures.cause
+    (c.reply_to_text.ensures read.bytes read.lexed)

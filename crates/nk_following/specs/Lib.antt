@@ -1,0 +1,3 @@
+pub mod Flying
+pub mod Following
+pub mod Tracing

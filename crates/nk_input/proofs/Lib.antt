@@ -1,0 +1,4 @@
+pub mod Cuts
+pub mod Declared
+pub mod SoFar
+pub mod TakenTexts

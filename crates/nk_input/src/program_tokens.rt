@@ -1,0 +1,76 @@
+//! The program of a text whose tokens are taken one by one.
+ghost use Rattle.std.specs.Prelude.{◌≡◌, ◌++◌, ◌∷◌, [], List, IfOk, OnOk};
+ghost use Rattle.nk_lex.specs.declared.token.Token.{Token};
+ghost use Rattle.nk_grammar.specs.File.{Declaration};
+ghost use Rattle.nk_grammar.specs.FileReader.{declaration_done};
+ghost use Rattle.nk_names.specs.Declaring.{IsDeclared};
+ghost use Rattle.nk_input.specs.ProgramTokens.{AreTaken};
+
+use nk_grammar::{Decl, TextReader};
+use nk_lex::Token;
+use nk_names::ProgramReader;
+use std::alloc::{AllocError, Global};
+
+/// What the tokens of a program's text say so far. Each declaration goes to the program with the token that completes it, and neither
+/// tokens nor declarations are kept.
+pub struct ProgramTokens {
+    pub(crate) grammar: TextReader,
+    pub(crate) program: ProgramReader,
+}
+
+impl ProgramTokens {
+    /// The two readers.
+    pub(crate) fn into_readers(self) -> (TextReader, ProgramReader)
+        ensures { result ≡ (self.grammar, self.program) }
+    {
+        let Self { grammar, program } = self;
+        (grammar, program)
+    }
+}
+
+impl Drop for ProgramTokens {
+    fn drop(self) {
+        let Self {
+            grammar: _,
+            program: _,
+        } = self;
+    }
+}
+
+/// Declares what a token, or the end of the text, completes, if it does.
+pub(crate) fn declare_done(
+    alloc: Global,
+    program: &mut ProgramReader,
+    done: Option<Decl>,
+) -> Result<(), AllocError>
+    ensures { (ds : List Declaration) → IsDeclared ds program.old
+        → OnOk result (IsDeclared (ds ++ declaration_done done) program.new) }
+{
+    match done {
+        Some(decl) => program.declare(alloc, &decl),
+        None => Ok(()),
+    }
+}
+
+impl ProgramTokens {
+    /// Before the first token.
+    pub(crate) fn new(alloc: Global) -> Result<ProgramTokens, AllocError>
+        ensures { IfOk result (AreTaken []) }
+    {
+        Ok(ProgramTokens {
+            grammar: TextReader::new(alloc),
+            program: ProgramReader::new(alloc)?,
+        })
+    }
+
+    /// One more token. A fault of the tokens is no error here.
+    pub(crate) fn take_token(&mut self, alloc: Global, token: &Token) -> Result<(), AllocError>
+        ensures { (ts : List Token) → AreTaken ts self.old → OnOk result (AreTaken (ts ++ token.now ∷ []) self.new) }
+    {
+        let done = self.grammar.take(alloc, token)?;
+        match done {
+            Some(decl) => self.program.declare(alloc, &decl),
+            None => Ok(()),
+        }
+    }
+}

@@ -1,0 +1,9 @@
+//! What a run answers, how its answer is written, and how it ends.
+#![tactic(auto)]
+
+pub mod messages;
+mod reply;
+mod status;
+
+pub use reply::{Reply, Said, deliver};
+pub use status::Status;
