@@ -7,6 +7,7 @@ use Rattle.nk_cert.specs.declared.certificate.Verdict.{Verdict}
 use Rattle.nk_cert.specs.declared.error.CheckError.{CheckError}
 use Rattle.nk_cert.specs.declared.error.CheckError.TheVariants.{NoMemory, NoPolicy}
 use Rattle.nk_cert.specs.Certificates.{CertificateValue}
+use Rattle.nk_cert.specs.Equality.{AreSame}
 use Rattle.nk_cert.specs.Verdicts.{IsFinding}
 use Rattle.nk_cert.specs.Values.{finding_of}
 
@@ -17,3 +18,8 @@ IsChecked program left right c (Ok v) =
     (p : Policy) × (q : Policy) × (policy_named program left ≡ Some p) × (policy_named program right ≡ Some q) × IsFinding program.fields p (marked_from q (1 + dups_of p)) c (finding_of v)
 IsChecked program left right c (Err NoMemory) = ⊤
 IsChecked program left right c (Err NoPolicy) = (policy_named program left ≡ None) ⊎ (policy_named program right ≡ None)
+
+-- the policies of both names give the same histories on every packet in range
+abbrev pub NamesAreSame : Program → List ℕ → List ℕ → Type 0
+NamesAreSame program left right =
+    (p q : Policy) → policy_named program left ≡ Some p → policy_named program right ≡ Some q → AreSame program.fields p q
