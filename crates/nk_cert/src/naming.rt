@@ -7,7 +7,7 @@ ghost use Rattle.nk_names.specs.Complements.{NegatesPredicates};
 ghost use Rattle.nk_cert.specs.Equality.{AreSame};
 ghost use Rattle.nk_cert.specs.Verdicts.{HasPredicates, IsFinding, valid};
 ghost use Rattle.nk_cert.specs.Values.{certificate_value, finding_of};
-ghost use Rattle.nk_cert.specs.Answers.{IsChecked, NamesAreSame};
+ghost use Rattle.nk_cert.specs.Answers.{IsChecked};
 ghost use Rattle.nk_cert.specs.Written.{IsNameUnknown, AreWrittenTogether};
 
 use crate::certificate::{Certificate, Verdict};
@@ -36,7 +36,6 @@ pub fn check(
 ) -> Result<Verdict, CheckError>
     requires { HasPredicates (certificate_value certificate.now) }
     ensures { IsChecked program.now left.now right.now (certificate_value certificate.now) result }
-    ensures same { IfOk result (λ v. finding_of v ≡ valid → NamesAreSame program.now left.now right.now) }
 {
     match both_written(alloc, program, left, right)? {
         None => Err(CheckError::NoPolicy),
@@ -57,7 +56,6 @@ pub fn check_owned(
 ) -> Result<Verdict, CheckError>
     requires { HasPredicates (certificate_value certificate.now) }
     ensures { IsChecked program left.now right.now (certificate_value certificate.now) result }
-    ensures same { IfOk result (λ v. finding_of v ≡ valid → NamesAreSame program left.now right.now) }
 {
     match both_written(alloc, &program, left, right)? {
         None => Err(CheckError::NoPolicy),
@@ -108,7 +106,7 @@ fn check_both(
     requires right_complements { NegatesPredicates (tree_of q) }
     requires right_over { IsOverFields fields.now (tree_of q) }
     requires predicates { HasPredicates (certificate_value certificate.now) }
-    ensures { IfOk result (λ v. IsFinding fields.now (tree_of p) (tree_of q) (certificate_value certificate.now) (finding_of v)) }
+    ensures found { IfOk result (λ v. IsFinding fields.now (tree_of p) (tree_of q) (certificate_value certificate.now) (finding_of v)) }
     ensures same { IfOk result (λ v. finding_of v ≡ valid → AreSame fields.now (tree_of p) (tree_of q)) }
 {
     // This is a law: policies with a certificate give the same histories.
