@@ -9,8 +9,10 @@ ghost use Rattle.nk_reply.specs.Reply.{answer_in, said};
 ghost use Rattle.nk.specs.Succeeding.{Succeeds};
 
 use crate::generating::{gen_answer, job_answer};
-use nk_comparing::{apart_query, ask_answer, check_apart_reply, check_reply, check_waypoint_reply};
-use nk_comparing::{equal_answer, waypoint_query};
+use nk_comparing::{
+    apart_query, ask_answer, check_apart_reply, check_reply, check_waypoint_reply, equal_answer,
+    waypoint_query,
+};
 use nk_compiling::{compact_answer, compile_answer, update_answer, virtual_answer};
 use nk_following::{fly_reply, trace_reply};
 use nk_io::{LONGEST, Sink, Source, read_all};

@@ -44,12 +44,7 @@ impl<'a> Judge for NamedPair<'a> {
 
 /// What checking a certificate means to say, over a source that gives a text with one: what is found of it, for the policies of these
 /// names.
-pub fn check_reply<S: Source>(
-    alloc: Global,
-    left: &str,
-    right: &str,
-    source: &mut S,
-) -> Reply
+pub fn check_reply<S: Source>(alloc: Global, left: &str, right: &str, source: &mut S) -> Reply
     ensures { IsMeantBy (IsCheckAnswer left.now right.now)
         (use_of S.left S.faults source.old source.new) (answer_in result) }
 {

@@ -13,8 +13,9 @@ ghost use Rattle.nk_following.specs.Following.{ToPacket, ToTables, counts_line, 
 
 use itoa::Buffer;
 use nk_field::{Fields, History, Packet, PacketError, history_text, read_packet};
-use nk_input::{Lexed, read_pieces, text_fault};
+use nk_input::{Lexed, TokenReader, read_pieces, text_fault};
 use nk_io::Source;
+use nk_lex::Token;
 use nk_reply::{Reply, Said};
 use nk_sim::is_located;
 use nk_table::Tables;
@@ -33,6 +34,22 @@ pub trait Follow {
         ensures { IfOk result (λ s. tells self.now t.now packet.now (said s)) };
 }
 
+/// A table text whose tokens are taken one by one.
+#[derive(Drop)]
+struct TableTokens {
+    reader: TableReader,
+}
+
+impl TokenReader for TableTokens {
+    ghost use Rattle.nk_tabtext.specs.Progress.{IsTaken};
+
+    ghost has_taken = { λ text tokens. IsTaken tokens text.reader };
+
+    fn take(&mut self, alloc: Global, token: &Token) -> Result<(), AllocError> {
+        self.reader.take(alloc, token)
+    }
+}
+
 /// What following a packet means to say, over a source that gives a table text, whose tokens are taken as they come. The packet
 /// is that of a word as `sw=1,pt=2,dst=3`.
 pub fn follow_word<S: Source, F: Follow>(
@@ -44,12 +61,12 @@ pub fn follow_word<S: Source, F: Follow>(
     ensures { IsMeantBy (λ bytes. ToTables (F.tells how.now) (tables_of bytes) word.now)
         (use_of S.left S.faults source.old source.new) (answer_in result) }
 {
-    let mut reader = match TableReader::new(alloc) {
-        Ok(reader) => reader,
+    let mut tokens = match TableReader::new(alloc) {
+        Ok(reader) => TableTokens { reader },
         Err(_) => return Reply::NoMemory,
     };
-    match read_pieces(alloc, source, &mut reader) {
-        Ok(lexed) => reply_to_text(alloc, how, word, lexed, reader),
+    match read_pieces(alloc, source, &mut tokens) {
+        Ok(lexed) => reply_to_text(alloc, how, word, lexed, tokens.reader),
         Err(error) => Reply::unread(error),
     }
 }

@@ -11,7 +11,6 @@ ghost use Rattle.nk_input.specs.Pieces.{IsLexedAs, IsLexedOf};
 use crate::program_tokens::ProgramTokens;
 use nk_io::{PieceError, ReadError, Source, Taken, next_piece};
 use nk_lex::{Feed, LexError, Token};
-use nk_tabtext::TableReader;
 use std::alloc::{AllocError, Global};
 
 /// How many bytes are asked for in one call.
@@ -29,16 +28,6 @@ pub trait TokenReader {
     fn take(&mut self, alloc: Global, token: &Token) -> Result<(), AllocError>
         ensures { (tokens : List Token) → has_taken self.old tokens
             → OnOk result (has_taken self.new (tokens ++ token.now ∷ [])) };
-}
-
-impl TokenReader for TableReader {
-    ghost use Rattle.nk_tabtext.specs.Progress.{IsTaken};
-
-    ghost has_taken = { λ reader tokens. IsTaken tokens reader };
-
-    fn take(&mut self, alloc: Global, token: &Token) -> Result<(), AllocError> {
-        self.take(alloc, token)
-    }
 }
 
 impl TokenReader for ProgramTokens {

@@ -21,7 +21,8 @@ pub struct ProgramTokens {
 impl ProgramTokens {
     /// The two readers.
     pub(crate) fn into_readers(self) -> (TextReader, ProgramReader)
-        ensures { result ≡ (self.grammar, self.program) }
+        ensures grammar { result.0 ≡ self.grammar }
+        ensures program { result.1 ≡ self.program }
     {
         let Self { grammar, program } = self;
         (grammar, program)
