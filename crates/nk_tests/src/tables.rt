@@ -72,11 +72,7 @@ fn leaves_there(alloc: Global, tables: &Tables) -> Result<bool, AllocError> {
 /// Whether all of it holds of the tables.
 fn do_as_written(alloc: Global) -> Result<bool, Fail> {
     let tables = copied(alloc)?;
-    Ok(
-        the_highest_acts(&tables)
-            && sends_on(alloc, &tables)?
-            && leaves_there(alloc, &tables)?,
-    )
+    Ok(the_highest_acts(&tables) && sends_on(alloc, &tables)? && leaves_there(alloc, &tables)?)
 }
 
 #[test]

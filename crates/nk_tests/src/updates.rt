@@ -9,8 +9,7 @@ use std::alloc::{AllocError, Global};
 use std::test::Fail;
 
 /// The old policy and the new one.
-const PAIR: &[u8] =
-    b"field vlan 1 tag vlan switch 1 ports 1,2 switch 2 ports 1,2 link 1:2 -> 2:1\n\
+const PAIR: &[u8] = b"field vlan 1 tag vlan switch 1 ports 1,2 switch 2 ports 1,2 link 1:2 -> 2:1\n\
 let old = sw=1;pt=1;pt:=2;1:2=>2:1;pt:=2 let new = sw=1;pt=1";
 
 /// The packet that comes in.

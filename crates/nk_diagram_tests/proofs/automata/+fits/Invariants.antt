@@ -2,7 +2,7 @@ use Rattle.std.proofs.Common.{drop}
 use Rattle.nk_policy.specs.Tree.{trees_of}
 use Rattle.nk_auto.specs.Continued.{AreFit}
 use Rattle.nk_deriv.specs.Part.{AllNegatePredicates}
-use Rattle.nk_level_tests.proofs.automata.+fits.Given as goal
+use Rattle.nk_diagram_tests.proofs.automata.+fits.Given as goal
 
 -- where that holds of the parts that are left, it holds of all
 abbrev pub invariant-all_fit-loop-q : goal.invariant-all_fit-loop-q
