@@ -6,6 +6,7 @@ tell the values of an interval apart, and none assigns one but the value of an i
 """
 
 from itertools import product
+from math import prod
 
 from texts import DROP, ID
 
@@ -25,18 +26,27 @@ def mentioned(policy):
     return [it for part in parts for it in mentioned(part)]
 
 
-class Space:
-    """The packets over the fields of a program, as far as some policies, the ports and the tag 0 can tell them apart."""
+class TooLarge(Exception):
+    """There are more packets, copies or elements than this reference goes through."""
 
-    def __init__(self, program, policies=(), values=()):
+
+MOST = 4_000
+
+
+class Space:
+    """The packets over the fields of a program, as far as these policies, values and, if asked for, ports tell them apart."""
+
+    def __init__(self, program, policies=(), with_ports=False):
         self.program, self.fields = program, program.fields
         cuts = [{0, largest + 1} for _, largest in self.fields]
-        spoken = [(0, s, s) for s in program.switches] + [(1, p, p) for ports in program.switches.values() for p in ports]
-        spoken += [] if program.tag is None else [(program.tag, 0, 0)]
-        spoken += [it for policy in policies for it in mentioned(policy)] + list(values)
+        spoken = [it for policy in policies for it in mentioned(policy)]
+        for place in places(program) if with_ports else ():
+            spoken += [(f, n, n) for f, n in place.items()]
         for f, low, high in spoken:
             cuts[f] |= {cut for cut in (low, high + 1) if cut <= self.fields[f][1]}
         self.intervals = [[(low, high - 1) for low, high in zip(sorted(it), sorted(it)[1:])] for it in cuts]
+        if prod(len(it) for it in self.intervals) > MOST:
+            raise TooLarge
 
     def packets(self, fixed=None):
         """All packets, or those with fixed values of some fields, in the order of packets: by fields in order."""
@@ -268,9 +278,8 @@ class Runs:
 # --------------------------------------------------------------------------------------------------- answers on policies
 
 
-def first_difference(space, left, right, first=START, runs=None):
+def first_difference(space, runs, first=START):
     """README: the least history that one of both alone has: (0 or 1 for the side, start, records, last), or None."""
-    runs = runs or Runs(left, right)
     found = runs.least(space.packets(), lambda at, x: runs.ends(at, x, 0) ^ runs.ends(at, x, 1), first)
     if not found:
         return None
@@ -340,7 +349,7 @@ def uncarried(program, source):
     """Of a virtual link: ("C11", start, records, last), ("C12", start), or None where its fabric carries it."""
     switch, port, name = program.virtuals[source]
     fabric = program.fabrics[name]
-    space, runs = Space(program, [fabric], [(0, switch, switch), (1, port, port)]), Runs(fabric)
+    space, runs = Space(program, [fabric], with_ports=True), Runs(fabric)
     starts = space.packets({0: source[0], 1: source[1], program.tag: 0})
     for x in starts:
         moved = (switch, port, *x[2:])
@@ -381,7 +390,7 @@ def classes(space, policy, sets):
         told = {}
         for number, first in enumerate(found):
             both = frozenset(behind[first]) | {runs.split + label for label in behind[place]}
-            told[number] = first_difference(space, None, None, both, runs)
+            told[number] = first_difference(space, runs, both)
         same = next((number for number, it in told.items() if it is None), len(found))
         numbers.append(same + 1)
         if same == len(found):
