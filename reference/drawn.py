@@ -126,7 +126,9 @@ class Draw:
         return self.random.choice(forms).format(text, self.predicate(1))
 
     def shape(self, lines):
-        """The lines with white space and comments of all kinds between them."""
+        """The lines with white space and comments of all kinds between them, and now and then between all lexemes."""
+        if self.chance(0.3):
+            lines = [re.sub(" |(?<=[,:;=])(?![>=])", lambda it: self.one("\n", it[0], it[0]), line) for line in lines]
         return "".join(line + self.random.choice(COMMENTS if self.chance(0.3) else ["\n"]) for line in lines)
 
     def declarations(self, tagged=0.97):
@@ -209,7 +211,7 @@ def worded(draw):
     names = "compile equal check apart waypoint check_apart check_waypoint trace fly update compact virtual gen job".split()
     words = [draw.random.choice([*names, *names, "help", "", "Compile", "gen ", "--help", "--"])]
     numbers = ["1", "0", "7", "00", "65535", "65536", "2147483646", "2147483647", "1000000", "1000001", "-1", "+1", "1.", "", "1 "]
-    others = ["p", "q", "x", "sw=1,pt=1", "-p", "--", "-", "", "--p", "a"]
+    others = ["p", "q", "x", "sw=1,pt=1", "-p", "--", "-", "", "--p", "\udcff"]
     count = {"compile": 1, "compact": 1, "virtual": 1, "update": 5, "waypoint": 4, "check_waypoint": 4, "gen": 2, "job": 2}
     numbered = {"trace": (1,), "fly": (1, 2), "update": (3, 4), "gen": (1, 2), "job": (1, 2)}.get(words[0], ())
     wanted = count.get(words[0], 3 if words[0] in ("apart", "check_apart", "fly") else 2)
@@ -333,7 +335,7 @@ def damaged(draw):
 PIECES = "field tag switch ports link let certificate row start id drop dup tables table group out in virtual fabric by".split()
 PIECES += "+ ; * ~ ( ) = := => -> : , [ ] .. / . - @ ! x p sw pt vlan dst 1 2 é \x00 # \n ~~ (( ~p".split(" ")
 LINES = ["field dst 1", "field vlan 3", "field sw 1", "tag vlan", "tag dst", "tag pt", "switch 1 ports 1", "switch 4 ports 1,2,1"]
-LINES += ["switch 65536 ports 1", "switch 5 ports 65536", "link 1:1 -> 1:1", "link 1:1 -> 2:1", "link 7:1 -> 1:1", "link 1:2 -> 1:9"]
+LINES += ["switch 6 ports 2,2,65536", "switch 1 ports 65536", "switch 65536 ports 1", "switch 5 ports 65536", "link 1:1 -> 1:1", "link 1:1 -> 2:1", "link 7:1 -> 1:1", "link 1:2 -> 1:9"]
 LINES += ["let p = id", "let z = zz", "let z = p;~p", "let z = ~(dup + ~dup)", "let z = nofield=1", "let z = 1:1=>1:65536"]
 LINES += ["fabric f = p", "fabric f = f", "virtual 1:1 -> 1:2 by f", "virtual 1:1 -> 1:1 by p", "virtual 1:9 -> 9:9 by f"]
 LINES += ["field f{} 3", "let d{} = {}", "tables 1", "table 1", "row 0 : -> drop", "certificate", "row 1 : id", "row 1 1 : id"]

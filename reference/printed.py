@@ -85,13 +85,12 @@ def certificate(space, runs):
 
 
 class Compiled:
-    """The tables of an accepted policy: `classes` has the tag of each tag set, from first + 1 on unless sets share one."""
+    """The tables of an accepted policy, whose tag sets have these numbers as tags."""
 
-    def __init__(self, space, runs, sets, classes=None, first=0):
+    def __init__(self, space, runs, sets, numbers):
         self.space, self.runs, self.program, self.sets = space, runs, space.program, sets
         self.fields, self.tag = space.fields, space.program.tag
-        self.classes = classes or [first + place + 1 for place in range(len(sets))]
-        self.tags = dict(zip(sets, self.classes))
+        self.tags = dict(zip(sets, numbers))
         self.matched = [f for f in range(1, len(self.fields)) if f != self.tag]
         self.met = {at: {} for at in sets}  # the packets behind the link of each tag set
         for level in runs.levels(space.located()):
@@ -103,7 +102,7 @@ class Compiled:
     def section(self, switch):
         """The rows of a switch as (tag, matches, buckets): tag 0 for packets that enter, then those of each tag."""
         rows = self.tag_rows(switch, 0, [START])
-        for tag in sorted(set(self.classes)):
+        for tag in sorted(set(self.tags.values())):
             members = [at for at in self.sets if self.tags[at] == tag]
             if any(y[0] == switch for at in members for y in self.met[at]):
                 rows += self.tag_rows(switch, tag, members)

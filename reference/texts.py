@@ -10,6 +10,7 @@ Policies are tuples. A field is a number: 0 is `sw`, 1 is `pt`, then the declare
 
 import re
 import sys
+from collections import namedtuple
 from dataclasses import dataclass, field as member
 
 sys.setrecursionlimit(20000)
@@ -42,13 +43,8 @@ LEXEME = re.compile(
 )
 
 
-@dataclass(frozen=True)
-class Token:
-    """A token: its kind is `name`, `number`, or the keyword or symbol itself."""
-
-    kind: str
-    value: object
-    line: int
+# The kind of a token is `name`, `number`, or the keyword or symbol itself.
+Token = namedtuple("Token", "kind value line")
 
 
 def tokens_of(text):
@@ -446,13 +442,8 @@ def plain(policy):
     return (policy[0], plain(policy[1])) if policy[0] in ("not", "star") else policy
 
 
-@dataclass
-class Row:
-    """A row of a certificate: its positions, none of the start row, and its predicate."""
-
-    positions: tuple
-    predicate: tuple
-    line: int
+# A row of a certificate: its positions, none of the start row, and its predicate.
+Row = namedtuple("Row", "positions predicate line")
 
 
 def certificate_rows(program, written):
@@ -470,30 +461,12 @@ def certificate_rows(program, written):
 # ------------------------------------------------------------------------------------------------------- table texts
 
 
-@dataclass
-class Bucket:
-    """What is done to a copy: the assignments, then the port it is sent out of, None for `out in`."""
-
-    sets: dict
-    port: int
-
-
-@dataclass
-class TableRow:
-    """A row of a table: a match is (field, value, length of the prefix); the target is a list of buckets."""
-
-    priority: int
-    matches: list
-    buckets: list
-
-
-@dataclass
-class Tables:
-    """A table text: its declarations, and the rows of each switch."""
-
-    program: Program
-    rows: dict
-    groups: dict  # the numbers of the groups of each switch, with their buckets
+# What is done to a copy: the assignments by field, then the port that it is sent out of, None for `out in`.
+Bucket = namedtuple("Bucket", "sets port")
+# A match is (field, value, length of the prefix); the buckets are those of the row or of its group, none for `drop`.
+TableRow = namedtuple("TableRow", "priority matches buckets")
+# The declarations of a table text, and the rows of each switch.
+Tables = namedtuple("Tables", "program rows")
 
 
 class TableReader:
@@ -501,10 +474,10 @@ class TableReader:
 
     def __init__(self, version):
         require(version.value in (1, 2), version)
-        self.version, self.tables = version.value, Tables(Program(), {}, {})
-        self.program = self.tables.program
+        self.version, self.program, self.rows = version.value, Program(), {}
 
     def declare(self, declaration):
+        """A declaration's faults are those of a program, each at its line."""
         try:
             self.program.declare(declaration)
         except Fault as fault:
@@ -512,12 +485,12 @@ class TableReader:
 
     def add_section(self, number, groups, rows):
         """A number or name that isn't declared or is twice; a second section of a switch."""
-        require(number.value in self.program.switches and number.value not in self.tables.rows, number)
-        known = self.tables.groups[number.value] = {}
+        require(number.value in self.program.switches and number.value not in self.rows, number)
+        known = {}
         for group, buckets in groups:
             require(group.value >= 1 and group.value not in known, group)
             known[group.value] = [self.bucket(*it) for it in buckets]
-        self.tables.rows[number.value] = [self.row(*it, known) for it in rows]
+        self.rows[number.value] = [self.row(*it, known) for it in rows]
 
     def row(self, priority, matches, target, groups):
         """A priority is at most 65,535; a group is one of the same section."""
@@ -612,7 +585,4 @@ def parse_tables(text):
     for section in sections:
         tables.add_section(*section)
     require(tables.program.tag is not None, tokens[-1])
-    for switch in tables.program.switches:
-        tables.tables.rows.setdefault(switch, [])
-        tables.tables.groups.setdefault(switch, {})
-    return tables.tables
+    return Tables(tables.program, {switch: tables.rows.get(switch, []) for switch in tables.program.switches})

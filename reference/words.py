@@ -5,6 +5,7 @@
 
 import re
 
+from generated import generated
 from meaning import (
     START,
     Refused,
@@ -15,13 +16,12 @@ from meaning import (
     check_edges,
     classes,
     first_difference,
-    leaves,
     physical,
     question,
     tag_sets,
     uncarried,
 )
-from network import Update, draws, erased, fly, trace
+from network import Update, draws, fly, trace
 from printed import Compiled, certificate
 from texts import DROP, LARGEST_PORT, MOST_ELEMENTS, Fault, is_predicate, parse_certified, parse_program, parse_tables, size_of
 
@@ -53,8 +53,8 @@ class Usage(Exception):
 def command_of(words):
     """The command and its arguments. `--` is dropped once, and what follows is a value; so are `-` and the empty word."""
     ranges = COMMANDS.get(words[0] if words else None)
-    if ranges is None:
-        raise Usage
+    if ranges is None or any("\ud800" <= letter <= "\udfff" for letter in "".join(words)):
+        raise Usage  # DECISIONS, Words: words are UTF-8 texts; the letters named here are those of bytes that are none
     values, free = [], False
     for word in words[1:]:
         if word == "--" and not free:
@@ -176,20 +176,22 @@ def packet_of(program, text):
 # ---------------------------------------------------------------------------------------------------------- commands
 
 
-def compiled(program, policy):
-    """The tables of a policy of which C3 to C7 don't hold, nor C8."""
-    seen(program, policy, program.links)
-    space, runs = edged(program, policy)
-    sets = tag_sets(space, runs)
-    few(program, len(sets))
-    return Compiled(space, runs, sets)
-
-
 def answer_compile(text, name):
     program = parse_program(text)
     policy = policies(program, name)[0]
     tagged(program)
-    return 0, compiled(program, policy).lines()
+    seen(program, policy, program.links)
+    return 0, tables_of(program, policy).lines()
+
+
+def tables_of(program, policy, shared=False):
+    """The tables of a policy of which C7 and C8 don't hold; with classes of tag sets, if tags are shared."""
+    space, runs = edged(program, policy)
+    sets = tag_sets(space, runs)
+    numbers, aparts = classes(space, policy, sets) if shared else (range(1, len(sets) + 1), {})
+    few(program, max(numbers, default=0))
+    tables = Compiled(space, runs, sets, numbers)
+    return (tables, aparts) if shared else tables
 
 
 def answer_compact(text, name):
@@ -198,11 +200,8 @@ def answer_compact(text, name):
     policy = policies(program, name)[0]
     tagged(program)
     seen(program, policy, program.links)
-    space, runs = edged(program, policy)
-    sets = tag_sets(space, runs)
-    numbers, aparts = classes(space, policy, sets)
-    few(program, max(numbers, default=0))
-    lines = Compiled(space, runs, sets, numbers).lines()
+    tables, aparts = tables_of(program, policy, shared=True)
+    lines = tables.lines()
     for (low, high), (side, start, records, last) in sorted(aparts.items()):
         words = " : ".join(found_lines(program, start, records, last))
         lines.append(f"# apart {low} {high} : {(low, high)[side]} alone : {words}")
@@ -225,14 +224,7 @@ def answer_virtual(text, name):
     seen(program, policy, program.virtuals)
     policy = physical(policy, program)
     few_elements(policy)
-    return 0, compiled_physical(program, policy)
-
-
-def compiled_physical(program, policy):
-    space, runs = edged(program, policy)
-    sets = tag_sets(space, runs)
-    few(program, len(sets))
-    return Compiled(space, runs, sets).lines()
+    return 0, tables_of(program, policy).lines()
 
 
 def few_elements(policy):
@@ -312,16 +304,18 @@ def failing_part(runs, at, packets, holds):
 
 def answer_trace(text, hops, packet):
     tables = parse_tables(text)
-    found, flying = trace(tables, hops, packet_of(tables.program, packet))
-    lines = [history_text(tables.program, *it, with_tag=False) for it in found]
-    return 0, [*lines, f"left {len(found)} flying {flying}"]
+    return 0, left_lines(tables.program, *trace(tables, hops, packet_of(tables.program, packet)))
 
 
 def answer_fly(text, seed, steps, packet):
     tables = parse_tables(text)
-    found, flying = fly(tables, seed, steps, packet_of(tables.program, packet))
-    lines = [history_text(tables.program, *it, with_tag=False) for it in found]
-    return 0, [*lines, f"left {len(found)} flying {flying}"]
+    return 0, left_lines(tables.program, *fly(tables, seed, steps, packet_of(tables.program, packet)))
+
+
+def left_lines(program, left, flying):
+    """The histories without the tag, then `left L flying F`."""
+    lines = [history_text(program, *history, with_tag=False) for history in left]
+    return [*lines, f"left {len(left)} flying {flying}"]
 
 
 def answer_update(text, old, new, seed, steps, packet):
@@ -337,7 +331,8 @@ def answer_update(text, old, new, seed, steps, packet):
     old_tags = len(sides[0][2])
     few(program, old_tags + len(sides[1][2]))
     packet = packet_of(program, packet)
-    tables = [Compiled(*side, first=first).lines() for side, first in zip(sides, (0, old_tags))]
+    numbers = [range(first + 1, first + 1 + len(sets)) for first, (_, _, sets) in zip((0, old_tags), sides)]
+    tables = [Compiled(*side, tags).lines() for side, tags in zip(sides, numbers)]
     update = Update(*(parse_tables("\n".join(lines).encode()) for lines in tables), old_tags)
     for _, drawn in zip(range(steps), draws(seed)):
         update.turn(drawn, packet)
@@ -350,37 +345,12 @@ def answer_gen(text, size, seed):
     return 0, generated(size, seed)
 
 
-def generated(size, seed):
-    """DECISIONS, README: a ring, chords and a tree of links, a destination at each switch, by draws from the seed."""
-    drawn = draws(seed)
-    homes = {i: 281474000000000 + 1000 * i + next(drawn) % 1000 for i in range(1, size + 1)}
-    chords = {}
-    for i in range(1, size + 1):
-        j = 1 + next(drawn) % size
-        if j != i and j not in chords.values():
-            chords[i] = j
-    key = next(drawn)
-    ring = [(i, 1, i % size + 1, 2) for i in range(1, size + 1)]
-    chord = [(i, 3, j, 4) for i, j in chords.items()]
-    tree = [(i, 5 + more, 2 * i + more, 7) for i in range(1, size + 1) for more in (0, 1) if 2 * i + more <= size]
-    lines = ["field dst 281474976710655", "field key 281474976710655", "field vlan 65535", "tag vlan"]
-    lines += [f"switch {i} ports 1,2,3,4,5,6,7,9" for i in homes]
-    lines += [f"link {a}:{m} -> {b}:{n}" for a, m, b, n in ring + chord + tree]
-    lines.append("let home = " + " + ".join(f"sw={i};dst={it}" for i, it in homes.items()))
-    for name, links in (("ring", ring), ("chord", chord), ("tree", tree)):
-        lines.append(f"let {name} = " + (" + ".join(f"{a}:{m}=>{b}:{n}" for a, m, b, n in links) or "drop"))
-    lines.append("let hop = pt:=1;ring + pt:=3;chord")
-    lines.append(f"let go = pt=9;key:={key};(~home;hop)*;home;pt:=9")
-    lines.append(f"let same = pt=9;key:={key};(id + ~home;hop;(~home;hop)*);home;pt:=9")
-    return [*lines, "let cast = sw=1;pt=9;(pt:=5;tree + pt:=6;tree)*;pt:=9"]
-
-
 def answer_job(text, size, seed):
     """`compile go`, `compile cast` and `equal go same`: the numbers of tag sets, rows, groups and certificate rows."""
     program = parse_program("\n".join(generated(size, seed)).encode())
     lines = []
     for name in ("go", "cast"):
-        tables = compiled(program, *policies(program, name))
+        tables = tables_of(program, *policies(program, name))
         text = tables.lines()
         counts = [sum(line.startswith(word) for line in text) for word in ("row ", "group ")]
         lines.append(f"{name} tags {len(tables.sets)} rows {counts[0]} groups {counts[1]}")
