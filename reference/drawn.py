@@ -14,13 +14,13 @@ class Draw:
         self.random = random
         one = random.choice
         fields = random.sample(["dst", "src", "b"], one([0, 1, 1, 1, 2]))
-        self.fields = {name: one([0, 1, 1, 2, 3, 3, 5, 9, 200, 2**48 - 1]) for name in fields}
+        self.fields = {name: one([0, 1, 2, 3, 3, 5, 9, 9, 200, 2**48 - 1]) for name in fields}
         self.fields["vlan"] = one([0, 1, 2, 3, 7, 7, 7])
         self.fields = dict(random.sample(list(self.fields.items()), len(self.fields)))
         switches = sorted(random.sample([1, 2, 3], one([1, 2, 2, 3]))) if self.chance(0.95) else [0, 65535]
         self.switches = {it: random.sample([1, 2, 3, 9], one([2, 3, 3, 4])) for it in switches}
         ports = [(switch, port) for switch, its in self.switches.items() for port in its]
-        count = min(len(ports) - 1, one([0, 1, 2, 2, 3, 4]))
+        count = min(len(ports) - 1, one([0, 1, 2, 2, 3, 3, 4, 5]))
         sources, targets = random.sample(ports, count), random.sample(ports, count)
         self.links = [(*source, *target) for source, target in zip(sources, targets)]
         self.edges = {it: [p for s, p in ports if s == it and (s, p) not in sources] for it in switches}
@@ -35,7 +35,7 @@ class Draw:
     def value(self, name):
         """A value of a field, now and then one beyond its range."""
         largest = {"sw": 65535, "pt": 65535}.get(name, self.fields.get(name, 3))
-        few = {"sw": [*self.switches], "pt": [1, 2, 3, 9]}.get(name, [0, 1, 2, 3, largest // 2, largest])
+        few = {"sw": [*self.switches], "pt": [1, 2, 3, 9]}.get(name, [0, 1, 2, 3, 4, largest // 2, largest])
         return self.random.choice(few) if self.chance(0.05) else self.random.choice([it for it in few if it <= largest])
 
     def field(self, with_tag=0.04):
@@ -44,8 +44,9 @@ class Draw:
 
     def test(self):
         name = self.field()
-        if self.chance(0.25):
-            return f"{name} in {self.value(name)}..{self.value(name)}"
+        if self.chance(0.3):
+            low, high = self.value(name), self.value(name)
+            return f"{name} in {low}..{high}" if self.chance(0.1) else f"{name} in {min(low, high)}..{max(low, high)}"
         return f"{name}={self.value(name)}"
 
     def predicate(self, deep=2):
@@ -74,13 +75,22 @@ class Draw:
         if form < 0.45:
             return f"({self.predicate(1)})"
         if form < 0.6:
-            return f"({self.policy(deep - 1)})*"
+            return f"({self.policy(deep - 1)})*" if self.chance(0.8) else self.chain()
         joined = self.one(" + ", ";", ";").join(self.policy(deep - 1) for _ in range(self.one(2, 2, 3)))
         return f"({joined})" if deep < 3 else joined
+
+    def chain(self):
+        """A star of which several rounds are wanted: a field goes from value to value."""
+        name = self.field(0)
+        values = [self.value(name) for _ in range(self.one(3, 3, 4))]
+        ways = [f"{name}={low};{name}:={high}" for low, high in zip(values, values[1:])]
+        return f"({' + '.join(self.random.sample(ways, len(ways)))})*"
 
     def step(self):
         """A test or an assignment that may stand anywhere in a policy that is compiled."""
         name = self.field(0.01)
+        if self.chance(0.1):
+            return self.chain()
         if name == "sw" or self.chance(0.5):
             return self.predicate(1)
         return f"{name}:={self.value(name)}"
@@ -106,7 +116,7 @@ class Draw:
     def route(self):
         """A policy that may well be compiled: steps and hops in sequence, in sums and under stars, then an edge port."""
         form = self.random.random()
-        hops = [self.hop() for _ in range(self.one(1, 2, 2, 3))]
+        hops = [self.hop() for _ in range(self.one(1, 2, 2, 3, 4))]
         if form < 0.35:
             way = f"({' + '.join(hops)}){self.one('*', '')}"
         elif form < 0.6:
@@ -115,7 +125,7 @@ class Draw:
             way = f"({self.hop()};({' + '.join(hops)}))*"
         else:
             way = f"(id + {self.hop()};({self.hop()})*)"
-        start = f"{self.predicate(1)};" if self.chance(0.5) else ""
+        start = f"{self.predicate(1)};" if self.chance(0.35) else ""
         end = f";{self.leaving()}" if self.chance(0.93) else ""
         return f"{'' if self.chance(0.7) else self.step() + ' + '}({start}{way}){end}"
 
@@ -124,6 +134,15 @@ class Draw:
         forms = ["({0}) + ({0})", "id;({0})", "({0});id", "({0}) + drop", "~~id;({0})", "({0}) + drop;dup", "(id + drop*)*;({0})"]
         forms += ["({0});({1})* + ({0})", "({0}) + ({0});{1}", "{1};({0}) + ~({1});({0})", "({0}) + {1};({0})", "{1};({0})"]
         return self.random.choice(forms).format(text, self.predicate(1))
+
+    def changed(self, text):
+        """A policy with a number, an operator or a word changed."""
+        found = [it.span() for it in re.finditer("[0-9]+| \\+ |;|id|drop|dup|\\*", text)]
+        if not found:
+            return text
+        low, high = self.random.choice(found)
+        others = {" + ": ";", ";": " + ", "id": "drop", "drop": "id", "dup": "id", "*": ""}
+        return text[:low] + others.get(text[low:high], str(self.one(0, 1, 1, 2, 3, 9))) + text[high:]
 
     def shape(self, lines):
         """The lines with white space and comments of all kinds between them, and now and then between all lexemes."""
@@ -167,8 +186,9 @@ def compiling(draw):
 
 
 def equating(draw):
-    left = draw.policy() if draw.chance(0.7) else draw.route()
-    right = draw.rewritten(left) if draw.chance(0.75) else draw.policy()
+    left = draw.policy() if draw.chance(0.5) else draw.route()
+    form = draw.random.random()
+    right = draw.rewritten(left) if form < 0.5 else draw.changed(left) if form < 0.9 else draw.policy()
     return ["equal", "p", draw.one(*["q"] * 30, "x")], draw.declarations(0.7) + draw.named(left, right)
 
 
@@ -180,7 +200,7 @@ def asking(draw):
 
 def updating(draw):
     lines = draw.declarations() + draw.named(draw.route(), draw.route())
-    words = ["update", "p", draw.one("q", "q", "q", "p"), str(draw.random.randrange(1, 99)), str(draw.one(0, 5, 14, 25, 40))]
+    words = ["update", "p", draw.one("q", "q", "q", "p"), str(draw.random.randrange(1, 99)), str(draw.one(0, 5, 14, 25, 40, 60))]
     return [*words, draw.packet()], lines
 
 
@@ -254,7 +274,7 @@ def row_text(draw):
 
 
 def damage_rows(draw, rows):
-    place, kind = draw.random.randrange(1, len(rows)), draw.random.random()
+    place, kind = draw.random.randrange(1 if len(rows) < 3 or draw.chance(0.2) else 2, len(rows)), draw.random.random()
     if kind < 0.25 and place > 1:
         del rows[place]
     elif kind < 0.45:
@@ -280,10 +300,10 @@ def table_lines(draw):
         lines.append(f"table {switch}")
         groups = range(1, 1 + draw.one(0, 0, 1, 2))
         lines += [f"group {it} = {' '.join(bucket_text(draw) for _ in range(draw.one(1, 2, 2, 3)))}" for it in groups]
-        for _ in range(draw.one(0, 1, 2, 3, 4)):
+        for _ in range(draw.one(0, 1, 2, 3, 4, 5)):
             target = draw.one(bucket_text(draw), bucket_text(draw), "drop", f"group {draw.one(*groups, 1)}")
             target = bucket_text(draw) if target.startswith("group") and not groups and draw.chance(0.9) else target
-            names = [name for name in ["pt", *draw.fields] if draw.chance(0.35)]
+            names = [name for name in ["pt", *draw.fields] if draw.chance(0.2)]
             matches = [match_text(draw, name) for name in names]
             lines.append(f"row {draw.one(0, 1, 1, 2, 7)} : {' '.join(matches)} -> {target}")
     return lines
