@@ -381,7 +381,8 @@ def deep(draw):
     if draw.chance(0.4):
         count, form = draw.one(17, 18, 19, 20, 21), draw.one("{0};{0}", "{0} + {0}", "{0};{0} + id")
     lines = ["let a0 = id", *(f"let a{it} = " + form.format(f"a{it - 1}") for it in range(1, count + 1))]
-    return ["compile", f"a{count}"], lines
+    words = [["compile", f"a{count}"], ["apart", f"a{count}", "a0", "a0"], ["waypoint", "a0", "a0", f"a{count}", "a0"]]
+    return draw.random.choice(words), lines
 
 
 KINDS = {compiling: 26, equating: 18, checking: 14, following: 14, damaged: 14, declared: 9, asking: 6, updating: 6, faring: 7}

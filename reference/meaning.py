@@ -8,7 +8,7 @@ tell the values of an interval apart, and none assigns one but the value of an i
 from itertools import product
 from math import prod
 
-from texts import DROP, ID
+from texts import DROP, ID, size_of
 
 # ----------------------------------------------------------------------------------------------------- packet spaces
 
@@ -33,13 +33,20 @@ class TooLarge(Exception):
 MOST = 4_000
 
 
+def small(policy):
+    """A policy of a size that is gone through."""
+    if size_of(policy) > MOST:
+        raise TooLarge
+    return policy
+
+
 class Space:
     """The packets over the fields of a program, as far as these policies, values and, if asked for, ports tell them apart."""
 
     def __init__(self, program, policies=(), with_ports=False):
         self.program, self.fields = program, program.fields
         cuts = [{0, largest + 1} for _, largest in self.fields]
-        spoken = [it for policy in policies for it in mentioned(policy)]
+        spoken = [it for policy in policies for it in mentioned(small(policy))]
         for place in places(program) if with_ports else ():
             spoken += [(f, n, n) for f, n in place.items()]
         for f, low, high in spoken:
@@ -168,7 +175,7 @@ class Runs:
     def __init__(self, *policies):
         self.sides, self.rests, self.memo, first = [], {}, {}, 1
         for policy in policies:
-            policy, behind = numbered(policy, first)
+            policy, behind = numbered(small(policy), first)
             self.sides.append(policy)
             self.rests |= {label: after(policy, label) for label in range(first, behind)}
             first = behind

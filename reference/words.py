@@ -18,6 +18,7 @@ from meaning import (
     first_difference,
     physical,
     question,
+    small,
     tag_sets,
     uncarried,
 )
@@ -117,13 +118,7 @@ def policies(program, *names):
     for name in names:
         if name not in program.lets:
             raise Refused("refused C1: no policy")
-    return [small(program.lets[name]) for name in names]
-
-
-def small(policy):
-    if size_of(policy) > 4_000:
-        raise TooLarge
-    return policy
+    return [program.lets[name] for name in names]
 
 
 def tagged(program):
@@ -135,7 +130,7 @@ def tagged(program):
 def seen(program, policy, links):
     """C3 to C6."""
     try:
-        check_by_sight(program, policy, links)
+        check_by_sight(program, small(policy), links)
     except Refused as refused:
         raise Refused(f"refused {refused}") from None
 
@@ -214,7 +209,7 @@ def answer_virtual(text, name):
     policy = policies(program, name)[0]
     tagged(program)
     for source, (_, _, fabric) in sorted(program.virtuals.items()):
-        seen(program, small(program.fabrics[fabric]), program.links)
+        seen(program, program.fabrics[fabric], program.links)
         link = f"link {source[0]}:{source[1]}"
         found = uncarried(program, source)
         if found and found[0] == "C11":
@@ -231,7 +226,6 @@ def few_elements(policy):
     """C13: more than 1,048,576 elements."""
     if size_of(policy) > MOST_ELEMENTS:
         raise Refused("refused C13: expanded too large")
-    small(policy)
 
 
 def compared(program, left, right, words):
