@@ -7,7 +7,7 @@ the field is left, else the class of the one number that it is set to.
 
 from boxes import Space, meet, minus, restrict, tidy
 
-ID = ("seq", ())
+
 TESTS = {"test": lambda numbers: (numbers[0], numbers[0]), "range": lambda numbers: numbers}
 
 
@@ -193,10 +193,10 @@ class Judge:
     """
 
     def __init__(self, maxima, left, right, rows):
-        predicates = [predicate for _, predicate in rows]
+        predicates = [row.predicate for row in rows]
         self.space = Space(maxima, named_numbers([left, right] + predicates, len(maxima)))
         self.sides = (left, 0, dups(left)), (right, dups(left), dups(left) + dups(right))
-        self.rows = [(positions, Walk(self.space).packets(predicate)) for positions, predicate in rows]
+        self.rows = [(row.positions, Walk(self.space).packets(row.predicate)) for row in rows]
         self.packets_at = {frozenset(positions): packets for positions, packets in self.rows[1:]}
 
     def answer(self):
