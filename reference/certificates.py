@@ -7,7 +7,6 @@ the field is left, else the class of the one number that it is set to.
 
 from boxes import Space, meet, minus, restrict, tidy
 
-
 TESTS = {"test": lambda numbers: (numbers[0], numbers[0]), "range": lambda numbers: numbers}
 
 
@@ -53,8 +52,7 @@ def named_numbers(policies, count):
         seen.add(id(policy))
         waiting.extend(parts(policy))
         if policy[0] in ("test", "set", "range"):
-            low, high = policy[2], policy[-1]
-            named[policy[1]] |= {(low, low), (high, high)}
+            named[policy[1]].add((policy[2], policy[-1]))
     return named
 
 
