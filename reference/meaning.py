@@ -71,7 +71,7 @@ def places(program):
 
 
 def is_edge(program, packet):
-    """GUIDE 1: edge ports are the declared ports at which no link begins."""
+    """GUIDE 1: "Edge ports are the declared ports at which no link begins"."""
     return program.is_port(*packet[:2]) and packet[:2] not in program.links
 
 
@@ -100,11 +100,15 @@ def numbered(policy, first):
 
 
 def put(packet, f, n):
+    """The packet with the field f set to n."""
     return packet[:f] + (n,) + packet[f + 1 :]
 
 
 def histories(policy, packet, most):
-    """GLOSSARY, Gives: all (w, y) such that from the packet the policy can end at y having recorded exactly w, up to `most`."""
+    """GLOSSARY, Gives: "from packet pk the policy can end at y having recorded exactly w": all (w, y) with at most so many records.
+
+    The forms are those of GUIDE 2, "What it does with a packet"; a link is its six parts.
+    """
     kind, *rest = policy
     if kind == "test":
         return {((), packet)} if packet[rest[0]] == rest[1] else set()
@@ -139,7 +143,7 @@ def going_on(policy, history, most):
 
 
 def after(policy, label):
-    """GLOSSARY: what is left of the policy after its dup of this number."""
+    """GLOSSARY, after: "what is left of the policy after its dup l"."""
     kind, *rest = policy
     if kind == "dup":
         return ID if rest[0] == label else DROP
@@ -207,6 +211,7 @@ class Runs:
         return self.memo[key]
 
     def given(self, policy, x):
+        """The forms of GUIDE 2, of what is recorded nothing."""
         kind, *rest = policy
         if kind == "dup":
             return set()
@@ -237,6 +242,7 @@ class Runs:
         return self.memo[key]
 
     def recorded(self, policy, x):
+        """GLOSSARY, RecordsAt: "a run so far: it has recorded u and then, by its last step, x at the dup with number l", u empty."""
         kind, *rest = policy
         if kind == "dup":
             return {(x, rest[0])}
@@ -286,7 +292,7 @@ class Runs:
 
 
 def first_difference(space, runs, first=START):
-    """README: the least history that one of both alone has: (0 or 1 for the side, start, records, last), or None."""
+    """README, Done: "the least history that one of them alone has, with its start and its side": (0 or 1, start, records, last)."""
     found = runs.least(space.packets(), lambda at, x: runs.ends(at, x, 0) ^ runs.ends(at, x, 1), first)
     if not found:
         return None
@@ -303,7 +309,7 @@ def walked(runs, position_set, start, records):
 
 
 def tag_sets(space, runs):
-    """GUIDE 1, GLOSSARY: the sets of numbers of the last dup behind an odd number of records, by shortest list, then in order."""
+    """GLOSSARY, IsTagSet, AreTags: "the last numbers after an odd number of records from a start packet; the tag sets in order"."""
     found = []
     for count, level in enumerate(runs.levels(space.located())):
         sets = {tuple(sorted(at)) for at, _ in level} if count % 2 else set()
@@ -323,7 +329,7 @@ def leaves(policy):
 
 
 def check_by_sight(program, policy, links):
-    """C3 to C6 are decided by the policy's text alone, also for parts of it that no packet can reach."""
+    """README: "C2 to C6 are decided by the policy's text alone, also for parts of it that no packet can reach"."""
     found = leaves(policy)
     if any(it[0] in ("test", "range", "set") and it[1] == program.tag for it in found):
         raise Refused("C3: tag used")
@@ -336,7 +342,7 @@ def check_by_sight(program, policy, links):
 
 
 def check_edges(space, runs):
-    """C7: a packet without tag on a declared port has a history that ends at no edge port; the least one."""
+    """README, C7: "a packet without tag on a declared port has a history that ends at no edge port; the least one is printed"."""
     program = space.program
     return runs.least(space.located(), lambda at, x: {y for y in runs.ends(at, x) if not is_edge(program, y)})
 
@@ -353,7 +359,8 @@ def physical(policy, program):
 
 
 def uncarried(program, source):
-    """Of a virtual link: ("C11", start, records, last), ("C12", start), or None where its fabric carries it."""
+    """README, C11: a packet without tag at the link's source "has a history of the link's fabric that ends elsewhere than at the
+    packet moved to the port where the link ends"; C12: such a packet "has no history of the link's fabric"; else None."""
     switch, port, name = program.virtuals[source]
     fabric = program.fabrics[name]
     space, runs = Space(program, [fabric], with_ports=True), Runs(fabric)
@@ -370,7 +377,8 @@ def uncarried(program, source):
 
 
 def question(policy, before, avoided, behind):
-    """README: of `apart` A, the policy and B in sequence; of `waypoint` with the complement of W at both ends and each dup."""
+    """README: "The question of `apart` is A, the policy and B in sequence. That of `waypoint` is A, then the complement of W, then
+    the policy with the complement of W before each dup .., then the complement of W again, then B"."""
     if avoided is None:
         return ("seq", (before, policy, behind))
     avoid = ("not", avoided)

@@ -7,14 +7,17 @@ from texts import digits_of
 
 
 def agrees(program, match, packet):
-    """GUIDE 4: a prefix is for all values whose first `length` binary digits are those of the value."""
+    """GUIDE 4: "A match `f=v/len` is for all values whose first len binary digits are those of v"."""
     f, value, length = match
     rest = digits_of(program.fields[f][1]) - length
     return packet[f] >> rest == value >> rest
 
 
 def emit(program, rows, packet):
-    """GUIDE 4: of all rows that match the one with the highest priority acts; if there is none, or a tie, nothing is sent."""
+    """GUIDE 4: "Of all rows that match a packet, the one with the highest priority acts. If none matches, the packet is dropped".
+
+    README, nk_table: "a tie drops".
+    """
     matching = [row for row in rows if all(agrees(program, it, packet) for it in row.matches)]
     highest = max((row.priority for row in matching), default=None)
     acting = [row for row in matching if row.priority == highest]
@@ -22,7 +25,7 @@ def emit(program, rows, packet):
 
 
 def sent(bucket, packet):
-    """`out in` alone sends a copy back: where the number is that of the port at which it came in, nothing is sent."""
+    """README, nk_table: "a copy goes back by `out in` alone": out of the number of the port at which it came in nothing is sent."""
     if bucket.port == packet[1]:
         return []
     copy = packet if bucket.port is None else put(packet, 1, bucket.port)
@@ -48,7 +51,7 @@ def hop(program, rows, records, packet):
 
 
 def trace(tables, hops, packet):
-    """The histories with which the packet leaves after at most so many crossings, in order, and how many copies fly on."""
+    """README: "each history with which the packet leaves after at most HOPS link crossings", by length, and the copies that fly on."""
     waiting, found, count = [((), packet)], [], 0
     for _ in range(hops + 1):
         left, crossed = [], []
@@ -98,7 +101,8 @@ class Update:
         self.flying, self.left, self.versions, self.injected = [], [], {}, 0
 
     def rows(self, switch):
-        """First the new rows for tagged packets are added, then those of tag 0 replaced, then the old tagged ones removed."""
+        """GUIDE 5: "the new rows for tagged packets are added; the rows for packets without a tag are replaced; the old rows for
+        tagged packets are removed"."""
         old, new, done = self.old.rows[switch], self.new.rows[switch], self.done[switch]
         old_tagged, new_tagged = ([row for row in it if self.tag_of(row)] for it in (old, new))
         return [old, old + new_tagged, old_tagged + new, new][done]
@@ -107,13 +111,14 @@ class Update:
         return next(value for f, value, _ in row.matches if f == self.program.tag)
 
     def may(self, switch):
-        """The second step once all have done the first; the third once all have done two and no copy has an old tag."""
+        """GUIDE 5: "its second step once all have done the first, and its third once all have done the second and no copy with an
+        old tag is on its way"."""
         if any(count < self.done[switch] for count in self.done.values()) or self.done[switch] == 3:
             return False
         return self.done[switch] < 2 or all(not 0 < copy[self.program.tag] <= self.old_tags for _, _, copy in self.flying)
 
     def turn(self, drawn, packet):
-        """The packet comes in once more, or a copy is handled, or a switch that may does its next plan step."""
+        """GUIDE 5: "the packet comes in once more, or one copy is handled, or one switch does its next step"."""
         steps = [switch for switch in self.done if self.may(switch)]
         action = drawn % (1 + len(self.flying) + len(steps))
         if action == 0:

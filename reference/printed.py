@@ -42,7 +42,7 @@ def tree_of(space, tested, leaf, fixed):
 
 
 def else_child(parts):
-    """The child with the most values; on a tie, the child of the least value."""
+    """GLOSSARY, else-child: "the child with the most values of a field, on a tie the one of the least value"."""
     sizes = {}
     for low, high, child in parts:
         sizes[child] = sizes.get(child, 0) + high - low + 1
@@ -68,7 +68,7 @@ def test(f, low, high):
 
 
 def certificate(space, runs):
-    """README, Certificates: a row for each set of numbers that runs come to, with exactly the packets at which they do."""
+    """README, Certificates: "a row for each set of numbers that runs come to, with exactly the packets at which they do"."""
     met, order = {}, []
     for level in list(runs.levels(space.packets()))[1:]:
         order += sorted({tuple(sorted(at)) for at, _ in level} - set(order))
@@ -109,7 +109,7 @@ class Compiled:
         return rows
 
     def tag_rows(self, switch, tag, members):
-        """What is left behind the first member under which a packet is met, else behind the first member."""
+        """README, compact: "the first one under which the packet is met there, else its first one"."""
 
         def leaf(x):
             member = next((at for at in members if x in self.met.get(at, ())), members[0])
@@ -120,7 +120,7 @@ class Compiled:
         return [(tag, *row) for row in self.rows(tree, (), False)]
 
     def buckets(self, behind, x):
-        """A bucket for each result, in the order of its assignments, `pt` first, and then of its tag."""
+        """A bucket for each result; DECISIONS: "Bucket lists are ordered by act and then target"."""
         results = [(y, 0) for y in self.runs.ends(behind, x)]
         results += [(y, self.tags[at]) for y, at in self.runs.nexts(behind, x).items() if at in self.tags]
         return tuple(sorted((tuple((f, y[f]) for f in self.matched if y[f] != x[f]), tag) for y, tag in results))
@@ -171,7 +171,7 @@ class Compiled:
 
 
 def blocks(low, high, largest):
-    """From the first value on the largest block of a power of two that begins there and fits, as (value, length)."""
+    """README, nk_prefix: "from the first value on the largest block of a power of two that begins there and fits"."""
     digits, found = digits_of(largest), []
     top = 2**digits - 1 if low < high == largest else high
     while low <= high:
