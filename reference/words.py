@@ -1,0 +1,370 @@
+"""What words and bytes are answered: a status, and what goes to standard output and standard error.
+
+`answer` raises TooLarge where this reference would have to go through too much.
+"""
+
+import re
+
+from generated import generated
+from meaning import (
+    START,
+    Refused,
+    Runs,
+    Space,
+    TooLarge,
+    check_by_sight,
+    check_edges,
+    classes,
+    first_difference,
+    physical,
+    question,
+    small,
+    tag_sets,
+    uncarried,
+)
+from network import Update, draws, fly, trace
+from printed import Compiled, certificate
+from texts import DROP, LARGEST_PORT, MOST_ELEMENTS, Fault, is_predicate, parse_certified, parse_program, parse_tables, size_of
+
+MOST_BYTES = 16_777_216  # README, Answers: status 8: the text has more than 16,777,216 bytes
+# README, The commands; GUIDE 8: a number out of its range is a usage fault.
+HOPS, STEPS, SIZE, SEED = (0, LARGEST_PORT), (0, 1_000_000), (2, 1_000), (1, 2_147_483_646)
+COMMANDS = {
+    "compile": (None,),
+    "equal": (None, None),
+    "check": (None, None),
+    "apart": (None, None, None),
+    "waypoint": (None, None, None, None),
+    "check_apart": (None, None, None),
+    "check_waypoint": (None, None, None, None),
+    "trace": (HOPS, None),
+    "fly": (SEED, STEPS, None),
+    "update": (None, None, SEED, STEPS, None),
+    "compact": (None,),
+    "virtual": (None,),
+    "gen": (SIZE, SEED),
+    "job": (SIZE, SEED),
+}
+
+
+class Usage(Exception):
+    """README, Answers: status 2: the words are no command."""
+
+
+def command_of(words):
+    """The command and its arguments. `--` is dropped once, and what follows is a value; so are `-` and the empty word."""
+    ranges = COMMANDS.get(words[0] if words else None)
+    if ranges is None or any("\ud800" <= letter <= "\udfff" for letter in "".join(words)):
+        raise Usage  # DECISIONS, Words: words are UTF-8 texts; the letters named here are those of bytes that are none
+    values, free = [], False
+    for word in words[1:]:
+        if word == "--" and not free:
+            free = True
+        elif word.startswith("-") and word != "-" and not free:
+            raise Usage
+        else:
+            values.append(word)
+    if len(values) != len(ranges):
+        raise Usage
+    return words[0], [number_in(it, word) if it else word for it, word in zip(ranges, values)]
+
+
+def number_in(limits, word):
+    """A number among the words is digits alone, with leading zeros if need be, in its range."""
+    if not re.fullmatch("[0-9]+", word) or not limits[0] <= int(word[-4000:]) <= limits[1]:
+        raise Usage
+    return int(word)
+
+
+def answer(words, text):
+    """The status, and the bytes on standard output and on standard error."""
+    try:
+        command, arguments = command_of(words)
+        if len(text) > MOST_BYTES and command not in ("gen", "job"):
+            return 8, b"", b"too long\n"
+        status, lines = HOW[command](text, *arguments)
+        return status, "".join(line + "\n" for line in lines).encode(), b""
+    except Usage:
+        return 2, b"", b"usage: nk COMMAND ARGUMENTS\n"
+    except Fault as fault:
+        return 3, b"", f"line {fault.line}: {fault.words}\n".encode()
+    except Refused as refused:
+        return 4, b"", "".join(line + "\n" for line in refused.args).encode()
+
+
+# ------------------------------------------------------------------------------------------------------------- lines
+
+
+def packet_text(program, packet, with_tag=True):
+    """A packet is written `sw=1,pt=2` and so on: each field in order."""
+    shown = [f for f in range(len(program.fields)) if with_tag or f != program.tag]
+    return ",".join(f"{program.fields[f][0]}={packet[f]}" for f in shown)
+
+
+def history_text(program, records, last, with_tag=True):
+    return " ".join(packet_text(program, it, with_tag) for it in (*records, last))
+
+
+def found_lines(program, start, records, last):
+    """`start PACKET`, `history PACKET PACKET ..`, with every field."""
+    return [f"start {packet_text(program, start)}", f"history {history_text(program, records, last)}"]
+
+
+# --------------------------------------------------------------------------------------------------------- refusals
+
+
+def policies(program, *names):
+    """C1: no policy has the name."""
+    for name in names:
+        if name not in program.lets:
+            raise Refused("refused C1: no policy")
+    return [program.lets[name] for name in names]
+
+
+def tagged(program):
+    """C2: no tag is declared."""
+    if program.tag is None:
+        raise Refused("refused C2: no tag")
+
+
+def seen(program, policy, links):
+    """C3 to C6."""
+    try:
+        check_by_sight(program, small(policy), links)
+    except Refused as refused:
+        raise Refused(f"refused {refused}") from None
+
+
+def edged(program, policy):
+    """C7: the packets and the runs of a policy all of whose histories end at edge ports."""
+    space, runs = Space(program, [policy], with_ports=True), Runs(policy)
+    found = check_edges(space, runs)
+    if found:
+        raise Refused("refused C7: off edge", *found_lines(program, *found))
+    return space, runs
+
+
+def few(program, count):
+    """C8: more tags than the tag has values above 0; N is one more than that."""
+    most = program.fields[program.tag][1]
+    if count > most:
+        raise Refused(f"refused C8: too many tags, found {most + 1}")
+
+
+def packet_of(program, text):
+    """C9: an item is wrong or missing, or there is one too many. C10: the packet stands at no declared port."""
+    wanted = [f for f in range(len(program.fields)) if f != program.tag]
+    items, values = text.split(","), {program.tag: 0}
+    for place in range(max(len(wanted), len(items))):
+        name, largest = program.fields[wanted[place]] if place < len(wanted) else ("", 0)
+        item = items[place] if place < len(items) else ""
+        digits = item[len(name) + 1 :]
+        if place >= len(wanted) or not item.startswith(name + "=") or not re.fullmatch("[0-9]+", digits) or int(digits) > largest:
+            raise Refused(f"refused C9: bad packet, item {place + 1}")
+        values[wanted[place]] = int(digits)
+    packet = tuple(values[f] for f in range(len(program.fields)))
+    if not program.is_port(*packet[:2]):
+        raise Refused("refused C10: off port")
+    return packet
+
+
+# ---------------------------------------------------------------------------------------------------------- commands
+
+
+def answer_compile(text, name):
+    program = parse_program(text)
+    policy = policies(program, name)[0]
+    tagged(program)
+    seen(program, policy, program.links)
+    return 0, tables_of(program, policy).lines()
+
+
+def tables_of(program, policy, shared=False):
+    """The tables of a policy of which C7 and C8 don't hold; with classes of tag sets, if tags are shared."""
+    space, runs = edged(program, policy)
+    sets = tag_sets(space, runs)
+    numbers, aparts = classes(space, policy, sets) if shared else (range(1, len(sets) + 1), {})
+    few(program, max(numbers, default=0))
+    tables = Compiled(space, runs, sets, numbers)
+    return (tables, aparts) if shared else tables
+
+
+def answer_compact(text, name):
+    """One tag for all tag sets behind which the same histories are left, and a comment line for each two tags."""
+    program = parse_program(text)
+    policy = policies(program, name)[0]
+    tagged(program)
+    seen(program, policy, program.links)
+    tables, aparts = tables_of(program, policy, shared=True)
+    lines = tables.lines()
+    for (low, high), (side, start, records, last) in sorted(aparts.items()):
+        words = " : ".join(found_lines(program, start, records, last))
+        lines.append(f"# apart {low} {high} : {(low, high)[side]} alone : {words}")
+    return 0, lines
+
+
+def answer_virtual(text, name):
+    """For each virtual link C3 to C6 of its fabric, C11 and C12; then those of the policy, C13, C7 and C8."""
+    program = parse_program(text)
+    policy = policies(program, name)[0]
+    tagged(program)
+    for source, (_, _, fabric) in sorted(program.virtuals.items()):
+        seen(program, program.fabrics[fabric], program.links)
+        link = f"link {source[0]}:{source[1]}"
+        found = uncarried(program, source)
+        if found and found[0] == "C11":
+            raise Refused(f"refused C11: off target, {link}", *found_lines(program, *found[1:]))
+        if found:
+            raise Refused(f"refused C12: not carried, {link}", f"start {packet_text(program, found[1])}")
+    seen(program, policy, program.virtuals)
+    policy = physical(policy, program)
+    few_elements(policy)
+    return 0, tables_of(program, policy).lines()
+
+
+def few_elements(policy):
+    """C13: more than 1,048,576 elements."""
+    if size_of(policy) > MOST_ELEMENTS:
+        raise Refused("refused C13: expanded too large")
+
+
+def compared(program, left, right, words):
+    """The certificate of two policies that do the same, else the least history of one alone."""
+    space, runs = Space(program, [left, right]), Runs(left, right)
+    found = first_difference(space, runs)
+    if found:
+        return 1, [*words[found[0]], *found_lines(program, *found[1:])]
+    return 0, certificate(space, runs)
+
+
+def answer_equal(text, *names):
+    program = parse_program(text)
+    words = [["different", "left alone"], ["different", "right alone"]]
+    return compared(program, *policies(program, *names), words)
+
+
+def asked(program, name, *predicates):
+    """The question of a query: C1 of any name, C14 of the predicates, C13."""
+    policy, *sets = policies(program, name, *predicates)
+    if not all(is_predicate(it) for it in sets):
+        raise Refused("refused C14: not a predicate")
+    before, avoided, behind = sets if len(sets) == 3 else (sets[0], None, sets[1])
+    asks = question(policy, before, avoided, behind)
+    few_elements(asks)
+    return asks
+
+
+def answer_query(text, *names):
+    program = parse_program(text)
+    return compared(program, asked(program, *names), DROP, [["broken"], []])
+
+
+def answer_check(text, *names):
+    program, rows = parse_certified(text)
+    return judged(program, *policies(program, *names), rows)
+
+
+def answer_check_query(text, *names):
+    program, rows = parse_certified(text)
+    return judged(program, asked(program, *names), DROP, rows)
+
+
+def judged(program, left, right, rows):
+    """README, Certificates: the first row that fails, and the first part in which it fails."""
+    space = Space(program, [left, right, *(row.predicate for row in rows)])
+    runs = Runs(left, right)
+    holds = {frozenset(row.positions): {x for x in space.packets() if runs.gives(row.predicate, x)} for row in rows[1:]}
+    for place, row in enumerate(rows):
+        at = frozenset(row.positions) if place else START
+        if not all(1 <= position <= len(runs.rests) for position in row.positions):
+            part = "position"
+        elif place == 0 and not all(runs.gives(row.predicate, x) for x in space.packets()):
+            part = "start"
+        else:
+            part = failing_part(runs, at, holds[at] if place else space.packets(), holds)
+        if part:
+            return 1, [f"invalid row {place + 1}: {part}"]
+    return 0, ["valid"]
+
+
+def failing_part(runs, at, packets, holds):
+    """*finals*: both policies end at the same packets. *hop*: some row has the numbers and the packet recorded next."""
+    if any(runs.ends(at, x, 0) != runs.ends(at, x, 1) for x in packets):
+        return "finals"
+    if any(y not in holds.get(numbers, ()) for x in packets for y, numbers in runs.nexts(at, x).items()):
+        return "hop"
+    return None
+
+
+def answer_trace(text, hops, packet):
+    tables = parse_tables(text)
+    return 0, left_lines(tables.program, *trace(tables, hops, packet_of(tables.program, packet)))
+
+
+def answer_fly(text, seed, steps, packet):
+    tables = parse_tables(text)
+    return 0, left_lines(tables.program, *fly(tables, seed, steps, packet_of(tables.program, packet)))
+
+
+def left_lines(program, left, flying):
+    """The histories without the tag, then `left L flying F`."""
+    lines = [history_text(program, *history, with_tag=False) for history in left]
+    return [*lines, f"left {len(left)} flying {flying}"]
+
+
+def answer_update(text, old, new, seed, steps, packet):
+    """C1, C2, C3 to C7 of OLD, then of NEW, C8 of both together, C9 and C10. New tags are numbered behind the old ones."""
+    program = parse_program(text)
+    chosen = policies(program, old, new)
+    tagged(program)
+    sides = []
+    for policy in chosen:
+        seen(program, policy, program.links)
+        space, runs = edged(program, policy)
+        sides.append((space, runs, tag_sets(space, runs)))
+    old_tags = len(sides[0][2])
+    few(program, old_tags + len(sides[1][2]))
+    packet = packet_of(program, packet)
+    numbers = [range(first + 1, first + 1 + len(sets)) for first, (_, _, sets) in zip((0, old_tags), sides)]
+    tables = [Compiled(*side, tags).lines() for side, tags in zip(sides, numbers)]
+    update = Update(*(parse_tables("\n".join(lines).encode()) for lines in tables), old_tags)
+    for _, drawn in zip(range(steps), draws(seed)):
+        update.turn(drawn, packet)
+    lines = [f"{it} {update.versions[it]} {history_text(program, *rest, with_tag=False)}" for it, *rest in update.left]
+    lines.append(f"left {len(update.left)} flying {len(update.flying)}")
+    return 0, [*lines, f"done {sum(update.done.values())} of {3 * len(update.done)}"]
+
+
+def answer_gen(text, size, seed):
+    return 0, generated(size, seed)
+
+
+def answer_job(text, size, seed):
+    """`compile go`, `compile cast` and `equal go same`: the numbers of tag sets, rows, groups and certificate rows."""
+    program = parse_program("\n".join(generated(size, seed)).encode())
+    lines = []
+    for name in ("go", "cast"):
+        tables = tables_of(program, *policies(program, name))
+        text = tables.lines()
+        counts = [sum(line.startswith(word) for line in text) for word in ("row ", "group ")]
+        lines.append(f"{name} tags {len(tables.sets)} rows {counts[0]} groups {counts[1]}")
+    status, text = answer_equal("\n".join(generated(size, seed)).encode(), "go", "same")
+    return (status, text) if status else (0, [*lines, f"equal rows {len(text) - 1}"])
+
+
+HOW = {
+    "compile": answer_compile,
+    "compact": answer_compact,
+    "virtual": answer_virtual,
+    "equal": answer_equal,
+    "apart": answer_query,
+    "waypoint": answer_query,
+    "check": answer_check,
+    "check_apart": answer_check_query,
+    "check_waypoint": answer_check_query,
+    "trace": answer_trace,
+    "fly": answer_fly,
+    "update": answer_update,
+    "gen": answer_gen,
+    "job": answer_job,
+}
