@@ -24,3 +24,4 @@ pub mod Moved
 pub mod Weighing
 pub mod OneAlone
 pub mod Comparing
+pub mod Shown

@@ -4,7 +4,8 @@ ghost use Rattle.nk_policy.specs.Policy.{marked_from, dups_of};
 ghost use Rattle.nk_policy.specs.Tree.{tree_of};
 ghost use Rattle.nk_policy.specs.Ranges.{IsOverFields};
 ghost use Rattle.nk_names.specs.Complements.{NegatesPredicates};
-ghost use Rattle.nk_cert.specs.Verdicts.{HasPredicates, IsFinding};
+ghost use Rattle.nk_cert.specs.Equality.{AreSame};
+ghost use Rattle.nk_cert.specs.Verdicts.{HasPredicates, IsFinding, valid};
 ghost use Rattle.nk_cert.specs.Values.{certificate_value, finding_of};
 ghost use Rattle.nk_cert.specs.Answers.{IsChecked};
 ghost use Rattle.nk_cert.specs.Written.{IsNameUnknown, AreWrittenTogether};
@@ -13,6 +14,7 @@ use crate::certificate::{Certificate, Verdict};
 use crate::checking::verdict_by;
 use crate::comparison::owned_automaton;
 use crate::error::CheckError;
+use crate::laws::a_certificate_shows_equality;
 use crate::pairing::number_behind;
 use nk_determ::Sets;
 use nk_field::Fields;
@@ -23,7 +25,8 @@ use std::alloc::{AllocError, Global};
 
 /// What is found of a certificate of two named policies: that each row meets its four parts, or the first row that fails, and
 /// the first part in which it does. The right policy's dups are numbered on from the left one's. Names that are no policy's
-/// are refused; the only other error is that memory ran out.
+/// are refused; the only other error is that memory ran out. Where the certificate is valid, both policies give the same
+/// histories on every packet in range.
 pub fn check(
     alloc: Global,
     program: &Program,
@@ -103,8 +106,11 @@ fn check_both(
     requires right_complements { NegatesPredicates (tree_of q) }
     requires right_over { IsOverFields fields.now (tree_of q) }
     requires predicates { HasPredicates (certificate_value certificate.now) }
-    ensures { IfOk result (λ v. IsFinding fields.now (tree_of p) (tree_of q) (certificate_value certificate.now) (finding_of v)) }
+    ensures found { IfOk result (λ v. IsFinding fields.now (tree_of p) (tree_of q) (certificate_value certificate.now) (finding_of v)) }
+    ensures same { IfOk result (λ v. finding_of v ≡ valid → AreSame fields.now (tree_of p) (tree_of q)) }
 {
+    // This is a law: policies with a certificate give the same histories.
+    a_certificate_shows_equality();
     let bound = number_behind(&p);
     let mut st = Store::new(alloc, fields)?;
     let both = owned_automaton(&mut st, p, q)?;

@@ -2,8 +2,7 @@
 ghost use Rattle.std.specs.Prelude.{IfOk};
 ghost use Rattle.nk_store.specs.Held.{IsId};
 
-use nk_algebra::{aim, assign, both, empty, negate, restrict, seq, test, union, union_all};
-use nk_determ::split;
+use nk_algebra::{aim, assign, both, empty, negate, restrict, seq, test, union_all};
 use nk_field::{Fid, Packet};
 use nk_store::{Id, Store};
 use std::alloc::AllocError;
@@ -44,30 +43,4 @@ pub fn leaves_are_united(st: &mut Store) -> Result<bool, AllocError> {
     let (all, part) = united(st)?;
     let zero = Packet::zero();
     Ok(st.look(all, &zero).len() == 2 && st.look(part, &zero).len() == 1)
-}
-
-/// What each operation that keeps its answers makes of two diagrams.
-fn answers(st: &mut Store, a: Id, b: Id) -> Result<[Id; 5], AllocError>
-    requires left { IsId st.old a }
-    requires right { IsId st.old b }
-    ensures left { IsId st.new a }
-    ensures right { IsId st.new b }
-{
-    Ok([
-        union(st, a, b)?,
-        both(st, a, b)?,
-        negate(st, a)?,
-        seq(st, a, b)?,
-        split(st, a)?,
-    ])
-}
-
-/// Whether a second call of each operation gives what the first one gave and makes no node. The first diagram drops each
-/// packet, so that some answers are known at once.
-pub fn second_calls_make_no_node(st: &mut Store) -> Result<bool, AllocError> {
-    let (a, b) = both_orders(st)?;
-    let first = answers(st, a, b)?;
-    let count = st.len();
-    let second = answers(st, a, b)?;
-    Ok(first == second && st.len() == count)
 }

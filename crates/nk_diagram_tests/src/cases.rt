@@ -1,5 +1,5 @@
 //! What is tested, each case over a store and sets of its own.
-use crate::{algebra, auto, determ, sets, star, store};
+use crate::{algebra, auto, by_parts, determ, levels, sets, star, store};
 use nk_determ::Sets;
 use nk_field::Fields;
 use nk_store::Store;
@@ -14,8 +14,6 @@ pub const DST: u8 = 2;
 enum Case {
     /// `sw:=1` and then `sw=0` passes nothing; `sw=0` and then `sw:=1` passes the packet with `sw` 0.
     OrderMatters,
-    /// A second call of an operation gives what the first one gave and makes no node.
-    SecondCallsMakeNoNode,
     /// Of `sw=0` and `sw=0` aimed at 5 together a packet with `sw` 0 goes to 0 and to 5; where `sw` is set to 1, `~sw=0`
     /// passes it.
     LeavesAreUnited,
@@ -23,13 +21,14 @@ enum Case {
     PolicyAtTwoPackets,
     /// `dup*` ends at the packet itself without a record, or it records the packet at its dup.
     StarOfADup,
-    /// `dst in 1..2` is the diagram of `dst=1 + dst=2`, its complement that of the other two values, and `dst in 2..1` that of
-    /// no packet.
-    RangesAreTests,
-    /// A sum of ranges and tests is the diagram of all their values, whether or not two of them have a value in common.
-    RangesTogether,
+    /// The automaton of `dup;dst:=1` has two states.
+    ByPolicy,
+    /// The same of the one by its parts.
+    ByParts,
     /// At `dst` 1 both acts of `id + dst:=1` are one that assigns nothing, at `dst` 0 they are two.
     UnchangedGoes,
+    /// A diagram whose acts are exact means the same as it does once they are made so again.
+    ExactStays,
     /// What two states record is one out, to the set of both labels.
     BothLabelsFollow,
     /// The packets whose `dst` is neither 0 nor 2 are printed by their values.
@@ -40,23 +39,26 @@ enum Case {
     StepsAreFollowed,
     /// Outs in any order and number are one leaf, which stands once.
     EqualLeavesAreOne,
+    /// The sets of a ring are two.
+    RingIsNumbered,
 }
 
 /// All cases.
-const CASES: [Case; 13] = [
+const CASES: [Case; 14] = [
     Case::OrderMatters,
-    Case::SecondCallsMakeNoNode,
     Case::LeavesAreUnited,
     Case::PolicyAtTwoPackets,
     Case::StarOfADup,
-    Case::RangesAreTests,
-    Case::RangesTogether,
+    Case::ByPolicy,
+    Case::ByParts,
     Case::UnchangedGoes,
+    Case::ExactStays,
     Case::BothLabelsFollow,
     Case::OddIsPrinted,
     Case::ActMakesASet,
     Case::StepsAreFollowed,
     Case::EqualLeavesAreOne,
+    Case::RingIsNumbered,
 ];
 
 impl Case {
@@ -64,18 +66,19 @@ impl Case {
     fn holds_in(self, fields: &Fields, st: &mut Store, ss: &mut Sets) -> Result<bool, AllocError> {
         match self {
             Case::OrderMatters => algebra::order_matters(st),
-            Case::SecondCallsMakeNoNode => algebra::second_calls_make_no_node(st),
             Case::LeavesAreUnited => algebra::leaves_are_united(st),
             Case::PolicyAtTwoPackets => auto::is_moved_or_kept(st),
             Case::StarOfADup => auto::ends_or_records(st),
-            Case::RangesAreTests => auto::ranges_are_tests(st),
-            Case::RangesTogether => auto::ranges_together(st),
+            Case::ByPolicy => by_parts::is_by_policy(st),
+            Case::ByParts => by_parts::is_by_parts(st),
             Case::UnchangedGoes => determ::unchanged_goes(st),
+            Case::ExactStays => determ::exact_stays(st),
             Case::BothLabelsFollow => determ::both_labels_follow(st, ss),
             Case::OddIsPrinted => sets::odd_is_printed(fields, st),
             Case::ActMakesASet => sets::act_makes_a_set(st),
             Case::StepsAreFollowed => star::steps_are_followed(st),
             Case::EqualLeavesAreOne => store::equal_leaves_are_one(st),
+            Case::RingIsNumbered => levels::are_two(st, ss),
         }
     }
 }

@@ -6,7 +6,7 @@ ghost use Rattle.nk_determ.specs.Sets.{IsSetOf};
 
 use crate::cases::DST;
 use nk_algebra::{aim, assign, identity, union};
-use nk_determ::{SetId, Sets, split, state};
+use nk_determ::{SetId, Sets, mean_same, split, state};
 use nk_field::{Fid, List, Packet};
 use nk_store::{Id, Store};
 use std::alloc::{AllocError, Global};
@@ -74,4 +74,12 @@ pub fn both_labels_follow(st: &mut Store, ss: &mut Sets) -> Result<bool, AllocEr
     let both = ss.intern(two_labels(alloc, 1, 2)?)?;
     let outs = st.look(d, &Packet::zero());
     Ok(outs.len() == 1 && outs[0].target > 0 && outs[0].target - 1 == both.place() as u64)
+}
+
+/// Whether a diagram whose acts are exact means the same as it does once they are made so again.
+pub fn exact_stays(st: &mut Store) -> Result<bool, AllocError> {
+    let d = kept_or_one(st)?;
+    let first = split(st, d)?;
+    let second = split(st, first)?;
+    Ok(mean_same(st, first, second))
 }

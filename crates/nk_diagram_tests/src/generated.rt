@@ -1,8 +1,7 @@
 //! The automaton of a policy over many switches takes memory linear in the policy.
-
+use crate::policies::{complement, either, in_turn, numbered, star};
 use nk_auto::policy_automaton;
 use nk_field::{Fid, Fields};
-use nk_plain::{complement, either, in_turn, numbered, star};
 use nk_policy::{Pol, Pols};
 use nk_store::Store;
 use std::alloc::{AllocError, Global};

@@ -1,10 +1,14 @@
-//! Tests of the public calls for diagrams, each once on the way that it is meant for.
+//! Tests of the public calls for diagrams, automata and levels, each once on the way that it is meant for.
 #![tactic(auto)]
 
 #[cfg(test)]
 mod algebra;
 #[cfg(test)]
 mod auto;
+#[cfg(test)]
+mod automata;
+#[cfg(test)]
+mod by_parts;
 #[cfg(test)]
 mod cases;
 #[cfg(test)]
@@ -13,6 +17,10 @@ mod determ;
 mod generated;
 #[cfg(test)]
 mod group;
+#[cfg(test)]
+mod levels;
+#[cfg(test)]
+mod policies;
 #[cfg(test)]
 mod sets;
 #[cfg(test)]

@@ -1,13 +1,16 @@
-//! Tests of public calls for texts, packets, policies and tables to which no row of nk_rows leads, or of which no row tells all.
+//! Tests of public calls, each once on the way that it is meant for: of texts, packets, policies and tables, of programs and
+//! certificates, of flights and updates. Rows of words and bytes with what is answered stand in nk_rows.
 //! They stand in a crate of their own, since what a test calls in its own crate is proved again with it.
 #![tactic(auto)]
 
 #[cfg(test)]
-mod compile;
+mod certificates;
 #[cfg(test)]
 mod feed;
 #[cfg(test)]
 mod field;
+#[cfg(test)]
+mod flights;
 #[cfg(test)]
 mod io;
 #[cfg(test)]
@@ -17,6 +20,12 @@ mod names;
 #[cfg(test)]
 mod policy;
 #[cfg(test)]
-mod table;
+mod prefix;
+#[cfg(test)]
+mod programs;
+#[cfg(test)]
+mod tables;
 #[cfg(test)]
 mod topo;
+#[cfg(test)]
+mod updates;

@@ -1,0 +1,50 @@
+//! The automaton of a policy, made in two ways.
+ghost use Rattle.nk_algebra.specs.Unions.{AreIds};
+ghost use Rattle.nk_store.specs.Held.{IsId};
+
+use crate::automata::states_of;
+use crate::cases::DST;
+use crate::policies::in_turn;
+use nk_auto::automaton;
+use nk_deriv::derivatives::parts;
+use nk_field::{Fid, Packet};
+use nk_policy::Pol;
+use nk_store::{Id, Store};
+use std::alloc::{AllocError, Global};
+
+/// `dup;dst:=1`.
+fn recorded_and_set(alloc: Global) -> Result<Pol, AllocError> {
+    in_turn(alloc, Pol::Dup(1), Pol::Set(Fid::new(DST), 1))
+}
+
+/// Whether a state leads the packet of zeros to one target alone, with this `dst`.
+fn leads(st: &Store, d: Id, target: u64, value: u64) -> bool
+    requires { IsId st.now d }
+{
+    let zero = Packet::zero();
+    let outs = st.look(d, &zero);
+    outs.len() == 1
+        && outs[0].target == target
+        && outs[0].act.apply(&zero).get(Fid::new(DST)) == value
+}
+
+/// Whether there are two states: the start records the packet, and behind the dup it ends with `dst` 1.
+fn are_two(st: &Store, states: &[Id]) -> bool
+    requires { AreIds st.now states.now }
+{
+    states.len() == 2 && leads(st, states[0], 1, 0) && leads(st, states[1], 0, 1)
+}
+
+/// Whether the automaton by the policy is so.
+pub fn is_by_policy(st: &mut Store) -> Result<bool, AllocError> {
+    let p = recorded_and_set(st.alloc())?;
+    let states = states_of(st, &p)?;
+    Ok(are_two(st, states.as_slice()))
+}
+
+/// Whether the automaton by the policy's parts is so.
+pub fn is_by_parts(st: &mut Store) -> Result<bool, AllocError> {
+    let p = recorded_and_set(st.alloc())?;
+    let states = automaton(st, &parts(st.alloc(), &p)?)?;
+    Ok(are_two(st, states.as_slice()))
+}
