@@ -47,7 +47,7 @@ pub fn check_apart_reply<S: Source>(
     target: &Bytes,
     source: &mut S,
 ) -> Reply
-    ensures { IsMeantBy (IsJudgeAnswer (apart name.entry.now from.entry.now target.entry.now))
+    ensures { IsMeantBy (IsJudgeAnswer (apart name.now from.now target.now))
         (use_of S.left S.faults source.old source.new) (answer_in result) }
 {
     judge_text(alloc, &apart_query(name, from, target), source)
@@ -62,7 +62,7 @@ pub fn check_waypoint_reply<S: Source>(
     target: &Bytes,
     source: &mut S,
 ) -> Reply
-    ensures { IsMeantBy (IsJudgeAnswer (waypoint name.entry.now from.entry.now middle.entry.now target.entry.now))
+    ensures { IsMeantBy (IsJudgeAnswer (waypoint name.now from.now middle.now target.now))
         (use_of S.left S.faults source.old source.new) (answer_in result) }
 {
     judge_text(alloc, &waypoint_query(name, from, middle, target), source)

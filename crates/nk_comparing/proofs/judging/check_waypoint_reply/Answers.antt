@@ -1,11 +1,12 @@
-use Rattle.std.proofs.Common.{refl, subst}
-use Rattle.nk_words.specs.declared.words.Command.TheVariants as command
-use Rattle.nk_comparing.specs.CertifiedText.{ToCertified}
-use Rattle.nk_comparing.specs.Judging.{ToJudged}
+use Rattle.std.proofs.Common.{subst}
+use Rattle.nk_reply.specs.Meant.{IsMeantBy}
+use Rattle.nk_reply.specs.Reply.{answer_in}
+use Rattle.nk_reply.specs.Use.{use_of}
+use Rattle.nk_comparing.specs.Judging.{IsJudgeAnswer}
 use Rattle.nk_comparing.proofs.judging.check_waypoint_reply.Goals as goal
 
 -- the query asks what the words do
 pub returns : goal.returns
 returns g c =
-    c.judge_text.ensures (command.CheckWaypoint c.args.name.now c.args.from.now c.args.middle.now c.args.target.now) refl
-    (λ bytes o told. subst (λ asked. ToCertified (λ said certificate out. ToJudged said asked certificate out) bytes o) c.waypoint_query.ensures told)
+    subst (λ asked. IsMeantBy (IsJudgeAnswer asked) (use_of g.S.Source.left g.S.Source.faults c.args.source.now c.judge_text.new.source) (answer_in c.judge_text.result))
+    c.waypoint_query.ensures c.judge_text.ensures
