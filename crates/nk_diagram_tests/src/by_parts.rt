@@ -1,10 +1,15 @@
 //! The automaton of a policy, made in two ways.
+ghost use Rattle.std.specs.Prelude.{◌≡◌, ◌≤◌, ◌+◌, ◌^◌};
+ghost use Rattle.nk_policy.specs.Policy.{marked_from, dups_of};
+ghost use Rattle.nk_policy.specs.Tree.{tree_of};
 ghost use Rattle.nk_algebra.specs.Unions.{AreIds};
 ghost use Rattle.nk_store.specs.Held.{IsId};
+ghost use Rattle.nk_auto.specs.Continued.{IsFit};
+ghost use Rattle.nk_deriv.specs.Part.{NegatesPredicates};
 
-use crate::automata::states_of;
+use crate::automata::{fits, states_of};
 use crate::cases::DST;
-use crate::policies::in_turn;
+use crate::policies::{in_turn, numbered};
 use nk_auto::automaton;
 use nk_deriv::derivatives::parts;
 use nk_field::{Fid, Packet};
@@ -42,9 +47,25 @@ pub fn is_by_policy(st: &mut Store) -> Result<bool, AllocError> {
     Ok(are_two(st, states.as_slice()))
 }
 
+/// Whether the automaton by the parts of a policy is so.
+fn are_by_parts(st: &mut Store, p: &Pol) -> Result<bool, AllocError>
+    requires fit { IsFit st.old.maxes (tree_of p.now) }
+    requires complements { NegatesPredicates (tree_of p.now) }
+    requires numbered { marked_from (tree_of p.now) 1 ≡ tree_of p.now }
+    requires few { 1 + dups_of (tree_of p.now) ≤ 2 ^ 32 }
+{
+    let states = automaton(st, &parts(st.alloc(), p)?)?;
+    Ok(are_two(st, states.as_slice()))
+}
+
 /// Whether the automaton by the policy's parts is so.
 pub fn is_by_parts(st: &mut Store) -> Result<bool, AllocError> {
-    let p = recorded_and_set(st.alloc())?;
-    let states = automaton(st, &parts(st.alloc(), &p)?)?;
-    Ok(are_two(st, states.as_slice()))
+    let raw = recorded_and_set(st.alloc())?;
+    let Some(p) = numbered(st.alloc(), &raw)? else {
+        return Ok(false);
+    };
+    if !fits(st, &p) {
+        return Ok(false);
+    }
+    are_by_parts(st, &p)
 }
