@@ -5,25 +5,20 @@ difference are one: such a run of values is an interval (low, high), and its lea
 tell the values of an interval apart, and none assigns one but the value of an interval that has no other.
 """
 
-from itertools import product
+from itertools import count, product
 from math import prod
 
-from texts import DROP, ID, size_of
+from texts import ID, leaves, mapped, measured, parts_of
 
 # ----------------------------------------------------------------------------------------------------- packet spaces
 
 
-def mentioned(policy):
-    """The values (field, low, high) of which the tests, ranges, assignments and links of a policy speak."""
-    kind, *rest = policy
+def mentioned(leaf):
+    """The values (field, low, high) of which a test, a range, an assignment or a link speaks."""
+    kind, *rest = leaf
     if kind == "link":
         return [(f, n, n) for f, n in zip((0, 1, 0, 1), rest)]
-    if kind in ("test", "set"):
-        return [(rest[0], rest[1], rest[1])]
-    if kind == "range":
-        return [tuple(rest)]
-    parts = rest[0] if kind in ("sum", "seq") else rest[:1] if kind in ("not", "star") else ()
-    return [it for part in parts for it in mentioned(part)]
+    return [(rest[0], rest[1], rest[-1])] if rest else []
 
 
 class TooLarge(Exception):
@@ -33,9 +28,9 @@ class TooLarge(Exception):
 MOST = 4_000
 
 
-def small(policy):
+def small(policy, most=MOST):
     """A policy of a size that is gone through."""
-    if size_of(policy) > MOST:
+    if measured(policy).size > most:
         raise TooLarge
     return policy
 
@@ -43,16 +38,16 @@ def small(policy):
 class Space:
     """The packets over the fields of a program, as far as these policies, values and, if asked for, ports tell them apart."""
 
-    def __init__(self, program, policies=(), with_ports=False):
+    def __init__(self, program, policies, with_ports=False, most=MOST):
         self.program, self.fields = program, program.fields
         cuts = [{0, largest + 1} for _, largest in self.fields]
-        spoken = [it for policy in policies for it in mentioned(small(policy))]
+        spoken = [it for policy in policies for leaf in leaves(small(policy, most)) for it in mentioned(leaf)]
         for place in places(program) if with_ports else ():
             spoken += [(f, n, n) for f, n in place.items()]
         for f, low, high in spoken:
             cuts[f] |= {cut for cut in (low, high + 1) if cut <= self.fields[f][1]}
         self.intervals = [[(low, high - 1) for low, high in zip(sorted(it), sorted(it)[1:])] for it in cuts]
-        if prod(len(it) for it in self.intervals) > MOST:
+        if prod(len(it) for it in self.intervals) > most:
             raise TooLarge
 
     def packets(self, fixed=None):
@@ -78,25 +73,14 @@ def is_edge(program, packet):
 # ------------------------------------------------------------------------------------------------ policies and histories
 
 
-def numbered(policy, first):
-    """The policy with each link as its six parts and each dup with its number in text order, and the number behind."""
-    kind, *rest = policy
-    if kind == "dup":
-        return ("dup", first), first + 1
-    if kind == "link":
-        a, m, b, n = rest
-        tests, moves = (("test", 0, a), ("test", 1, m)), (("set", 0, b), ("set", 1, n))
-        return ("seq", (*tests, ("dup", first), *moves, ("dup", first + 1))), first + 2
-    if kind in ("sum", "seq"):
-        parts = []
-        for part in rest[0]:
-            part, first = numbered(part, first)
-            parts.append(part)
-        return (kind, tuple(parts)), first
-    if kind in ("not", "star"):
-        part, first = numbered(rest[0], first)
-        return (kind, part), first
-    return policy, first
+def parted(policy):
+    """The policy with each link as its six parts."""
+    return mapped(policy, lambda leaf: link_parts(*leaf[1:]) if leaf[0] == "link" else leaf)
+
+
+def link_parts(a, m, b, n):
+    """GUIDE 2: `1:2=>2:2` "sends a packet that is at port 2 of switch 1 over the link to port 2 of switch 2"; two dups record it."""
+    return ("seq", (("test", 0, a), ("test", 1, m), ("dup",), ("set", 0, b), ("set", 1, n), ("dup",)))
 
 
 def put(packet, f, n):
@@ -104,67 +88,15 @@ def put(packet, f, n):
     return packet[:f] + (n,) + packet[f + 1 :]
 
 
-def histories(policy, packet, most):
-    """GLOSSARY, Gives: "from packet pk the policy can end at y having recorded exactly w": all (w, y) with at most so many records.
-
-    The forms are those of GUIDE 2, "What it does with a packet"; a link is its six parts.
-    """
-    kind, *rest = policy
-    if kind == "test":
-        return {((), packet)} if packet[rest[0]] == rest[1] else set()
-    if kind == "range":
-        return {((), packet)} if rest[1] <= packet[rest[0]] <= rest[2] else set()
-    if kind == "set":
-        return {((), put(packet, *rest))}
-    if kind == "dup":
-        return {((packet,), packet)} if most else set()
-    if kind == "link":
-        return histories(numbered(policy, 1)[0], packet, most)
-    if kind == "not":
-        return {((), packet)} - histories(rest[0], packet, 0)
-    if kind == "sum":
-        return {it for part in rest[0] for it in histories(part, packet, most)}
-    if kind == "seq":
-        found = {((), packet)}
-        for part in rest[0]:
-            found = {it for one in found for it in going_on(part, one, most)}
-        return found
-    found, new = {((), packet)}, {((), packet)}
-    while new:  # one more round of the star
-        new = {it for one in new for it in going_on(rest[0], one, most)} - found
-        found |= new
+def rests(policy):
+    """GLOSSARY, after: "what is left of the policy after its dup l", by l."""
+    if policy[0] == "dup":
+        return {policy[1]: ID}
+    found = {}
+    for place, part in enumerate(parts_of(policy)):
+        behind = {"seq": policy[1][place + 1 :] if policy[0] == "seq" else (), "star": (policy,)}.get(policy[0], ())
+        found |= {label: ("seq", (rest, *behind)) for label, rest in rests(part).items()}
     return found
-
-
-def going_on(policy, history, most):
-    """The histories that begin with one and go on by a policy."""
-    records, packet = history
-    return {(records + more, y) for more, y in histories(policy, packet, most - len(records))}
-
-
-def after(policy, label):
-    """GLOSSARY, after: "what is left of the policy after its dup l"."""
-    kind, *rest = policy
-    if kind == "dup":
-        return ID if rest[0] == label else DROP
-    if kind == "sum":
-        return next((after(part, label) for part in rest[0] if label in labels(part)), DROP)
-    if kind == "seq":
-        for place, part in enumerate(rest[0]):
-            if label in labels(part):
-                return ("seq", (after(part, label), *rest[0][place + 1 :]))
-    if kind == "star" and label in labels(rest[0]):
-        return ("seq", (after(rest[0], label), policy))
-    return DROP
-
-
-def labels(policy):
-    """The numbers of the dups of a policy, in text order."""
-    kind, *rest = policy
-    if kind == "dup":
-        return [rest[0]]
-    parts = rest[0] if kind in ("sum", "seq") else rest if kind == "star" else ()
-    return [label for part in parts for label in labels(part)]
 
 
 START = frozenset({0})
@@ -177,13 +109,12 @@ class Runs:
     """
 
     def __init__(self, *policies):
-        self.sides, self.rests, self.memo, first = [], {}, {}, 1
-        for policy in policies:
-            policy, behind = numbered(small(policy), first)
-            self.sides.append(policy)
-            self.rests |= {label: after(policy, label) for label in range(first, behind)}
-            first = behind
-        self.split = len(labels(self.sides[0]))
+        numbers = count(1)
+        policies = [parted(policy) for policy in policies]
+        self.sides = [mapped(it, lambda leaf: ("dup", next(numbers)) if leaf == ("dup",) else leaf) for it in policies]
+        self.split = len(rests(self.sides[0]))  # the last position of the left side
+        self.rests = {label: rest for side in self.sides for label, rest in rests(side).items()}
+        self.memo = {}
 
     def rests_of(self, position_set, side):
         """What is left of a side's policy at each of these positions that are its own."""
@@ -203,15 +134,28 @@ class Runs:
                     found.setdefault(y, set()).add(label)
         return {y: frozenset(numbers) for y, numbers in sorted(found.items())}
 
-    def gives(self, policy, x):
-        """Where the policy ends from x without a record."""
-        key = (id(policy), x, "gives")
+    def histories(self, x, most, at=START):
+        """GLOSSARY, Gives: all (records, last) with at most so many records, by which a packet goes on from a set of positions."""
+        found = {((), y) for y in self.ends(at, x)}
+        for y, numbers in self.nexts(at, x).items() if most else ():
+            found |= {((y, *records), last) for records, last in self.histories(y, most - 1, numbers)}
+        return found
+
+    def known(self, question, policy, x):
+        """What `given` or `recorded` says, asked once of a policy and a packet."""
+        key = (question, id(policy), x)
         if key not in self.memo:
-            self.memo[key] = self.given(policy, x)
-        return self.memo[key]
+            self.memo[key] = question(policy, x), policy  # a policy that is kept keeps its identity
+        return self.memo[key][0]
+
+    def gives(self, policy, x):
+        return self.known(self.given, policy, x)
+
+    def records(self, policy, x):
+        return self.known(self.recorded, policy, x)
 
     def given(self, policy, x):
-        """The forms of GUIDE 2, of what is recorded nothing."""
+        """Where the policy ends from x without a record: the forms of GUIDE 2, "What it does with a packet"."""
         kind, *rest = policy
         if kind == "dup":
             return set()
@@ -234,15 +178,9 @@ class Runs:
             found |= new
         return found
 
-    def records(self, policy, x):
-        """The packets that the policy can record first from x, each with the number of the dup that does it."""
-        key = (id(policy), x, "records")
-        if key not in self.memo:
-            self.memo[key] = self.recorded(policy, x)
-        return self.memo[key]
-
     def recorded(self, policy, x):
-        """GLOSSARY, RecordsAt: "a run so far: it has recorded u and then, by its last step, x at the dup with number l", u empty."""
+        """The packets that can be recorded first from x, each with its dup's number. GLOSSARY, RecordsAt: "a run so far: it has
+        recorded u and then, by its last step, x at the dup with number l", u empty."""
         kind, *rest = policy
         if kind == "dup":
             return {(x, rest[0])}
@@ -292,20 +230,13 @@ class Runs:
 
 
 def first_difference(space, runs, first=START):
-    """README, Done: "the least history that one of them alone has, with its start and its side": (0 or 1, start, records, last)."""
-    found = runs.least(space.packets(), lambda at, x: runs.ends(at, x, 0) ^ runs.ends(at, x, 1), first)
-    if not found:
-        return None
-    start, records, last = found
-    at, x = walked(runs, first, start, records)
-    return (0 if last in runs.ends(at, x, 0) else 1), start, records, last
+    """README, Done: "the least history that one of them alone has, with its start and its side": (start, records, (last, 0 or 1))."""
 
+    def alone(at, x):
+        left, right = runs.ends(at, x, 0), runs.ends(at, x, 1)
+        return {(y, 0) for y in left - right} | {(y, 1) for y in right - left}
 
-def walked(runs, position_set, start, records):
-    """The set of positions behind these records, and the last of them, else the start."""
-    for x, y in zip((start, *records), records):
-        position_set = runs.nexts(position_set, x)[y]
-    return position_set, (start, *records)[-1]
+    return runs.least(space.packets(), alone, first)
 
 
 def tag_sets(space, runs):
@@ -319,13 +250,6 @@ def tag_sets(space, runs):
 
 class Refused(Exception):
     """README, Answers: status 4: `refused CN: WORDS`, and further lines."""
-
-
-def leaves(policy):
-    """The leaves of a policy in text order."""
-    if policy[0] in ("sum", "seq"):
-        return [leaf for part in policy[1] for leaf in leaves(part)]
-    return leaves(policy[1]) if policy[0] in ("not", "star") else [policy]
 
 
 def check_by_sight(program, policy, links):
@@ -349,13 +273,13 @@ def check_edges(space, runs):
 
 def physical(policy, program):
     """GUIDE 3, README: each literal of a virtual link behind tests of switch and port: the link's fabric in its place."""
-    kind, *rest = policy
-    if kind == "link":
-        fabric = program.fabrics[program.virtuals[tuple(rest[:2])][2]]
-        return ("seq", (("test", 0, rest[0]), ("test", 1, rest[1]), fabric))
-    if kind in ("sum", "seq"):
-        return (kind, tuple(physical(part, program) for part in rest[0]))
-    return (kind, physical(rest[0], program)) if kind in ("not", "star") else policy
+
+    def fabric(leaf):
+        if leaf[0] != "link":
+            return leaf
+        return ("seq", (("test", 0, leaf[1]), ("test", 1, leaf[2]), program.fabrics[program.virtuals[leaf[1:3]][2]]))
+
+    return mapped(policy, fabric)
 
 
 def uncarried(program, source):
@@ -382,18 +306,8 @@ def question(policy, before, avoided, behind):
     if avoided is None:
         return ("seq", (before, policy, behind))
     avoid = ("not", avoided)
-    return ("seq", (before, avoid, avoiding(policy, avoid), avoid, behind))
-
-
-def avoiding(policy, avoid):
-    """The policy with each link written out, and the complement of W before each dup."""
-    if policy[0] == "dup":
-        return ("seq", (avoid, ("dup",)))
-    if policy[0] == "link":
-        return avoiding(numbered(policy, 1)[0], avoid)
-    if policy[0] in ("sum", "seq"):
-        return (policy[0], tuple(avoiding(part, avoid) for part in policy[1]))
-    return ("star", avoiding(policy[1], avoid)) if policy[0] == "star" else policy
+    avoiding = mapped(parted(policy), lambda leaf: ("seq", (avoid, leaf)) if leaf == ("dup",) else leaf)
+    return ("seq", (before, avoid, avoiding, avoid, behind))
 
 
 def classes(space, policy, sets):

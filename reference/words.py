@@ -5,9 +5,9 @@
 
 import re
 
+from certificates import Judge
 from generated import generated
 from meaning import (
-    START,
     Refused,
     Runs,
     Space,
@@ -24,7 +24,7 @@ from meaning import (
 )
 from network import Update, draws, fly, trace
 from printed import Compiled, certificate
-from texts import DROP, LARGEST_PORT, MOST_ELEMENTS, Fault, is_predicate, parse_certified, parse_program, parse_tables, size_of
+from texts import DROP, LARGEST_PORT, MOST_ELEMENTS, Fault, measured, parse_certified, parse_program, parse_tables
 
 MOST_BYTES = 16_777_216  # README, Answers: status 8: the text has more than 16,777,216 bytes
 # README, The commands; GUIDE 8: a number out of its range is a usage fault.
@@ -172,32 +172,34 @@ def packet_of(program, text):
 
 
 def answer_compile(text, name):
+    program, policy = tagged_policy(text, name)
+    seen(program, policy, program.links)
+    return 0, tables_of(program, policy)[0].lines()
+
+
+def tagged_policy(text, name):
     program = parse_program(text)
     policy = policies(program, name)[0]
     tagged(program)
-    seen(program, policy, program.links)
-    return 0, tables_of(program, policy).lines()
+    return program, policy
 
 
 def tables_of(program, policy, shared=False):
-    """The tables of a policy of which C7 and C8 don't hold; with classes of tag sets, if tags are shared."""
+    """The tables of a policy of which C7 and C8 don't hold; if tag sets share tags, also what tells the tags apart."""
     space, runs = edged(program, policy)
     sets = tag_sets(space, runs)
     numbers, aparts = classes(space, policy, sets) if shared else (range(1, len(sets) + 1), {})
     few(program, max(numbers, default=0))
-    tables = Compiled(space, runs, sets, numbers)
-    return (tables, aparts) if shared else tables
+    return Compiled(space, runs, sets, numbers), aparts
 
 
 def answer_compact(text, name):
     """One tag for all tag sets behind which the same histories are left, and a comment line for each two tags."""
-    program = parse_program(text)
-    policy = policies(program, name)[0]
-    tagged(program)
+    program, policy = tagged_policy(text, name)
     seen(program, policy, program.links)
     tables, aparts = tables_of(program, policy, shared=True)
     lines = tables.lines()
-    for (low, high), (side, start, records, last) in sorted(aparts.items()):
+    for (low, high), (start, records, (last, side)) in sorted(aparts.items()):
         words = " : ".join(found_lines(program, start, records, last))
         lines.append(f"# apart {low} {high} : {(low, high)[side]} alone : {words}")
     return 0, lines
@@ -205,9 +207,7 @@ def answer_compact(text, name):
 
 def answer_virtual(text, name):
     """For each virtual link C3 to C6 of its fabric, C11 and C12; then those of the policy, C13, C7 and C8."""
-    program = parse_program(text)
-    policy = policies(program, name)[0]
-    tagged(program)
+    program, policy = tagged_policy(text, name)
     for source, (_, _, fabric) in sorted(program.virtuals.items()):
         seen(program, program.fabrics[fabric], program.links)
         link = f"link {source[0]}:{source[1]}"
@@ -219,12 +219,12 @@ def answer_virtual(text, name):
     seen(program, policy, program.virtuals)
     policy = physical(policy, program)
     few_elements(policy)
-    return 0, tables_of(program, policy).lines()
+    return 0, tables_of(program, policy)[0].lines()
 
 
 def few_elements(policy):
     """C13: more than 1,048,576 elements."""
-    if size_of(policy) > MOST_ELEMENTS:
+    if measured(policy).size > MOST_ELEMENTS:
         raise Refused("refused C13: expanded too large")
 
 
@@ -233,7 +233,8 @@ def compared(program, left, right, words):
     space, runs = Space(program, [left, right]), Runs(left, right)
     found = first_difference(space, runs)
     if found:
-        return 1, [*words[found[0]], *found_lines(program, *found[1:])]
+        start, records, (last, side) = found
+        return 1, [*words[side], *found_lines(program, start, records, last)]
     return 0, certificate(space, runs)
 
 
@@ -246,7 +247,7 @@ def answer_equal(text, *names):
 def asked(program, name, *predicates):
     """The question of a query: C1 of any name, C14 of the predicates, C13."""
     policy, *sets = policies(program, name, *predicates)
-    if not all(is_predicate(it) for it in sets):
+    if not all(measured(it).predicate for it in sets):
         raise Refused("refused C14: not a predicate")
     before, avoided, behind = sets if len(sets) == 3 else (sets[0], None, sets[1])
     asks = question(policy, before, avoided, behind)
@@ -270,30 +271,8 @@ def answer_check_query(text, *names):
 
 
 def judged(program, left, right, rows):
-    """README, Certificates: the first row that fails, and the first part in which it fails."""
-    space = Space(program, [left, right, *(row.predicate for row in rows)])
-    runs = Runs(left, right)
-    holds = {frozenset(row.positions): {x for x in space.packets() if runs.gives(row.predicate, x)} for row in rows[1:]}
-    for place, row in enumerate(rows):
-        at = frozenset(row.positions) if place else START
-        if not all(1 <= position <= len(runs.rests) for position in row.positions):
-            part = "position"
-        elif place == 0 and not all(runs.gives(row.predicate, x) for x in space.packets()):
-            part = "start"
-        else:
-            part = failing_part(runs, at, holds[at] if place else space.packets(), holds)
-        if part:
-            return 1, [f"invalid row {place + 1}: {part}"]
-    return 0, ["valid"]
-
-
-def failing_part(runs, at, packets, holds):
-    """*finals*: both policies end at the same packets. *hop*: some row has the numbers and the packet recorded next."""
-    if any(runs.ends(at, x, 0) != runs.ends(at, x, 1) for x in packets):
-        return "finals"
-    if any(y not in holds.get(numbers, ()) for x in packets for y, numbers in runs.nexts(at, x).items()):
-        return "hop"
-    return None
+    said = Judge(program, left, right, rows).answer()
+    return (0 if said == "valid" else 1), [said]
 
 
 def answer_trace(text, hops, packet):
@@ -344,7 +323,7 @@ def answer_job(text, size, seed):
     program = parse_program("\n".join(generated(size, seed)).encode())
     lines = []
     for name in ("go", "cast"):
-        tables = tables_of(program, *policies(program, name))
+        tables, _ = tables_of(program, *policies(program, name))
         text = tables.lines()
         counts = [sum(line.startswith(word) for line in text) for word in ("row ", "group ")]
         lines.append(f"{name} tags {len(tables.sets)} rows {counts[0]} groups {counts[1]}")
