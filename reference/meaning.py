@@ -254,7 +254,7 @@ class Refused(Exception):
 
 def check_by_sight(program, policy, links):
     """README: "C2 to C6 are decided by the policy's text alone, also for parts of it that no packet can reach"."""
-    found = leaves(policy)
+    found = leaves(small(policy))
     if any(it[0] in ("test", "range", "set") and it[1] == program.tag for it in found):
         raise Refused("C3: tag used")
     if any(it[0] == "dup" for it in found):
