@@ -123,16 +123,15 @@ class Runs:
 
     def ends(self, position_set, packet, side=0):
         """The packets at which the side can end from the packet without a record."""
-        return {y for policy in self.rests_of(position_set, side) for y in self.gives(policy, packet)}
+        return joined(self.walked(policy, packet) for policy in self.rests_of(position_set, side))[0]
 
     def nexts(self, position_set, packet):
         """Each packet that can be recorded next, with the set of the numbers of all dups that do so."""
         found = {}
         for side in range(len(self.sides)):
-            for policy in self.rests_of(position_set, side):
-                for y, label in self.records(policy, packet):
-                    found.setdefault(y, set()).add(label)
-        return {y: frozenset(numbers) for y, numbers in sorted(found.items())}
+            for y, label in joined(self.walked(policy, packet) for policy in self.rests_of(position_set, side))[1]:
+                found.setdefault(y, set()).add(label)
+        return {y: frozenset(numbers) for y, numbers in found.items()}
 
     def histories(self, x, most, at=START):
         """GLOSSARY, Gives: all (records, last) with at most so many records, by which a packet goes on from a set of positions."""
@@ -141,89 +140,69 @@ class Runs:
             found |= {((y, *records), last) for records, last in self.histories(y, most - 1, numbers)}
         return found
 
-    def known(self, question, policy, x):
-        """What `given` or `recorded` says, asked once of a policy and a packet."""
-        key = (question, id(policy), x)
+    def walked(self, policy, x):
+        """What `walk` says, asked once of a policy and a packet."""
+        key = (id(policy), x)
         if key not in self.memo:
-            self.memo[key] = question(policy, x), policy  # a policy that is kept keeps its identity
+            self.memo[key] = self.walk(policy, x), policy  # a policy that is kept keeps its identity
         return self.memo[key][0]
 
-    def gives(self, policy, x):
-        return self.known(self.given, policy, x)
-
-    def records(self, policy, x):
-        return self.known(self.recorded, policy, x)
-
-    def given(self, policy, x):
-        """Where the policy ends from x without a record: the forms of GUIDE 2, "What it does with a packet"."""
+    def walk(self, policy, x):
+        """Where the policy ends from x without a record, by the forms of GUIDE 2, "What it does with a packet"; and the packets
+        that it can record first, each with its dup's number. GLOSSARY, RecordsAt: "a run so far", nothing recorded before."""
         kind, *rest = policy
         if kind == "dup":
-            return set()
+            return set(), {(x, rest[0])}
         if kind in ("test", "range"):
-            return {x} if rest[1] <= x[rest[0]] <= rest[-1] else set()
+            return {x} if rest[1] <= x[rest[0]] <= rest[-1] else set(), set()
         if kind == "set":
-            return {put(x, *rest)}
+            return {put(x, *rest)}, set()
         if kind == "not":
-            return {x} - self.gives(rest[0], x)
+            return {x} - self.walked(rest[0], x)[0], set()
         if kind == "sum":
-            return {y for part in rest[0] for y in self.gives(part, x)}
-        found = {x}
-        if kind == "seq":
-            for part in rest[0]:
-                found = {z for y in found for z in self.gives(part, y)}
-            return found
-        new = {x}
-        while new:
-            new = {z for y in new for z in self.gives(rest[0], y)} - found
-            found |= new
-        return found
-
-    def recorded(self, policy, x):
-        """The packets that can be recorded first from x, each with its dup's number. GLOSSARY, RecordsAt: "a run so far: it has
-        recorded u and then, by its last step, x at the dup with number l", u empty."""
-        kind, *rest = policy
-        if kind == "dup":
-            return {(x, rest[0])}
-        if kind == "sum":
-            return {it for part in rest[0] for it in self.records(part, x)}
-        if kind == "star":
-            return {it for y in self.gives(policy, x) for it in self.records(rest[0], y)}
-        found, reached = set(), {x}
+            return joined(self.walked(part, x) for part in rest[0])
+        ends, records, new = {x}, set(), {x}
         for part in rest[0] if kind == "seq" else ():
-            found |= {it for y in reached for it in self.records(part, y)}
-            reached = {z for y in reached for z in self.gives(part, y)}
-        return found
+            ends, more = joined(self.walked(part, y) for y in ends)
+            records |= more
+        while new and kind == "star":
+            new, more = joined(self.walked(rest[0], y) for y in new)
+            new, records = new - ends, records | more
+            ends |= new
+        return ends, records
 
     def levels(self, starts, first=START):
-        """Level by level, the pairs of a set of positions and a packet that no shorter list of records comes to."""
-        level = seen = {(first, x) for x in starts}
+        """Level by level, the pairs of a set of positions and a packet that no shorter list of records comes to, each with the
+        least start and records that come to it."""
+        level = {(first, x): (x,) for x in starts}
+        seen = set(level)
         while level:
             yield level
-            level = {(numbers, y) for at in level for y, numbers in self.nexts(*at).items()} - seen
-            seen = seen | level
+            further = {}
+            for at, way in sorted(level.items(), key=lambda it: it[1]):
+                for y, numbers in self.nexts(*at).items():
+                    if (numbers, y) not in seen:
+                        further.setdefault((numbers, y), (*way, y))
+            level = further
+            seen |= set(level)
 
     def least(self, starts, bad, first=START):
         """The least history that ends at a bad packet: fewer records, then the lesser start, then packets in turn."""
-        for count, level in enumerate(self.levels(starts, first)):
-            if any(bad(*at) for at in level):
-                known = {}
-                found = ((x, self.least_from(first, x, count, bad, known)) for x in sorted(starts))
-                return next((x, *way) for x, way in found if way)
+        for level in self.levels(starts, first):
+            found = [(way, min(bad(*at))) for at, way in level.items() if bad(*at)]
+            if found:
+                way, last = min(found)
+                return way[0], way[1:], last
         return None
 
-    def least_from(self, position_set, x, count, bad, known):
-        """The least (records, last) from a packet with just `count` records and a bad end, or None."""
-        key = (position_set, x, count)
-        if key not in known:
-            known[key] = None
-            if not count:
-                known[key] = ((), min(bad(position_set, x))) if bad(position_set, x) else None
-            for y, numbers in self.nexts(position_set, x).items() if count else ():
-                way = self.least_from(numbers, y, count - 1, bad, known)
-                if way:
-                    known[key] = ((y, *way[0]), way[1])
-                    break
-        return known[key]
+
+def joined(walks):
+    """What several walks come to."""
+    ends, records = set(), set()
+    for more_ends, more_records in walks:
+        ends |= more_ends
+        records |= more_records
+    return ends, records
 
 
 # --------------------------------------------------------------------------------------------------- answers on policies
@@ -267,8 +246,7 @@ def check_by_sight(program, policy, links):
 
 def check_edges(space, runs):
     """README, C7: "a packet without tag on a declared port has a history that ends at no edge port; the least one is printed"."""
-    program = space.program
-    return runs.least(space.located(), lambda at, x: {y for y in runs.ends(at, x) if not is_edge(program, y)})
+    return runs.least(space.located(), lambda at, x: {y for y in runs.ends(at, x) if not is_edge(space.program, y)})
 
 
 def physical(policy, program):
@@ -285,13 +263,12 @@ def physical(policy, program):
 def uncarried(program, source):
     """README, C11: a packet without tag at the link's source "has a history of the link's fabric that ends elsewhere than at the
     packet moved to the port where the link ends"; C12: such a packet "has no history of the link's fabric"; else None."""
-    switch, port, name = program.virtuals[source]
+    *target, name = program.virtuals[source]
     fabric = program.fabrics[name]
     space, runs = Space(program, [fabric], with_ports=True), Runs(fabric)
     starts = space.packets({0: source[0], 1: source[1], program.tag: 0})
     for x in starts:
-        moved = (switch, port, *x[2:])
-        found = runs.least([x], lambda at, y: runs.ends(at, y) - {moved})
+        found = runs.least([x], lambda at, y: runs.ends(at, y) - {(*target, *x[2:])})
         if found:
             return ("C11", *found)
     for x in starts:
