@@ -35,7 +35,7 @@ class Draw:
     def value(self, name):
         """A value of a field, now and then one beyond its range."""
         largest = {"sw": 65535, "pt": 65535}.get(name, self.fields.get(name, 3))
-        few = {"sw": [*self.switches], "pt": [1, 2, 3, 9]}.get(name, [0, 1, 2, 3, 4, largest // 2, largest - largest // 3, largest])
+        few = {"sw": [*self.switches], "pt": [1, 2, 3, 9]}.get(name, [0, 1, 2, 3, 4, largest // 2, largest - largest // 3, max(0, largest - 1), largest])
         return self.random.choice(few) if self.chance(0.05) else self.random.choice([it for it in few if it <= largest])
 
     def field(self, with_tag=0.04):
@@ -332,10 +332,10 @@ def match_text(draw, name):
     return f"{name}={value if draw.chance(0.05) else value >> max(0, digits - length) << max(0, digits - length)}/{length}"
 
 
-def bucket_text(draw, switch=None, share=0.35):
-    """A bucket, mostly to where a link of the switch begins, if one is given."""
+def bucket_text(draw, switch=None, share=0.35, ports=()):
+    """A bucket, out of one of these ports, or mostly to where a link of the switch begins, if one is given."""
     sets = [f"{name}:={draw.value(name)}" for name in draw.fields if draw.chance(share)]
-    crossing = [m for a, m, _, _ in draw.links if a == switch and draw.chance(0.8)]
+    crossing = ports or [m for a, m, _, _ in draw.links if a == switch and draw.chance(0.8)]
     return f"[{' '.join([*sets, 'out'])} {draw.one(*(crossing or ['in', 1, 2, 3, 9]))}]"
 
 
@@ -344,8 +344,20 @@ def group_text(draw, switch):
     return " ".join(bucket_text(draw, draw.one(switch, switch, None), 0.7) for _ in range(draw.one(1, 2, 2, 3)))
 
 
+def spreading(draw):
+    """Tables by which copies that differ in the tag and other fields cross links, and leave or cross more behind them."""
+    lines = ["tables 1", *draw.declarations(1)]
+    for switch, ports in draw.switches.items():
+        crossing = [m for a, m, _, _ in draw.links if a == switch] or ports
+        crossing = draw.one(crossing, crossing[:1])
+        group = " ".join(bucket_text(draw, share=0.9, ports=crossing) for _ in range(3))
+        lines += [f"table {switch}", f"group 1 = {group}", "row 1 : vlan=0 -> group 1"]
+        lines.append(f"row 0 : -> {bucket_text(draw, share=0.1, ports=ports)}")
+    return lines
+
+
 def following(draw):
-    lines = table_lines(draw)
+    lines = spreading(draw) if draw.links and draw.chance(0.25) else table_lines(draw)
     if draw.chance(0.55):
         return ["trace", str(draw.one(0, 1, 1, 2, 3, 4, 6)), draw.packet()], lines
     return ["fly", str(draw.random.randrange(1, 99)), str(draw.one(0, 1, 3, 5, 9, 15)), draw.packet()], lines
