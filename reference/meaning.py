@@ -262,7 +262,7 @@ def physical(policy, program):
 
 def uncarried(program, source):
     """README, C11: a packet without tag at the link's source "has a history of the link's fabric that ends elsewhere than at the
-    packet moved to the port where the link ends"; C12: such a packet "has no history of the link's fabric"; else None."""
+    packet moved to the port where the link ends"; C12: such a packet "has no history of the link's fabric"; or that neither holds."""
     *target, name = program.virtuals[source]
     fabric = program.fabrics[name]
     space, runs = Space(program, [fabric], with_ports=True), Runs(fabric)
@@ -270,11 +270,11 @@ def uncarried(program, source):
     for x in starts:
         found = runs.least([x], lambda at, y: runs.ends(at, y) - {(*target, *x[2:])})
         if found:
-            return ("C11", *found)
+            return ("C11: off target", *found)
     for x in starts:
         if not any(runs.ends(*at) for level in runs.levels([x]) for at in level):
-            return ("C12", x)
-    return None
+            return ("C12: not carried", x)
+    return (None,)
 
 
 def question(policy, before, avoided, behind):

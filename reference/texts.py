@@ -405,7 +405,7 @@ def check_complements(policy):
 
 
 # A row of a certificate: its positions, none of the start row, and its predicate.
-Row = namedtuple("Row", "positions predicate line")
+Row = namedtuple("Row", "positions predicate")
 
 
 def certificate_rows(program, written):
@@ -416,7 +416,7 @@ def certificate_rows(program, written):
         ascends = all(low < high for low, high in zip(positions, positions[1:]))
         if not ascends or positions in [row.positions for row in rows]:
             raise Fault(word.line, "certificate fault")
-        rows.append(Row(positions, program.row(word, tree), word.line))
+        rows.append(Row(positions, program.row(word, tree)))
     return rows
 
 

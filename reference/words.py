@@ -29,6 +29,7 @@ MOST_BYTES = 16_777_216  # README, Answers: status 8: the text has more than 16,
 # README, The commands; GUIDE 8: a number out of its range is a usage fault.
 HOPS, STEPS, SIZE, SEED = (0, LARGEST_PORT), (0, 1_000_000), (2, 1_000), (1, 2_147_483_646)
 
+
 class Usage(Exception):
     """README, Answers: status 2: the words are no command."""
 
@@ -87,9 +88,10 @@ def history_text(program, records, last, with_tag=True):
     return " ".join(packet_text(program, it, with_tag) for it in (*records, last))
 
 
-def found_lines(program, start, records, last):
-    """`start PACKET`, `history PACKET PACKET ..`, with every field."""
-    return [f"start {packet_text(program, start)}", f"history {history_text(program, records, last)}"]
+def found_lines(program, start, *history):
+    """`start PACKET`, and of a history `history PACKET PACKET ..`, with every field."""
+    lines = [f"start {packet_text(program, start)}"]
+    return [*lines, f"history {history_text(program, *history)}"] if history else lines
 
 
 # --------------------------------------------------------------------------------------------------------- refusals
@@ -184,12 +186,9 @@ def answer_virtual(text, name):
     program, policy = tagged_policy(text, name)
     for source, (_, _, fabric) in sorted(program.virtuals.items()):
         check_by_sight(program, program.fabrics[fabric], program.links)
-        link = f"link {source[0]}:{source[1]}"
-        found = uncarried(program, source)
-        if found and found[0] == "C11":
-            raise Refused(f"C11: off target, {link}", *found_lines(program, *found[1:]))
+        reason, *found = uncarried(program, source)
         if found:
-            raise Refused(f"C12: not carried, {link}", f"start {packet_text(program, found[1])}")
+            raise Refused(f"{reason}, link {source[0]}:{source[1]}", *found_lines(program, *found))
     check_by_sight(program, policy, program.virtuals)
     policy = physical(policy, program)
     few_elements(policy)
