@@ -35,7 +35,8 @@ class Draw:
     def value(self, name):
         """A value of a field, now and then one beyond its range."""
         largest = {"sw": 65535, "pt": 65535}.get(name, self.fields.get(name, 3))
-        few = {"sw": [*self.switches], "pt": [1, 2, 3, 9]}.get(name, [0, 1, 2, 3, 4, largest // 2, largest - largest // 3, max(0, largest - 1), largest])
+        values = [0, 1, 2, 3, 4, largest // 2, largest - largest // 3, max(0, largest - 1), largest]
+        few = {"sw": [*self.switches], "pt": [1, 2, 3, 9]}.get(name, values)
         return self.random.choice(few) if self.chance(0.05) else self.random.choice([it for it in few if it <= largest])
 
     def field(self, with_tag=0.04):
@@ -138,8 +139,8 @@ class Draw:
 
     def rewritten(self, text):
         """A policy that does the same, or nearly."""
-        forms = ["({0}) + ({0})", "id;({0})", "({0});id", "({0}) + drop", "~~id;({0})", "({0}) + drop;dup", "(id + drop*)*;({0})", "~({1})*;({0})"]
-        forms += ["({0});({1})* + ({0})", "({0}) + ({0});{1}", "{1};({0}) + ~({1});({0})", "({0}) + {1};({0})", "{1};({0})"]
+        forms = ["({0}) + ({0})", "id;({0})", "({0});id", "({0}) + drop", "~~id;({0})", "({0}) + drop;dup", "(id + drop*)*;({0})"]
+        forms += ["~({1})*;({0})", "({0});({1})* + ({0})", "({0}) + ({0});{1}", "{1};({0}) + ~({1});({0})", "({0}) + {1};({0})", "{1};({0})"]
         return self.random.choice(forms).format(text, self.predicate(1))
 
     def changed(self, text):
@@ -314,7 +315,8 @@ def table_lines(draw):
         groups = range(0 if draw.chance(0.02) else 1, 1 + draw.one(0, 1, 1, 2))
         lines += [f"group {it} = {group_text(draw, switch)}" for it in groups]
         for _ in range(draw.one(0, 1, 2, 3, 4, 5)):
-            target = draw.one(bucket_text(draw), bucket_text(draw, switch), "drop", f"group {draw.one(*groups, 1)}", f"group {draw.one(*groups, 1)}")
+            group = f"group {draw.one(*groups, 1)}"
+            target = draw.one(bucket_text(draw), bucket_text(draw, switch), "drop", group, group)
             target = bucket_text(draw) if target.startswith("group") and not groups and draw.chance(0.9) else target
             names = [name for name in ["pt", *draw.fields] if draw.chance(0.2)]
             matches = [match_text(draw, name) for name in names]
@@ -393,7 +395,8 @@ LINES += ["switch 6 ports 2,2,65536", "switch 1 ports 65536", "switch 65536 port
 LINES += ["link 1:1 -> 1:1", "link 1:1 -> 2:1", "link 7:1 -> 1:1", "link 1:2 -> 1:9"]
 LINES += ["let p = id", "let z = zz", "let z = p;~p", "let z = ~(dup + ~dup)", "let z = nofield=1", "let z = 1:1=>1:65536"]
 LINES += ["fabric f = p", "fabric f = f", "virtual 1:1 -> 1:2 by f", "virtual 1:1 -> 1:1 by p", "virtual 1:9 -> 9:9 by f"]
-LINES += ["field f{} 3", "let d{} = {}", "let d{} = {}", "tables 1", "table 1", "row 0 : -> drop", "certificate", "row 1 : id", "row 1 1 : id"]
+LINES += ["field f{} 3", "let d{} = {}", "let d{} = {}", "tables 1", "table 1", "row 0 : -> drop"]
+LINES += ["certificate", "row 1 : id", "row 1 1 : id"]
 
 DEEP = ["~" * 255 + "id", "~" * 256 + "id", "~(" * 128 + "id" + ")" * 128]
 DEEP += ["(" * 255 + "id" + ")" * 256, "(" * 256 + "id" + ")" * 256, "(" * 257 + "id" + ")" * 257]
@@ -418,7 +421,8 @@ def deep(draw):
     if draw.chance(0.4):
         count, form = draw.one(17, 18, 19, 20, 21), draw.one("{0};{0}", "{0} + {0}", "{0};{0} + id")
     lines = ["let a0 = id", *(f"let a{it} = " + form.format(f"a{it - 1}") for it in range(1, count + 1))]
-    words = [["compile", "x"], ["compile", f"a{count}"], ["apart", f"a{count}", "a0", "a0"], ["waypoint", "a0", "a0", f"a{count}", "a0"]]
+    last = f"a{count}"
+    words = [["compile", "x"], ["compile", last], ["apart", last, "a0", "a0"], ["waypoint", "a0", "a0", last, "a0"]]
     return draw.random.choice(words), lines
 
 

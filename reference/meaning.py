@@ -79,7 +79,7 @@ def parted(policy):
 
 
 def link_parts(a, m, b, n):
-    """GUIDE 2: `1:2=>2:2` "sends a packet that is at port 2 of switch 1 over the link to port 2 of switch 2"; two dups record it."""
+    """GUIDE 2: `1:2=>2:2` "sends a packet that is at port 2 of switch 1 over the link to port 2 of switch 2"."""
     return ("seq", (("test", 0, a), ("test", 1, m), ("dup",), ("set", 0, b), ("set", 1, n), ("dup",)))
 
 
@@ -209,7 +209,7 @@ def joined(walks):
 
 
 def first_difference(space, runs, first=START):
-    """README, Done: "the least history that one of them alone has, with its start and its side": (start, records, (last, 0 or 1))."""
+    """README, Done: "the least history that one of them alone has, with its start and its side", 0 or 1, behind the last."""
 
     def alone(at, x):
         left, right = runs.ends(at, x, 0), runs.ends(at, x, 1)
@@ -262,7 +262,7 @@ def physical(policy, program):
 
 def uncarried(program, source):
     """README, C11: a packet without tag at the link's source "has a history of the link's fabric that ends elsewhere than at the
-    packet moved to the port where the link ends"; C12: such a packet "has no history of the link's fabric"; or that neither holds."""
+    packet moved to the port where the link ends"; C12: such a packet "has no history of the link's fabric"; or neither."""
     *target, name = program.virtuals[source]
     fabric = program.fabrics[name]
     space, runs = Space(program, [fabric], with_ports=True), Runs(fabric)

@@ -161,7 +161,7 @@ class Reader:
     # Declarations: the word's token, then the tokens and trees behind it.
 
     def declaration(self, *words):
-        """One declaration: of a field, the tag, a switch or a link, or by one of these words a policy, a fabric or a virtual link."""
+        """One declaration: of a field, the tag, a switch, a link, or by one of these words of a policy, fabric or virtual link."""
         word = self.take("field", "tag", "switch", "link", *words)
         if word.kind == "field":
             return (word, *self.take_all("name", "number"))
