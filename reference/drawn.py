@@ -400,6 +400,7 @@ LINES += ["certificate", "row 1 : id", "row 1 1 : id"]
 
 DEEP = ["~" * 255 + "id", "~" * 256 + "id", "~(" * 128 + "id" + ")" * 128]
 DEEP += ["(" * 255 + "id" + ")" * 256, "(" * 256 + "id" + ")" * 256, "(" * 257 + "id" + ")" * 257]
+DEEP += ["~(" * 128 + "~id" + ")" * 128]
 
 
 def declared(draw):
@@ -418,8 +419,8 @@ def declared(draw):
 def deep(draw):
     """Names of names: the limits on depth and size."""
     count, form = draw.one(254, 255, 256, 257), draw.one("{}*", "~{}", "{};id", "{} + id")
-    if draw.chance(0.4):
-        count, form = draw.one(17, 18, 19, 20, 21), draw.one("{0};{0}", "{0} + {0}", "{0};{0} + id")
+    if draw.chance(0.5):
+        count, form = draw.one(18, 19, 20, 20, 21), draw.one("{0};{0}", "{0} + {0}", "{0};{0} + id")
     lines = ["let a0 = id", *(f"let a{it} = " + form.format(f"a{it - 1}") for it in range(1, count + 1))]
     last = f"a{count}"
     words = [["compile", "x"], ["compile", last], ["apart", last, "a0", "a0"], ["waypoint", "a0", "a0", last, "a0"]]
@@ -427,7 +428,7 @@ def deep(draw):
 
 
 KINDS = {compiling: 26, equating: 18, checking: 14, following: 14, damaged: 14, declared: 9, asking: 6, updating: 6, faring: 7}
-KINDS |= {worded: 6, generating: 1, deep: 0.6}
+KINDS |= {worded: 6, generating: 1, deep: 0.9}
 
 
 def case(random):
