@@ -6,6 +6,7 @@ its bytes, then its tokens, then its declarations and the rows of its certificat
 Policies are tuples. A field is a number: 0 is `sw`, 1 is `pt`, then the declared fields in order.
     ("test", f, n)  ("range", f, lo, hi)  ("set", f, n)  ("dup",)  ("link", a, m, b, n)
     ("sum", parts)  ("seq", parts)  ("not", p)  ("star", p)          `id` is the empty seq, `drop` the empty sum
+Behind ("not", p) stands the line of its `~`, if it has one.
 """
 
 import re
@@ -530,6 +531,7 @@ def declarations_of(reader, behind=None):
 
 
 def declared(declarations):
+    """The program that declarations make, one after the other."""
     program = Program()
     for declaration in declarations:
         program.declare(*declaration)

@@ -154,6 +154,7 @@ def answer_compile(text, name):
 
 
 def tagged_policy(text, name):
+    """A program and its policy of this name, of which C1 and C2 don't hold."""
     program = parse_program(text)
     policy = policies(program, name)[0]
     tagged(program)
@@ -243,6 +244,7 @@ def answer_check_query(text, *names):
 
 
 def judged(*certified):
+    """`valid`, or the first row that fails and where."""
     said = Judge(*certified).answer()
     return (0 if said == "valid" else 1), [said]
 
