@@ -391,7 +391,7 @@ def damaged(draw):
 PIECES = "field tag switch ports link let certificate row start id drop dup tables table group out in virtual fabric by".split()
 PIECES += "+ ; * ~ ( ) = := => -> : , [ ] .. / . - @ ! x p sw pt vlan dst 1 2 é \x00 # \n ~~ (( ~p".split(" ")
 LINES = ["field dst 1", "field vlan 3", "field sw 1", "tag vlan", "tag dst", "tag pt", "switch 1 ports 1", "switch 4 ports 1,2,1"]
-LINES += ["switch 6 ports 2,2,65536", "switch 1 ports 65536", "switch 65536 ports 1", "switch 5 ports 65536"]
+LINES += ["switch 6 ports 2,2,65536", "switch 7 ports 3,3,70000", "switch 1 ports 65536", "switch 65536 ports 1", "switch 5 ports 65536"]
 LINES += ["link 1:1 -> 1:1", "link 1:1 -> 2:1", "link 7:1 -> 1:1", "link 1:2 -> 1:9"]
 LINES += ["let p = id", "let z = zz", "let z = p;~p", "let z = ~(dup + ~dup)", "let z = nofield=1", "let z = 1:1=>1:65536"]
 LINES += ["fabric f = p", "fabric f = f", "virtual 1:1 -> 1:2 by f", "virtual 1:1 -> 1:1 by p", "virtual 1:9 -> 9:9 by f"]
