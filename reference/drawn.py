@@ -354,12 +354,12 @@ def spreading(draw):
         crossing = draw.one(crossing, crossing[:1])
         group = " ".join(bucket_text(draw, share=0.9, ports=crossing) for _ in range(3))
         lines += [f"table {switch}", f"group 1 = {group}", "row 1 : vlan=0 -> group 1"]
-        lines.append(f"row 0 : -> {bucket_text(draw, share=0.1, ports=ports)}")
+        lines.append(f"row 0 : -> {bucket_text(draw, share=0.1, ports=draw.one(draw.edges[switch], ports) or ports)}")
     return lines
 
 
 def following(draw):
-    lines = spreading(draw) if draw.links and draw.chance(0.25) else table_lines(draw)
+    lines = spreading(draw) if draw.links and draw.chance(0.4) else table_lines(draw)
     if draw.chance(0.55):
         return ["trace", str(draw.one(0, 1, 1, 2, 3, 4, 6)), draw.packet()], lines
     return ["fly", str(draw.random.randrange(1, 99)), str(draw.one(0, 1, 3, 5, 9, 15)), draw.packet()], lines
