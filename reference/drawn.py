@@ -46,7 +46,7 @@ class Draw:
     def test(self):
         name = self.field()
         if self.chance(0.3):
-            low, high = self.value(name), self.value(name)
+            low, high = self.value(name), self.fields.get(name, 65535) if self.chance(0.3) else self.value(name)
             return f"{name} in {low}..{high}" if self.chance(0.1) else f"{name} in {min(low, high)}..{max(low, high)}"
         return f"{name}={self.value(name)}"
 
