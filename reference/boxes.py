@@ -1,30 +1,9 @@
 """Sets of packets as unions of boxes.
 
-A packet has one number per field, from 0 to the field's largest. Numbers of a field that a text never tells apart are
-one class: a class begins at each number that the text names alone or as the first of a range, and behind each that it
-names alone or as the last. A box has for each field a set of classes, as the bits of a number, and holds each packet
-whose every field is in one of its classes. A set of packets is a list of boxes, which may overlap.
+The classes of a field are the intervals of its numbers that no text tells apart. A box has for each field a set of
+classes, as the bits of a number, and holds each packet whose every field is in one of its classes. A set of packets is a
+list of boxes, which may overlap.
 """
-
-from bisect import bisect_right
-
-
-class Space:
-    """The classes of each field's numbers, for fields with these maxima and the (first, last) that are named of each."""
-
-    def __init__(self, maxima, named):
-        self.starts = []
-        for most, ranges in zip(maxima, named):
-            begins = {0} | {low for low, _ in ranges} | {high + 1 for _, high in ranges}
-            self.starts.append(sorted(it for it in begins if it <= most))
-        self.everything = tuple((1 << len(it)) - 1 for it in self.starts)
-
-    def classes(self, field, low, high):
-        """The classes of the numbers from low to high, both of which are named; none where low is above high."""
-        if low > high:
-            return 0
-        starts = self.starts[field]
-        return (1 << bisect_right(starts, high)) - (1 << bisect_right(starts, low) - 1)
 
 
 def restrict(boxes, field, classes):

@@ -35,7 +35,8 @@ class Draw:
     def value(self, name):
         """A value of a field, now and then one beyond its range."""
         largest = {"sw": 65535, "pt": 65535}.get(name, self.fields.get(name, 3))
-        few = {"sw": [*self.switches], "pt": [1, 2, 3, 9]}.get(name, [0, 1, 2, 3, 4, largest // 2, largest])
+        values = [0, 1, 2, 3, 4, largest // 2, largest - largest // 3, max(0, largest - 1), largest]
+        few = {"sw": [*self.switches], "pt": [1, 2, 3, 9]}.get(name, values)
         return self.random.choice(few) if self.chance(0.05) else self.random.choice([it for it in few if it <= largest])
 
     def field(self, with_tag=0.04):
@@ -45,7 +46,7 @@ class Draw:
     def test(self):
         name = self.field()
         if self.chance(0.3):
-            low, high = self.value(name), self.value(name)
+            low, high = self.value(name), self.fields.get(name, 65535) if self.chance(0.3) else self.value(name)
             return f"{name} in {low}..{high}" if self.chance(0.1) else f"{name} in {min(low, high)}..{max(low, high)}"
         return f"{name}={self.value(name)}"
 
@@ -85,6 +86,13 @@ class Draw:
         values = [self.value(name) for _ in range(self.one(3, 3, 4))]
         ways = [f"{name}={low};{name}:={high}" for low, high in zip(values, values[1:])]
         return f"({' + '.join(self.random.sample(ways, len(ways)))})*"
+
+    def walk(self):
+        """Records twice at each value that a field goes through: the same dups are met again at later packets."""
+        name = self.field(0)
+        values = [self.value(name) for _ in range(4)]
+        ways = [f"{name}={low};{name}:={high}" for low, high in zip(values, values[1:])]
+        return f"{name}={values[0]};(({' + '.join(ways)});dup;dup)*"
 
     def step(self):
         """A test or an assignment that may stand anywhere in a policy that is compiled."""
@@ -132,7 +140,7 @@ class Draw:
     def rewritten(self, text):
         """A policy that does the same, or nearly."""
         forms = ["({0}) + ({0})", "id;({0})", "({0});id", "({0}) + drop", "~~id;({0})", "({0}) + drop;dup", "(id + drop*)*;({0})"]
-        forms += ["({0});({1})* + ({0})", "({0}) + ({0});{1}", "{1};({0}) + ~({1});({0})", "({0}) + {1};({0})", "{1};({0})"]
+        forms += ["~({1})*;({0})", "({0});({1})* + ({0})", "({0}) + ({0});{1}", "{1};({0}) + ~({1});({0})", "({0}) + {1};({0})", "{1};({0})"]
         return self.random.choice(forms).format(text, self.predicate(1))
 
     def changed(self, text):
@@ -186,7 +194,7 @@ def compiling(draw):
 
 
 def equating(draw):
-    left = draw.policy() if draw.chance(0.5) else draw.route()
+    left = draw.walk() if draw.chance(0.08) else draw.policy() if draw.chance(0.5) else draw.route()
     form = draw.random.random()
     right = draw.rewritten(left) if form < 0.5 else draw.changed(left) if form < 0.9 else draw.policy()
     return ["equal", "p", draw.one(*["q"] * 30, "x")], draw.declarations(0.7) + draw.named(left, right)
@@ -194,7 +202,11 @@ def equating(draw):
 
 def asking(draw):
     policy = draw.route() if draw.chance(0.6) else draw.policy(2)
-    lines = draw.declarations(0.8) + draw.named(policy, draw.predicate(1), draw.predicate(1), draw.predicate(1))
+    start, between, end = (draw.predicate(1) for _ in range(3))
+    if draw.chance(0.2):  # what is avoided holds at the start alone
+        name = draw.field(0)
+        start, between, policy = "id", f"{name}={draw.value(name)}", f"{name}:={draw.value(name)};({policy})"
+    lines = draw.declarations(0.8) + draw.named(policy, start, between, end)
     return draw.one(["apart", "p", "q", "a"], ["waypoint", "p", "q", "a", "b"], ["apart", "p", "q", draw.one("p", "x", "b")]), lines
 
 
@@ -242,6 +254,8 @@ def worded(draw):
         words[1] = draw.one("2", "3", "1", "1001", "x") if words[0] == "gen" else draw.one("1", "1001", "x", "-")
     if draw.chance(0.1):
         words.insert(draw.random.randrange(len(words) + 1), "--")
+    if draw.chance(0.2):
+        words[1:2] = ["--", draw.one("--", "-p", "p")]
     return words, draw.declarations() + draw.named(draw.route(), draw.route())
 
 
@@ -298,14 +312,15 @@ def table_lines(draw):
     lines = [f"tables {draw.one(1, 2, 2, 2, 2, 3 if draw.chance(0.1) else 1)}", *draw.declarations()]
     for switch in draw.random.sample([*draw.switches], draw.one(1, len(draw.switches), len(draw.switches))):
         lines.append(f"table {switch}")
-        groups = range(1, 1 + draw.one(0, 0, 1, 2))
-        lines += [f"group {it} = {' '.join(bucket_text(draw) for _ in range(draw.one(1, 2, 2, 3)))}" for it in groups]
+        groups = range(0 if draw.chance(0.02) else 1, 1 + draw.one(0, 1, 1, 2))
+        lines += [f"group {it} = {group_text(draw, switch)}" for it in groups]
         for _ in range(draw.one(0, 1, 2, 3, 4, 5)):
-            target = draw.one(bucket_text(draw), bucket_text(draw), "drop", f"group {draw.one(*groups, 1)}")
+            group = f"group {draw.one(*groups, 1)}"
+            target = draw.one(bucket_text(draw), bucket_text(draw, switch), "drop", group, group)
             target = bucket_text(draw) if target.startswith("group") and not groups and draw.chance(0.9) else target
             names = [name for name in ["pt", *draw.fields] if draw.chance(0.2)]
             matches = [match_text(draw, name) for name in names]
-            lines.append(f"row {draw.one(0, 1, 1, 2, 7)} : {' '.join(matches)} -> {target}")
+            lines.append(f"row {draw.one(0, 1, 1, *range(2, 9))} : {' '.join(matches)} -> {target}")
     return lines
 
 
@@ -313,17 +328,38 @@ def match_text(draw, name):
     value, digits = draw.value(name), {"pt": 65535}.get(name, draw.fields.get(name, 1)).bit_length() or 1
     if not draw.chance(0.3):
         return f"{name}={value}"
+    if draw.chance(0.015):
+        return f"{name}=281474976710655/\n{draw.one(0, 49)}"
     length = draw.random.randrange(1, digits + 1) if draw.chance(0.95) else draw.one(0, digits + 1)
     return f"{name}={value if draw.chance(0.05) else value >> max(0, digits - length) << max(0, digits - length)}/{length}"
 
 
-def bucket_text(draw):
-    sets = [f"{name}:={draw.value(name)}" for name in draw.fields if draw.chance(0.35)]
-    return f"[{' '.join([*sets, 'out'])} {draw.one('in', 1, 2, 3, 9)}]"
+def bucket_text(draw, switch=None, share=0.35, ports=()):
+    """A bucket, out of one of these ports, or mostly to where a link of the switch begins, if one is given."""
+    sets = [f"{name}:={draw.value(name)}" for name in draw.fields if draw.chance(share)]
+    crossing = ports or [m for a, m, _, _ in draw.links if a == switch and draw.chance(0.8)]
+    return f"[{' '.join([*sets, 'out'])} {draw.one(*(crossing or ['in', 1, 2, 3, 9]))}]"
+
+
+def group_text(draw, switch):
+    """Several buckets, which copies may cross links by, with fields and tags that differ."""
+    return " ".join(bucket_text(draw, draw.one(switch, switch, None), 0.7) for _ in range(draw.one(1, 2, 2, 3)))
+
+
+def spreading(draw):
+    """Tables by which copies that differ in the tag and other fields cross links, and leave or cross more behind them."""
+    lines = ["tables 1", *draw.declarations(1)]
+    for switch, ports in draw.switches.items():
+        crossing = [m for a, m, _, _ in draw.links if a == switch] or ports
+        crossing = draw.one(crossing, crossing[:1])
+        group = " ".join(bucket_text(draw, share=0.9, ports=crossing) for _ in range(3))
+        lines += [f"table {switch}", f"group 1 = {group}", "row 1 : vlan=0 -> group 1"]
+        lines.append(f"row 0 : -> {bucket_text(draw, share=0.1, ports=draw.one(draw.edges[switch], ports) or ports)}")
+    return lines
 
 
 def following(draw):
-    lines = table_lines(draw)
+    lines = spreading(draw) if draw.links and draw.chance(0.4) else table_lines(draw)
     if draw.chance(0.55):
         return ["trace", str(draw.one(0, 1, 1, 2, 3, 4, 6)), draw.packet()], lines
     return ["fly", str(draw.random.randrange(1, 99)), str(draw.one(0, 1, 3, 5, 9, 15)), draw.packet()], lines
@@ -355,11 +391,16 @@ def damaged(draw):
 PIECES = "field tag switch ports link let certificate row start id drop dup tables table group out in virtual fabric by".split()
 PIECES += "+ ; * ~ ( ) = := => -> : , [ ] .. / . - @ ! x p sw pt vlan dst 1 2 é \x00 # \n ~~ (( ~p".split(" ")
 LINES = ["field dst 1", "field vlan 3", "field sw 1", "tag vlan", "tag dst", "tag pt", "switch 1 ports 1", "switch 4 ports 1,2,1"]
-LINES += ["switch 6 ports 2,2,65536", "switch 1 ports 65536", "switch 65536 ports 1", "switch 5 ports 65536"]
+LINES += ["switch 6 ports 2,2,65536", "switch 7 ports 3,3,70000", "switch 1 ports 65536", "switch 65536 ports 1", "switch 5 ports 65536"]
 LINES += ["link 1:1 -> 1:1", "link 1:1 -> 2:1", "link 7:1 -> 1:1", "link 1:2 -> 1:9"]
 LINES += ["let p = id", "let z = zz", "let z = p;~p", "let z = ~(dup + ~dup)", "let z = nofield=1", "let z = 1:1=>1:65536"]
 LINES += ["fabric f = p", "fabric f = f", "virtual 1:1 -> 1:2 by f", "virtual 1:1 -> 1:1 by p", "virtual 1:9 -> 9:9 by f"]
-LINES += ["field f{} 3", "let d{} = {}", "tables 1", "table 1", "row 0 : -> drop", "certificate", "row 1 : id", "row 1 1 : id"]
+LINES += ["field f{} 3", "let d{} = {}", "let d{} = {}", "tables 1", "table 1", "row 0 : -> drop"]
+LINES += ["certificate", "row 1 : id", "row 1 1 : id"]
+
+DEEP = ["~" * 255 + "id", "~" * 256 + "id", "~(" * 128 + "id" + ")" * 128]
+DEEP += ["(" * 255 + "id" + ")" * 256, "(" * 256 + "id" + ")" * 256, "(" * 257 + "id" + ")" * 257]
+DEEP += ["~(" * 128 + "~id" + ")" * 128]
 
 
 def declared(draw):
@@ -368,8 +409,7 @@ def declared(draw):
     for _ in range(draw.one(1, 1, 2, 3)):
         more = draw.random.choice([*LINES, *lines]).replace("{}", str(draw.random.randrange(20)), 1)
         if "{}" in more:
-            form = draw.one("(" * 255 + "id" + ")" * 255, "~" * 257 + "id", "(" * 256 + "id" + ")" * 257, "~(" * 127 + "id" + ")" * 127)
-            more = more.replace("{}", form)
+            more = more.replace("{}", draw.random.choice(DEEP))
         lines.insert(draw.random.randrange(len(lines) + 1), more)
     if draw.chance(0.05):
         lines[1:1] = [f"field f{number} 1" for number in range(17)]
@@ -379,15 +419,16 @@ def declared(draw):
 def deep(draw):
     """Names of names: the limits on depth and size."""
     count, form = draw.one(254, 255, 256, 257), draw.one("{}*", "~{}", "{};id", "{} + id")
-    if draw.chance(0.4):
-        count, form = draw.one(17, 18, 19, 20, 21), draw.one("{0};{0}", "{0} + {0}", "{0};{0} + id")
+    if draw.chance(0.5):
+        count, form = draw.one(18, 19, 20, 20, 21), draw.one("{0};{0}", "{0} + {0}", "{0};{0} + id")
     lines = ["let a0 = id", *(f"let a{it} = " + form.format(f"a{it - 1}") for it in range(1, count + 1))]
-    words = [["compile", f"a{count}"], ["apart", f"a{count}", "a0", "a0"], ["waypoint", "a0", "a0", f"a{count}", "a0"]]
+    last = f"a{count}"
+    words = [["compile", "x"], ["compile", last], ["apart", last, "a0", "a0"], ["waypoint", "a0", "a0", last, "a0"]]
     return draw.random.choice(words), lines
 
 
 KINDS = {compiling: 26, equating: 18, checking: 14, following: 14, damaged: 14, declared: 9, asking: 6, updating: 6, faring: 7}
-KINDS |= {worded: 6, generating: 1, deep: 0.15}
+KINDS |= {worded: 6, generating: 1, deep: 0.9}
 
 
 def case(random):

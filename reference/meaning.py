@@ -5,25 +5,20 @@ difference are one: such a run of values is an interval (low, high), and its lea
 tell the values of an interval apart, and none assigns one but the value of an interval that has no other.
 """
 
-from itertools import product
+from itertools import count, product
 from math import prod
 
-from texts import DROP, ID, size_of
+from texts import ID, leaves, mapped, measured, parts_of
 
 # ----------------------------------------------------------------------------------------------------- packet spaces
 
 
-def mentioned(policy):
-    """The values (field, low, high) of which the tests, ranges, assignments and links of a policy speak."""
-    kind, *rest = policy
+def mentioned(leaf):
+    """The values (field, low, high) of which a test, a range, an assignment or a link speaks."""
+    kind, *rest = leaf
     if kind == "link":
         return [(f, n, n) for f, n in zip((0, 1, 0, 1), rest)]
-    if kind in ("test", "set"):
-        return [(rest[0], rest[1], rest[1])]
-    if kind == "range":
-        return [tuple(rest)]
-    parts = rest[0] if kind in ("sum", "seq") else rest[:1] if kind in ("not", "star") else ()
-    return [it for part in parts for it in mentioned(part)]
+    return [(rest[0], rest[1], rest[-1])] if rest else []
 
 
 class TooLarge(Exception):
@@ -33,9 +28,9 @@ class TooLarge(Exception):
 MOST = 4_000
 
 
-def small(policy):
+def small(policy, most=MOST):
     """A policy of a size that is gone through."""
-    if size_of(policy) > MOST:
+    if measured(policy).size > most:
         raise TooLarge
     return policy
 
@@ -43,16 +38,16 @@ def small(policy):
 class Space:
     """The packets over the fields of a program, as far as these policies, values and, if asked for, ports tell them apart."""
 
-    def __init__(self, program, policies=(), with_ports=False):
+    def __init__(self, program, policies, with_ports=False, most=MOST):
         self.program, self.fields = program, program.fields
         cuts = [{0, largest + 1} for _, largest in self.fields]
-        spoken = [it for policy in policies for it in mentioned(small(policy))]
+        spoken = [it for policy in policies for leaf in leaves(small(policy, most)) for it in mentioned(leaf)]
         for place in places(program) if with_ports else ():
             spoken += [(f, n, n) for f, n in place.items()]
         for f, low, high in spoken:
             cuts[f] |= {cut for cut in (low, high + 1) if cut <= self.fields[f][1]}
         self.intervals = [[(low, high - 1) for low, high in zip(sorted(it), sorted(it)[1:])] for it in cuts]
-        if prod(len(it) for it in self.intervals) > MOST:
+        if prod(len(it) for it in self.intervals) > most:
             raise TooLarge
 
     def packets(self, fixed=None):
@@ -78,25 +73,14 @@ def is_edge(program, packet):
 # ------------------------------------------------------------------------------------------------ policies and histories
 
 
-def numbered(policy, first):
-    """The policy with each link as its six parts and each dup with its number in text order, and the number behind."""
-    kind, *rest = policy
-    if kind == "dup":
-        return ("dup", first), first + 1
-    if kind == "link":
-        a, m, b, n = rest
-        tests, moves = (("test", 0, a), ("test", 1, m)), (("set", 0, b), ("set", 1, n))
-        return ("seq", (*tests, ("dup", first), *moves, ("dup", first + 1))), first + 2
-    if kind in ("sum", "seq"):
-        parts = []
-        for part in rest[0]:
-            part, first = numbered(part, first)
-            parts.append(part)
-        return (kind, tuple(parts)), first
-    if kind in ("not", "star"):
-        part, first = numbered(rest[0], first)
-        return (kind, part), first
-    return policy, first
+def parted(policy):
+    """The policy with each link as its six parts."""
+    return mapped(policy, lambda leaf: link_parts(*leaf[1:]) if leaf[0] == "link" else leaf)
+
+
+def link_parts(a, m, b, n):
+    """GUIDE 2: `1:2=>2:2` "sends a packet that is at port 2 of switch 1 over the link to port 2 of switch 2"."""
+    return ("seq", (("test", 0, a), ("test", 1, m), ("dup",), ("set", 0, b), ("set", 1, n), ("dup",)))
 
 
 def put(packet, f, n):
@@ -104,67 +88,15 @@ def put(packet, f, n):
     return packet[:f] + (n,) + packet[f + 1 :]
 
 
-def histories(policy, packet, most):
-    """GLOSSARY, Gives: "from packet pk the policy can end at y having recorded exactly w": all (w, y) with at most so many records.
-
-    The forms are those of GUIDE 2, "What it does with a packet"; a link is its six parts.
-    """
-    kind, *rest = policy
-    if kind == "test":
-        return {((), packet)} if packet[rest[0]] == rest[1] else set()
-    if kind == "range":
-        return {((), packet)} if rest[1] <= packet[rest[0]] <= rest[2] else set()
-    if kind == "set":
-        return {((), put(packet, *rest))}
-    if kind == "dup":
-        return {((packet,), packet)} if most else set()
-    if kind == "link":
-        return histories(numbered(policy, 1)[0], packet, most)
-    if kind == "not":
-        return {((), packet)} - histories(rest[0], packet, 0)
-    if kind == "sum":
-        return {it for part in rest[0] for it in histories(part, packet, most)}
-    if kind == "seq":
-        found = {((), packet)}
-        for part in rest[0]:
-            found = {it for one in found for it in going_on(part, one, most)}
-        return found
-    found, new = {((), packet)}, {((), packet)}
-    while new:  # one more round of the star
-        new = {it for one in new for it in going_on(rest[0], one, most)} - found
-        found |= new
+def rests(policy):
+    """GLOSSARY, after: "what is left of the policy after its dup l", by l."""
+    if policy[0] == "dup":
+        return {policy[1]: ID}
+    found = {}
+    for place, part in enumerate(parts_of(policy)):
+        behind = {"seq": policy[1][place + 1 :] if policy[0] == "seq" else (), "star": (policy,)}.get(policy[0], ())
+        found |= {label: ("seq", (rest, *behind)) for label, rest in rests(part).items()}
     return found
-
-
-def going_on(policy, history, most):
-    """The histories that begin with one and go on by a policy."""
-    records, packet = history
-    return {(records + more, y) for more, y in histories(policy, packet, most - len(records))}
-
-
-def after(policy, label):
-    """GLOSSARY, after: "what is left of the policy after its dup l"."""
-    kind, *rest = policy
-    if kind == "dup":
-        return ID if rest[0] == label else DROP
-    if kind == "sum":
-        return next((after(part, label) for part in rest[0] if label in labels(part)), DROP)
-    if kind == "seq":
-        for place, part in enumerate(rest[0]):
-            if label in labels(part):
-                return ("seq", (after(part, label), *rest[0][place + 1 :]))
-    if kind == "star" and label in labels(rest[0]):
-        return ("seq", (after(rest[0], label), policy))
-    return DROP
-
-
-def labels(policy):
-    """The numbers of the dups of a policy, in text order."""
-    kind, *rest = policy
-    if kind == "dup":
-        return [rest[0]]
-    parts = rest[0] if kind in ("sum", "seq") else rest if kind == "star" else ()
-    return [label for part in parts for label in labels(part)]
 
 
 START = frozenset({0})
@@ -177,13 +109,12 @@ class Runs:
     """
 
     def __init__(self, *policies):
-        self.sides, self.rests, self.memo, first = [], {}, {}, 1
-        for policy in policies:
-            policy, behind = numbered(small(policy), first)
-            self.sides.append(policy)
-            self.rests |= {label: after(policy, label) for label in range(first, behind)}
-            first = behind
-        self.split = len(labels(self.sides[0]))
+        numbers = count(1)
+        policies = [parted(policy) for policy in policies]
+        self.sides = [mapped(it, lambda leaf: ("dup", next(numbers)) if leaf == ("dup",) else leaf) for it in policies]
+        self.split = len(rests(self.sides[0]))  # the last position of the left side
+        self.rests = {label: rest for side in self.sides for label, rest in rests(side).items()}
+        self.memo = {}
 
     def rests_of(self, position_set, side):
         """What is left of a side's policy at each of these positions that are its own."""
@@ -192,120 +123,99 @@ class Runs:
 
     def ends(self, position_set, packet, side=0):
         """The packets at which the side can end from the packet without a record."""
-        return {y for policy in self.rests_of(position_set, side) for y in self.gives(policy, packet)}
+        return joined(self.walked(policy, packet) for policy in self.rests_of(position_set, side))[0]
 
     def nexts(self, position_set, packet):
         """Each packet that can be recorded next, with the set of the numbers of all dups that do so."""
         found = {}
         for side in range(len(self.sides)):
-            for policy in self.rests_of(position_set, side):
-                for y, label in self.records(policy, packet):
-                    found.setdefault(y, set()).add(label)
-        return {y: frozenset(numbers) for y, numbers in sorted(found.items())}
+            for y, label in joined(self.walked(policy, packet) for policy in self.rests_of(position_set, side))[1]:
+                found.setdefault(y, set()).add(label)
+        return {y: frozenset(numbers) for y, numbers in found.items()}
 
-    def gives(self, policy, x):
-        """Where the policy ends from x without a record."""
-        key = (id(policy), x, "gives")
+    def histories(self, x, most, at=START):
+        """GLOSSARY, Gives: all (records, last) with at most so many records, by which a packet goes on from a set of positions."""
+        found = {((), y) for y in self.ends(at, x)}
+        for y, numbers in self.nexts(at, x).items() if most else ():
+            found |= {((y, *records), last) for records, last in self.histories(y, most - 1, numbers)}
+        return found
+
+    def walked(self, policy, x):
+        """What `walk` says, asked once of a policy and a packet."""
+        key = (id(policy), x)
         if key not in self.memo:
-            self.memo[key] = self.given(policy, x)
-        return self.memo[key]
+            self.memo[key] = self.walk(policy, x), policy  # a policy that is kept keeps its identity
+        return self.memo[key][0]
 
-    def given(self, policy, x):
-        """The forms of GUIDE 2, of what is recorded nothing."""
+    def walk(self, policy, x):
+        """Where the policy ends from x without a record, by the forms of GUIDE 2, "What it does with a packet"; and the packets
+        that it can record first, each with its dup's number. GLOSSARY, RecordsAt: "a run so far", nothing recorded before."""
         kind, *rest = policy
         if kind == "dup":
-            return set()
+            return set(), {(x, rest[0])}
         if kind in ("test", "range"):
-            return {x} if rest[1] <= x[rest[0]] <= rest[-1] else set()
+            return {x} if rest[1] <= x[rest[0]] <= rest[-1] else set(), set()
         if kind == "set":
-            return {put(x, *rest)}
+            return {put(x, *rest)}, set()
         if kind == "not":
-            return {x} - self.gives(rest[0], x)
+            return {x} - self.walked(rest[0], x)[0], set()
         if kind == "sum":
-            return {y for part in rest[0] for y in self.gives(part, x)}
-        found = {x}
-        if kind == "seq":
-            for part in rest[0]:
-                found = {z for y in found for z in self.gives(part, y)}
-            return found
-        new = {x}
-        while new:
-            new = {z for y in new for z in self.gives(rest[0], y)} - found
-            found |= new
-        return found
-
-    def records(self, policy, x):
-        """The packets that the policy can record first from x, each with the number of the dup that does it."""
-        key = (id(policy), x, "records")
-        if key not in self.memo:
-            self.memo[key] = self.recorded(policy, x)
-        return self.memo[key]
-
-    def recorded(self, policy, x):
-        """GLOSSARY, RecordsAt: "a run so far: it has recorded u and then, by its last step, x at the dup with number l", u empty."""
-        kind, *rest = policy
-        if kind == "dup":
-            return {(x, rest[0])}
-        if kind == "sum":
-            return {it for part in rest[0] for it in self.records(part, x)}
-        if kind == "star":
-            return {it for y in self.gives(policy, x) for it in self.records(rest[0], y)}
-        found, reached = set(), {x}
+            return joined(self.walked(part, x) for part in rest[0])
+        ends, records, new = {x}, set(), {x}
         for part in rest[0] if kind == "seq" else ():
-            found |= {it for y in reached for it in self.records(part, y)}
-            reached = {z for y in reached for z in self.gives(part, y)}
-        return found
+            ends, more = joined(self.walked(part, y) for y in ends)
+            records |= more
+        while new and kind == "star":
+            new, more = joined(self.walked(rest[0], y) for y in new)
+            new, records = new - ends, records | more
+            ends |= new
+        return ends, records
 
     def levels(self, starts, first=START):
-        """Level by level, the pairs of a set of positions and a packet that no shorter list of records comes to."""
-        level = seen = {(first, x) for x in starts}
+        """Level by level, the pairs of a set of positions and a packet that no shorter list of records comes to, each with the
+        least start and records that come to it."""
+        level = {(first, x): (x,) for x in starts}
+        seen = set(level)
         while level:
             yield level
-            level = {(numbers, y) for at in level for y, numbers in self.nexts(*at).items()} - seen
-            seen = seen | level
+            further = {}
+            for at, way in sorted(level.items(), key=lambda it: it[1]):
+                for y, numbers in self.nexts(*at).items():
+                    if (numbers, y) not in seen:
+                        further.setdefault((numbers, y), (*way, y))
+            level = further
+            seen |= set(level)
 
     def least(self, starts, bad, first=START):
         """The least history that ends at a bad packet: fewer records, then the lesser start, then packets in turn."""
-        for count, level in enumerate(self.levels(starts, first)):
-            if any(bad(*at) for at in level):
-                known = {}
-                found = ((x, self.least_from(first, x, count, bad, known)) for x in sorted(starts))
-                return next((x, *way) for x, way in found if way)
+        for level in self.levels(starts, first):
+            found = [(way, min(bad(*at))) for at, way in level.items() if bad(*at)]
+            if found:
+                way, last = min(found)
+                return way[0], way[1:], last
         return None
 
-    def least_from(self, position_set, x, count, bad, known):
-        """The least (records, last) from a packet with just `count` records and a bad end, or None."""
-        key = (position_set, x, count)
-        if key not in known:
-            known[key] = None
-            if not count:
-                known[key] = ((), min(bad(position_set, x))) if bad(position_set, x) else None
-            for y, numbers in self.nexts(position_set, x).items() if count else ():
-                way = self.least_from(numbers, y, count - 1, bad, known)
-                if way:
-                    known[key] = ((y, *way[0]), way[1])
-                    break
-        return known[key]
+
+def joined(walks):
+    """What several walks come to."""
+    ends, records = set(), set()
+    for more_ends, more_records in walks:
+        ends |= more_ends
+        records |= more_records
+    return ends, records
 
 
 # --------------------------------------------------------------------------------------------------- answers on policies
 
 
 def first_difference(space, runs, first=START):
-    """README, Done: "the least history that one of them alone has, with its start and its side": (0 or 1, start, records, last)."""
-    found = runs.least(space.packets(), lambda at, x: runs.ends(at, x, 0) ^ runs.ends(at, x, 1), first)
-    if not found:
-        return None
-    start, records, last = found
-    at, x = walked(runs, first, start, records)
-    return (0 if last in runs.ends(at, x, 0) else 1), start, records, last
+    """README, Done: "the least history that one of them alone has, with its start and its side", 0 or 1, behind the last."""
 
+    def alone(at, x):
+        left, right = runs.ends(at, x, 0), runs.ends(at, x, 1)
+        return {(y, 0) for y in left - right} | {(y, 1) for y in right - left}
 
-def walked(runs, position_set, start, records):
-    """The set of positions behind these records, and the last of them, else the start."""
-    for x, y in zip((start, *records), records):
-        position_set = runs.nexts(position_set, x)[y]
-    return position_set, (start, *records)[-1]
+    return runs.least(space.packets(), alone, first)
 
 
 def tag_sets(space, runs):
@@ -321,16 +231,9 @@ class Refused(Exception):
     """README, Answers: status 4: `refused CN: WORDS`, and further lines."""
 
 
-def leaves(policy):
-    """The leaves of a policy in text order."""
-    if policy[0] in ("sum", "seq"):
-        return [leaf for part in policy[1] for leaf in leaves(part)]
-    return leaves(policy[1]) if policy[0] in ("not", "star") else [policy]
-
-
 def check_by_sight(program, policy, links):
     """README: "C2 to C6 are decided by the policy's text alone, also for parts of it that no packet can reach"."""
-    found = leaves(policy)
+    found = leaves(small(policy))
     if any(it[0] in ("test", "range", "set") and it[1] == program.tag for it in found):
         raise Refused("C3: tag used")
     if any(it[0] == "dup" for it in found):
@@ -343,37 +246,35 @@ def check_by_sight(program, policy, links):
 
 def check_edges(space, runs):
     """README, C7: "a packet without tag on a declared port has a history that ends at no edge port; the least one is printed"."""
-    program = space.program
-    return runs.least(space.located(), lambda at, x: {y for y in runs.ends(at, x) if not is_edge(program, y)})
+    return runs.least(space.located(), lambda at, x: {y for y in runs.ends(at, x) if not is_edge(space.program, y)})
 
 
 def physical(policy, program):
     """GUIDE 3, README: each literal of a virtual link behind tests of switch and port: the link's fabric in its place."""
-    kind, *rest = policy
-    if kind == "link":
-        fabric = program.fabrics[program.virtuals[tuple(rest[:2])][2]]
-        return ("seq", (("test", 0, rest[0]), ("test", 1, rest[1]), fabric))
-    if kind in ("sum", "seq"):
-        return (kind, tuple(physical(part, program) for part in rest[0]))
-    return (kind, physical(rest[0], program)) if kind in ("not", "star") else policy
+
+    def fabric(leaf):
+        if leaf[0] != "link":
+            return leaf
+        return ("seq", (("test", 0, leaf[1]), ("test", 1, leaf[2]), program.fabrics[program.virtuals[leaf[1:3]][2]]))
+
+    return mapped(policy, fabric)
 
 
 def uncarried(program, source):
     """README, C11: a packet without tag at the link's source "has a history of the link's fabric that ends elsewhere than at the
-    packet moved to the port where the link ends"; C12: such a packet "has no history of the link's fabric"; else None."""
-    switch, port, name = program.virtuals[source]
+    packet moved to the port where the link ends"; C12: such a packet "has no history of the link's fabric"; or neither."""
+    *target, name = program.virtuals[source]
     fabric = program.fabrics[name]
     space, runs = Space(program, [fabric], with_ports=True), Runs(fabric)
     starts = space.packets({0: source[0], 1: source[1], program.tag: 0})
     for x in starts:
-        moved = (switch, port, *x[2:])
-        found = runs.least([x], lambda at, y: runs.ends(at, y) - {moved})
+        found = runs.least([x], lambda at, y: runs.ends(at, y) - {(*target, *x[2:])})
         if found:
-            return ("C11", *found)
+            return ("C11: off target", *found)
     for x in starts:
         if not any(runs.ends(*at) for level in runs.levels([x]) for at in level):
-            return ("C12", x)
-    return None
+            return ("C12: not carried", x)
+    return (None,)
 
 
 def question(policy, before, avoided, behind):
@@ -382,18 +283,8 @@ def question(policy, before, avoided, behind):
     if avoided is None:
         return ("seq", (before, policy, behind))
     avoid = ("not", avoided)
-    return ("seq", (before, avoid, avoiding(policy, avoid), avoid, behind))
-
-
-def avoiding(policy, avoid):
-    """The policy with each link written out, and the complement of W before each dup."""
-    if policy[0] == "dup":
-        return ("seq", (avoid, ("dup",)))
-    if policy[0] == "link":
-        return avoiding(numbered(policy, 1)[0], avoid)
-    if policy[0] in ("sum", "seq"):
-        return (policy[0], tuple(avoiding(part, avoid) for part in policy[1]))
-    return ("star", avoiding(policy[1], avoid)) if policy[0] == "star" else policy
+    avoiding = mapped(parted(policy), lambda leaf: ("seq", (avoid, leaf)) if leaf == ("dup",) else leaf)
+    return ("seq", (before, avoid, avoiding, avoid, behind))
 
 
 def classes(space, policy, sets):

@@ -6,6 +6,7 @@ its bytes, then its tokens, then its declarations and the rows of its certificat
 Policies are tuples. A field is a number: 0 is `sw`, 1 is `pt`, then the declared fields in order.
     ("test", f, n)  ("range", f, lo, hi)  ("set", f, n)  ("dup",)  ("link", a, m, b, n)
     ("sum", parts)  ("seq", parts)  ("not", p)  ("star", p)          `id` is the empty seq, `drop` the empty sum
+Behind ("not", p) stands the line of its `~`, if it has one.
 """
 
 import re
@@ -106,30 +107,31 @@ class Reader:
         here = self.tokens[min(self.place, len(self.tokens) - 1)].line if self.tokens else 1
         raise Fault(here, "unexpected")
 
+    def many(self, kind, read):
+        """What is read as long as the next token is of a kind."""
+        found = []
+        while self.at(kind):
+            found.append(read())
+        return found
+
+    def separated(self, symbol, read):
+        """What is read once, and once more behind each such symbol."""
+        return [read(), *self.many(symbol, lambda: (self.take(symbol), read())[1])]
+
     # Policies: trees as those above, with tokens for names and numbers, ("name", token), and the line of each `~`.
 
     def policy(self, opened=0):
-        """pol: term { + term }. One term alone is that term, several are one sum."""
-        return self.joined("sum", "+", self.term, opened)
+        """pol: term { + term }; term: factor { ; factor }. One part alone is that part, several are one sum or sequence."""
+        return self.joined("sum", "+", lambda: self.joined("seq", ";", lambda: self.factor(opened)))
 
-    def term(self, opened):
-        """term: factor { ; factor }. One factor alone is that factor, several are one sequence."""
-        return self.joined("seq", ";", self.factor, opened)
-
-    def joined(self, kind, symbol, part, opened):
-        parts = [part(opened)]
-        while self.at(symbol):
-            self.take(symbol)
-            parts.append(part(opened))
+    def joined(self, kind, symbol, read):
+        parts = self.separated(symbol, read)
         return parts[0] if len(parts) == 1 else (kind, tuple(parts))
 
     def factor(self, opened):
         """factor: atom { * }. A run of `*` right after one atom is one star."""
-        atom, stars = self.atom(opened), 0
-        while self.at("*"):
-            self.take("*")
-            stars += 1
-        return ("star", atom) if stars else atom
+        atom = self.atom(opened)
+        return ("star", atom) if self.many("*", lambda: self.take("*")) else atom
 
     def atom(self, opened):
         """atom: ~ atom, ( pol ), id, drop, dup, a name, a test, a range, an assignment or a link literal."""
@@ -145,8 +147,7 @@ class Reader:
         if token.kind == "name":
             return self.named(token)
         if token.kind == "number":
-            _, port, _, switch, _, other = self.take_all(":", "number", "=>", "number", ":", "number")
-            return ("link", token, port, switch, other)
+            return ("link", token, *self.take_all(":", "number", "=>", "number", ":", "number")[1::2])
         return {"id": ID, "drop": DROP, "dup": ("dup",)}[token.kind]
 
     def named(self, name):
@@ -155,53 +156,34 @@ class Reader:
             kind = "test" if self.take("=", ":=").kind == "=" else "set"
             return (kind, name, self.take("number"))
         if self.at("in"):
-            _, low, _, high = self.take_all("in", "number", "..", "number")
-            return ("range", name, low, high)
+            return ("range", name, *self.take_all("in", "number", "..", "number")[1::2])
         return ("name", name)
 
     # Declarations: the word's token, then the tokens and trees behind it.
 
-    def declaration(self):
-        """One declaration of a program: of a field, the tag, a switch, a link, a policy, a fabric or a virtual link."""
-        if self.at("field", "tag", "switch", "link"):
-            return self.plain_declaration()
-        word = self.take("let", "fabric", "virtual")
-        if word.kind == "virtual":
-            ends = self.link_ends()
-            self.take("by")
-            return (word, *ends, self.take("name"))
-        name, _ = self.take_all("name", "=")
-        return (word, name, self.policy())
-
-    def plain_declaration(self):
-        """One declaration that table texts have too."""
-        word = self.take("field", "tag", "switch", "link")
+    def declaration(self, *words):
+        """One declaration: of a field, the tag, a switch, a link, or by one of these words of a policy, fabric or virtual link."""
+        word = self.take("field", "tag", "switch", "link", *words)
         if word.kind == "field":
             return (word, *self.take_all("name", "number"))
         if word.kind == "tag":
             return (word, self.take("name"))
-        if word.kind == "link":
-            return (word, *self.link_ends())
-        number, _, port = self.take_all("number", "ports", "number")
-        ports = [port]
-        while self.at(","):
-            ports.append(self.take_all(",", "number")[1])
-        return (word, number, ports)
+        if word.kind == "switch":
+            number, _ = self.take_all("number", "ports")
+            return (word, number, self.separated(",", lambda: self.take("number")))
+        if word.kind in ("link", "virtual"):
+            ends = self.take_all("number", ":", "number", "->", "number", ":", "number")[::2]
+            return (word, *ends, *(self.take_all("by", "name")[1:] if word.kind == "virtual" else ()))
+        return (word, self.take_all("name", "=")[0], self.policy())
 
-    def link_ends(self):
-        """NUMBER : NUMBER -> NUMBER : NUMBER"""
-        return self.take_all("number", ":", "number", "->", "number", ":", "number")[::2]
-
-    def rows(self):
+    def certificate_rows(self):
         """certificate, the start row, and further rows: (the word `row`, positions, predicate)."""
         self.take("certificate")
         word = self.take_all("row", "start", ":")[0]
         rows = [(word, [], self.policy())]
         while not self.at_end():
             word, first = self.take_all("row", "number")
-            positions = [first]
-            while self.at("number"):
-                positions.append(self.take("number"))
+            positions = [first, *self.many("number", lambda: self.take("number"))]
             self.take(":")
             rows.append((word, positions, self.policy()))
         return rows
@@ -210,39 +192,32 @@ class Reader:
 
     def section(self):
         """table NUMBER { group } { row }"""
-        _, number = self.take_all("table", "number")
-        groups, rows = [], []
-        while self.at("group"):
-            _, group, _ = self.take_all("group", "number", "=")
-            buckets = [self.bucket()]
-            while self.at("["):
-                buckets.append(self.bucket())
-            groups.append((group, buckets))
-        while self.at("row"):
-            rows.append(self.table_row())
-        return number, groups, rows
+        return self.take_all("table", "number")[1], self.many("group", self.group), self.many("row", self.table_row)
+
+    def group(self):
+        """group NUMBER = bucket { bucket }"""
+        number = self.take_all("group", "number", "=")[1]
+        return number, [self.bucket(), *self.many("[", self.bucket)]
 
     def table_row(self):
-        """row NUMBER : { NAME = NUMBER | NAME = NUMBER / NUMBER } -> bucket | group NUMBER | drop"""
-        _, priority, _ = self.take_all("row", "number", ":")
-        matches = []
-        while self.at("name"):
-            name, _, value = self.take_all("name", "=", "number")
-            length = self.take_all("/", "number")[1] if self.at("/") else None
-            matches.append((name, value, length))
+        """row NUMBER : { match } -> bucket | group NUMBER | drop"""
+        priority = self.take_all("row", "number", ":")[1]
+        matches = self.many("name", self.match)
         self.take("->")
         if self.at("["):
             return priority, matches, ("bucket", self.bucket())
-        if self.take("group", "drop").kind == "group":
-            return priority, matches, ("group", self.take("number"))
-        return priority, matches, ("drop", None)
+        kind = self.take("group", "drop").kind
+        return priority, matches, (kind, self.take("number") if kind == "group" else None)
+
+    def match(self):
+        """NAME = NUMBER or NAME = NUMBER / NUMBER"""
+        name, _, value = self.take_all("name", "=", "number")
+        return name, value, self.take_all("/", "number")[1] if self.at("/") else None
 
     def bucket(self):
         """[ { NAME := NUMBER } out NUMBER ] or [ .. out in ]"""
         self.take("[")
-        sets = []
-        while self.at("name"):
-            sets.append(self.take_all("name", ":=", "number")[::2])
+        sets = self.many("name", lambda: self.take_all("name", ":=", "number")[::2])
         self.take("out")
         target = self.take("number", "in")
         self.take("]")
@@ -263,7 +238,7 @@ class Program:
     lets: dict = member(default_factory=dict)
     fabrics: dict = member(default_factory=dict)
     virtuals: dict = member(default_factory=dict)  # (switch, port) to (switch, port, name of the fabric)
-    known: dict = member(default_factory=dict)  # ("known", tree, depth, size, whether it is a predicate) of each let
+    known: dict = member(default_factory=dict)  # ("known", tree, measures) of each let
 
     def find(self, name):
         """The number of the field of this name, or None."""
@@ -274,13 +249,10 @@ class Program:
 
     # Each kind of declaration, its faults in the order of README, faults.
 
-    def declare(self, declaration):
-        word = declaration[0]
-        how = {"field": self.add_field, "tag": self.add_tag, "switch": self.add_switch, "link": self.add_link}
-        how |= {"let": self.add_let, "fabric": self.add_fabric, "virtual": self.add_virtual}
-        how[word.kind](*(declaration if word.kind in ("let", "fabric") else declaration[1:]))
+    def declare(self, word, *rest):
+        getattr(self, f"add_{word.kind}")(word, *rest)
 
-    def add_field(self, name, largest):
+    def add_field(self, _, name, largest):
         """`field twice`: a field of the name is declared above; `sw` and `pt` always are. Then `too many fields`."""
         if self.find(name.value) is not None:
             raise Fault(name.line, "field twice")
@@ -288,7 +260,7 @@ class Program:
             raise Fault(name.line, "too many fields")
         self.fields.append((name.value, largest.value))
 
-    def add_tag(self, name):
+    def add_tag(self, _, name):
         """`tag twice`: a tag is declared above. `tag unknown`: no field of the name is declared above."""
         if self.tag is not None:
             raise Fault(name.line, "tag twice")
@@ -296,7 +268,7 @@ class Program:
             raise Fault(name.line, "tag unknown")
         self.tag = self.find(name.value)
 
-    def add_switch(self, number, ports):
+    def add_switch(self, _, number, ports):
         """`switch twice`: the switch is declared above. `port twice`: the port stands before in the same declaration."""
         in_range(number)
         if number.value in self.switches:
@@ -309,10 +281,10 @@ class Program:
             declared.append(port.value)
         self.switches[number.value] = declared
 
-    def add_link(self, *ends):
+    def add_link(self, _, *ends):
         self.links[self.checked_source(ends, self.links)] = (ends[2].value, ends[3].value)
 
-    def add_virtual(self, *ends_and_name):
+    def add_virtual(self, _, *ends_and_name):
         *ends, name = ends_and_name
         source = self.checked_source(ends, self.virtuals)
         if name.value not in self.fabrics:
@@ -335,40 +307,34 @@ class Program:
 
     def add_let(self, word, name, tree):
         """A name means what stands above it."""
-        self.lets[name.value], depth, size, predicate = self.checked_policy(self.lets, word, name, tree)
-        self.known[name.value] = ("known", self.lets[name.value], depth, size, predicate)
+        self.lets[name.value], measures = self.checked_policy(self.lets, word, name, tree)
+        self.known[name.value] = ("known", self.lets[name.value], measures)
 
     def add_fabric(self, word, name, tree):
         """GUIDE 3: a fabric is a policy whose name is known to virtual links alone."""
-        self.fabrics[name.value] = self.checked_policy(self.fabrics, word, name, tree)[0]
+        self.fabrics[name.value], _ = self.checked_policy(self.fabrics, word, name, tree)
 
     def checked_policy(self, policies, word, name, tree):
         """`let twice`; names, fields and values from left to right; `not a predicate`; `too deep`; `too large`."""
         if name.value in policies:
             raise Fault(name.line, "let twice")
-        policy = self.written(tree, self.known)
+        policy = mapped(tree, lambda leaf: self.written(leaf, self.known))
         check_complements(policy)
-        if depth_of(policy) > MOST_DEEP:
+        if measured(policy).depth > MOST_DEEP:
             raise Fault(word.line, "too deep")
-        if size_of(policy) > MOST_ELEMENTS:
+        if measured(policy).size > MOST_ELEMENTS:
             raise Fault(word.line, "too large")
-        return plain(policy), depth_of(policy), size_of(policy), is_predicate(policy)
+        return mapped(policy, lambda leaf: leaf[1] if leaf[0] == "known" else leaf), measured(policy)
 
-    def written(self, tree, lets):
-        """The tree with its names written out and fields for their names; a `~` keeps its line."""
-        kind, *parts = tree
+    def written(self, leaf, lets):
+        """What a name stands for; the leaf with fields for their names and numbers in range."""
+        kind, *parts = leaf
         if kind == "name":
             if parts[0].value not in lets:
                 raise Fault(parts[0].line, "unknown name")
             return lets[parts[0].value]
         if kind in ("test", "set", "range"):
             return (kind, *self.known_field(*parts))
-        if kind in ("sum", "seq"):
-            return (kind, tuple(self.written(part, lets) for part in parts[0]))
-        if kind == "star":
-            return (kind, self.written(parts[0], lets))
-        if kind == "not":
-            return (kind, self.written(parts[0], lets), parts[1])
         return (kind, *(in_range(number) for number in parts))  # a link, or a dup without numbers
 
     def known_field(self, name, *numbers):
@@ -380,12 +346,12 @@ class Program:
 
     def row(self, word, tree):
         """The predicate of a certificate's row: no names of policies can be used, faults have the line of `row`."""
-        predicate = self.written(tree, {})
-        if not is_predicate(predicate):
+        predicate = mapped(tree, lambda leaf: self.written(leaf, {}))
+        if not measured(predicate).predicate:
             raise Fault(word.line, "not a predicate")
-        if depth_of(predicate) > MOST_DEEP:
+        if measured(predicate).depth > MOST_DEEP:
             raise Fault(word.line, "too deep")
-        return plain(predicate)
+        return predicate
 
 
 def in_range(number, largest=LARGEST_PORT):
@@ -402,48 +368,45 @@ def parts_of(policy):
     return (policy[1],) if policy[0] in ("not", "star") else ()
 
 
-def depth_of(policy):
-    """1 for a leaf, and 1 more than the deepest part for the rest (GLOSSARY, Policies and their runs)."""
+def leaves(policy):
+    """The leaves of a policy in text order."""
+    if policy[0] in ("sum", "seq", "not", "star"):
+        return [leaf for part in parts_of(policy) for leaf in leaves(part)]
+    return [policy]
+
+
+def mapped(policy, change):
+    """The policy with each leaf changed, in text order."""
+    if policy[0] in ("sum", "seq"):
+        return (policy[0], tuple(mapped(part, change) for part in policy[1]))
+    return (policy[0], mapped(policy[1], change), *policy[2:]) if policy[0] in ("not", "star") else change(policy)
+
+
+# GLOSSARY, Policies and their runs: the depth is 1 for a leaf, and 1 more than the deepest part for the rest; the size is how
+# many elements there are; a predicate is made of tests, ranges, and sums, sequences and complements of predicates.
+Measures = namedtuple("Measures", "depth size predicate")
+
+
+def measured(policy):
+    """The measures of a policy, which a name has with it."""
     if policy[0] == "known":
         return policy[2]
-    return 1 + max((depth_of(part) for part in parts_of(policy)), default=0)
-
-
-def size_of(policy):
-    """How many elements a policy has (GLOSSARY, Policies and their runs)."""
-    if policy[0] == "known":
-        return policy[3]
-    return 1 + sum(size_of(part) for part in parts_of(policy))
-
-
-def is_predicate(policy):
-    """Made of tests, ranges, and sums, sequences and complements of predicates (GLOSSARY)."""
-    if policy[0] == "known":
-        return policy[4]
-    if policy[0] in ("sum", "seq", "not"):
-        return all(is_predicate(part) for part in parts_of(policy))
-    return policy[0] in ("test", "range")
+    deepest, size, predicate = 0, 1, policy[0] in ("test", "range", "sum", "seq", "not")
+    for part in map(measured, parts_of(policy)):
+        deepest, size, predicate = max(deepest, part.depth), size + part.size, predicate and part.predicate
+    return Measures(deepest + 1, size, predicate)
 
 
 def check_complements(policy):
     """`not a predicate`: a `~` stands over what is no predicate; the first such `~`."""
-    if policy[0] == "not" and not is_predicate(policy[1]):
+    if policy[0] == "not" and not measured(policy[1]).predicate:
         raise Fault(policy[2], "not a predicate")
     for part in parts_of(policy):
         check_complements(part)
 
 
-def plain(policy):
-    """The tree itself: a name's tree in its place, and no lines."""
-    if policy[0] == "known":
-        return policy[1]
-    if policy[0] in ("sum", "seq"):
-        return (policy[0], tuple(plain(part) for part in policy[1]))
-    return (policy[0], plain(policy[1])) if policy[0] in ("not", "star") else policy
-
-
 # A row of a certificate: its positions, none of the start row, and its predicate.
-Row = namedtuple("Row", "positions predicate line")
+Row = namedtuple("Row", "positions predicate")
 
 
 def certificate_rows(program, written):
@@ -454,7 +417,7 @@ def certificate_rows(program, written):
         ascends = all(low < high for low, high in zip(positions, positions[1:]))
         if not ascends or positions in [row.positions for row in rows]:
             raise Fault(word.line, "certificate fault")
-        rows.append(Row(positions, program.row(word, tree), word.line))
+        rows.append(Row(positions, program.row(word, tree)))
     return rows
 
 
@@ -479,7 +442,7 @@ class TableReader:
     def declare(self, declaration):
         """A declaration's faults are those of a program, each at its line."""
         try:
-            self.program.declare(declaration)
+            self.program.declare(*declaration)
         except Fault as fault:
             raise Fault(fault.line, "table fault") from None
 
@@ -547,26 +510,31 @@ def digits_of(largest):
 
 def parse_program(text):
     """The program of a text."""
-    reader, declarations = Reader(tokens_of(text)), []
-    while not reader.at_end():
-        declarations.append(reader.declaration())
-    return declared(declarations)
+    reader = Reader(tokens_of(text))
+    return declared(declarations_of(reader))
 
 
 def parse_certified(text):
     """The program of a text and the rows of the certificate behind it, the start row first."""
-    reader, declarations = Reader(tokens_of(text)), []
-    while not reader.at("certificate"):
-        declarations.append(reader.declaration())
-    written = reader.rows()
+    reader = Reader(tokens_of(text))
+    declarations, written = declarations_of(reader, "certificate"), reader.certificate_rows()
     program = declared(declarations)
     return program, certificate_rows(program, written)
 
 
+def declarations_of(reader, behind=None):
+    """The declarations up to the end of the text, or up to a word behind them."""
+    declarations = []
+    while not (reader.at(behind) if behind else reader.at_end()):
+        declarations.append(reader.declaration("let", "fabric", "virtual"))
+    return declarations
+
+
 def declared(declarations):
+    """The program that declarations make, one after the other."""
     program = Program()
     for declaration in declarations:
-        program.declare(declaration)
+        program.declare(*declaration)
     return program
 
 
@@ -576,7 +544,7 @@ def parse_tables(text):
     reader, declarations, sections = Reader(tokens), [], []
     version = reader.take_all("tables", "number")[1]
     while not reader.at("table") and not reader.at_end():
-        declarations.append(reader.plain_declaration())
+        declarations.append(reader.declaration())
     while not reader.at_end():
         sections.append(reader.section())
     tables = TableReader(version)

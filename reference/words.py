@@ -5,9 +5,9 @@
 
 import re
 
+from certificates import Judge
 from generated import generated
 from meaning import (
-    START,
     Refused,
     Runs,
     Space,
@@ -18,33 +18,16 @@ from meaning import (
     first_difference,
     physical,
     question,
-    small,
     tag_sets,
     uncarried,
 )
 from network import Update, draws, fly, trace
 from printed import Compiled, certificate
-from texts import DROP, LARGEST_PORT, MOST_ELEMENTS, Fault, is_predicate, parse_certified, parse_program, parse_tables, size_of
+from texts import DROP, LARGEST_PORT, MOST_ELEMENTS, Fault, measured, parse_certified, parse_program, parse_tables
 
 MOST_BYTES = 16_777_216  # README, Answers: status 8: the text has more than 16,777,216 bytes
 # README, The commands; GUIDE 8: a number out of its range is a usage fault.
 HOPS, STEPS, SIZE, SEED = (0, LARGEST_PORT), (0, 1_000_000), (2, 1_000), (1, 2_147_483_646)
-COMMANDS = {
-    "compile": (None,),
-    "equal": (None, None),
-    "check": (None, None),
-    "apart": (None, None, None),
-    "waypoint": (None, None, None, None),
-    "check_apart": (None, None, None),
-    "check_waypoint": (None, None, None, None),
-    "trace": (HOPS, None),
-    "fly": (SEED, STEPS, None),
-    "update": (None, None, SEED, STEPS, None),
-    "compact": (None,),
-    "virtual": (None,),
-    "gen": (SIZE, SEED),
-    "job": (SIZE, SEED),
-}
 
 
 class Usage(Exception):
@@ -53,8 +36,7 @@ class Usage(Exception):
 
 def command_of(words):
     """The command and its arguments. `--` is dropped once, and what follows is a value; so are `-` and the empty word."""
-    ranges = COMMANDS.get(words[0] if words else None)
-    if ranges is None or any("\ud800" <= letter <= "\udfff" for letter in "".join(words)):
+    if not words or words[0] not in COMMANDS or any("\ud800" <= letter <= "\udfff" for letter in "".join(words)):
         raise Usage  # DECISIONS, Words: words are UTF-8 texts; the letters named here are those of bytes that are none
     values, free = [], False
     for word in words[1:]:
@@ -64,9 +46,10 @@ def command_of(words):
             raise Usage
         else:
             values.append(word)
+    how, *ranges = COMMANDS[words[0]]
     if len(values) != len(ranges):
         raise Usage
-    return words[0], [number_in(it, word) if it else word for it, word in zip(ranges, values)]
+    return how, [number_in(it, word) if it else word for it, word in zip(ranges, values)]
 
 
 def number_in(limits, word):
@@ -79,17 +62,17 @@ def number_in(limits, word):
 def answer(words, text):
     """The status, and the bytes on standard output and on standard error."""
     try:
-        command, arguments = command_of(words)
-        if len(text) > MOST_BYTES and command not in ("gen", "job"):
+        how, arguments = command_of(words)
+        if len(text) > MOST_BYTES and how not in (answer_gen, answer_job):
             return 8, b"", b"too long\n"
-        status, lines = HOW[command](text, *arguments)
+        status, lines = how(text, *arguments)
         return status, "".join(line + "\n" for line in lines).encode(), b""
     except Usage:
         return 2, b"", b"usage: nk COMMAND ARGUMENTS\n"
     except Fault as fault:
         return 3, b"", f"line {fault.line}: {fault.words}\n".encode()
     except Refused as refused:
-        return 4, b"", "".join(line + "\n" for line in refused.args).encode()
+        return 4, b"", ("refused " + "".join(line + "\n" for line in refused.args)).encode()
 
 
 # ------------------------------------------------------------------------------------------------------------- lines
@@ -105,9 +88,10 @@ def history_text(program, records, last, with_tag=True):
     return " ".join(packet_text(program, it, with_tag) for it in (*records, last))
 
 
-def found_lines(program, start, records, last):
-    """`start PACKET`, `history PACKET PACKET ..`, with every field."""
-    return [f"start {packet_text(program, start)}", f"history {history_text(program, records, last)}"]
+def found_lines(program, start, *history):
+    """`start PACKET`, and of a history `history PACKET PACKET ..`, with every field."""
+    lines = [f"start {packet_text(program, start)}"]
+    return [*lines, f"history {history_text(program, *history)}"] if history else lines
 
 
 # --------------------------------------------------------------------------------------------------------- refusals
@@ -117,22 +101,14 @@ def policies(program, *names):
     """C1: no policy has the name."""
     for name in names:
         if name not in program.lets:
-            raise Refused("refused C1: no policy")
+            raise Refused("C1: no policy")
     return [program.lets[name] for name in names]
 
 
 def tagged(program):
     """C2: no tag is declared."""
     if program.tag is None:
-        raise Refused("refused C2: no tag")
-
-
-def seen(program, policy, links):
-    """C3 to C6."""
-    try:
-        check_by_sight(program, small(policy), links)
-    except Refused as refused:
-        raise Refused(f"refused {refused}") from None
+        raise Refused("C2: no tag")
 
 
 def edged(program, policy):
@@ -140,7 +116,7 @@ def edged(program, policy):
     space, runs = Space(program, [policy], with_ports=True), Runs(policy)
     found = check_edges(space, runs)
     if found:
-        raise Refused("refused C7: off edge", *found_lines(program, *found))
+        raise Refused("C7: off edge", *found_lines(program, *found))
     return space, runs
 
 
@@ -148,7 +124,7 @@ def few(program, count):
     """C8: more tags than the tag has values above 0; N is one more than that."""
     most = program.fields[program.tag][1]
     if count > most:
-        raise Refused(f"refused C8: too many tags, found {most + 1}")
+        raise Refused(f"C8: too many tags, found {most + 1}")
 
 
 def packet_of(program, text):
@@ -160,11 +136,11 @@ def packet_of(program, text):
         item = items[place] if place < len(items) else ""
         digits = item[len(name) + 1 :]
         if place >= len(wanted) or not item.startswith(name + "=") or not re.fullmatch("[0-9]+", digits) or int(digits) > largest:
-            raise Refused(f"refused C9: bad packet, item {place + 1}")
+            raise Refused(f"C9: bad packet, item {place + 1}")
         values[wanted[place]] = int(digits)
     packet = tuple(values[f] for f in range(len(program.fields)))
     if not program.is_port(*packet[:2]):
-        raise Refused("refused C10: off port")
+        raise Refused("C10: off port")
     return packet
 
 
@@ -172,32 +148,35 @@ def packet_of(program, text):
 
 
 def answer_compile(text, name):
+    program, policy = tagged_policy(text, name)
+    check_by_sight(program, policy, program.links)
+    return 0, tables_of(program, policy)[0].lines()
+
+
+def tagged_policy(text, name):
+    """A program and its policy of this name, of which C1 and C2 don't hold."""
     program = parse_program(text)
     policy = policies(program, name)[0]
     tagged(program)
-    seen(program, policy, program.links)
-    return 0, tables_of(program, policy).lines()
+    return program, policy
 
 
 def tables_of(program, policy, shared=False):
-    """The tables of a policy of which C7 and C8 don't hold; with classes of tag sets, if tags are shared."""
+    """The tables of a policy of which C7 and C8 don't hold; if tag sets share tags, also what tells the tags apart."""
     space, runs = edged(program, policy)
     sets = tag_sets(space, runs)
     numbers, aparts = classes(space, policy, sets) if shared else (range(1, len(sets) + 1), {})
     few(program, max(numbers, default=0))
-    tables = Compiled(space, runs, sets, numbers)
-    return (tables, aparts) if shared else tables
+    return Compiled(space, runs, sets, numbers), aparts
 
 
 def answer_compact(text, name):
     """One tag for all tag sets behind which the same histories are left, and a comment line for each two tags."""
-    program = parse_program(text)
-    policy = policies(program, name)[0]
-    tagged(program)
-    seen(program, policy, program.links)
+    program, policy = tagged_policy(text, name)
+    check_by_sight(program, policy, program.links)
     tables, aparts = tables_of(program, policy, shared=True)
     lines = tables.lines()
-    for (low, high), (side, start, records, last) in sorted(aparts.items()):
+    for (low, high), (start, records, (last, side)) in sorted(aparts.items()):
         words = " : ".join(found_lines(program, start, records, last))
         lines.append(f"# apart {low} {high} : {(low, high)[side]} alone : {words}")
     return 0, lines
@@ -205,27 +184,22 @@ def answer_compact(text, name):
 
 def answer_virtual(text, name):
     """For each virtual link C3 to C6 of its fabric, C11 and C12; then those of the policy, C13, C7 and C8."""
-    program = parse_program(text)
-    policy = policies(program, name)[0]
-    tagged(program)
+    program, policy = tagged_policy(text, name)
     for source, (_, _, fabric) in sorted(program.virtuals.items()):
-        seen(program, program.fabrics[fabric], program.links)
-        link = f"link {source[0]}:{source[1]}"
-        found = uncarried(program, source)
-        if found and found[0] == "C11":
-            raise Refused(f"refused C11: off target, {link}", *found_lines(program, *found[1:]))
+        check_by_sight(program, program.fabrics[fabric], program.links)
+        reason, *found = uncarried(program, source)
         if found:
-            raise Refused(f"refused C12: not carried, {link}", f"start {packet_text(program, found[1])}")
-    seen(program, policy, program.virtuals)
+            raise Refused(f"{reason}, link {source[0]}:{source[1]}", *found_lines(program, *found))
+    check_by_sight(program, policy, program.virtuals)
     policy = physical(policy, program)
     few_elements(policy)
-    return 0, tables_of(program, policy).lines()
+    return 0, tables_of(program, policy)[0].lines()
 
 
 def few_elements(policy):
     """C13: more than 1,048,576 elements."""
-    if size_of(policy) > MOST_ELEMENTS:
-        raise Refused("refused C13: expanded too large")
+    if measured(policy).size > MOST_ELEMENTS:
+        raise Refused("C13: expanded too large")
 
 
 def compared(program, left, right, words):
@@ -233,21 +207,21 @@ def compared(program, left, right, words):
     space, runs = Space(program, [left, right]), Runs(left, right)
     found = first_difference(space, runs)
     if found:
-        return 1, [*words[found[0]], *found_lines(program, *found[1:])]
+        start, records, (last, side) = found
+        return 1, [*words[side], *found_lines(program, start, records, last)]
     return 0, certificate(space, runs)
 
 
 def answer_equal(text, *names):
     program = parse_program(text)
-    words = [["different", "left alone"], ["different", "right alone"]]
-    return compared(program, *policies(program, *names), words)
+    return compared(program, *policies(program, *names), [["different", "left alone"], ["different", "right alone"]])
 
 
 def asked(program, name, *predicates):
     """The question of a query: C1 of any name, C14 of the predicates, C13."""
     policy, *sets = policies(program, name, *predicates)
-    if not all(is_predicate(it) for it in sets):
-        raise Refused("refused C14: not a predicate")
+    if not all(measured(it).predicate for it in sets):
+        raise Refused("C14: not a predicate")
     before, avoided, behind = sets if len(sets) == 3 else (sets[0], None, sets[1])
     asks = question(policy, before, avoided, behind)
     few_elements(asks)
@@ -269,47 +243,26 @@ def answer_check_query(text, *names):
     return judged(program, asked(program, *names), DROP, rows)
 
 
-def judged(program, left, right, rows):
-    """README, Certificates: the first row that fails, and the first part in which it fails."""
-    space = Space(program, [left, right, *(row.predicate for row in rows)])
-    runs = Runs(left, right)
-    holds = {frozenset(row.positions): {x for x in space.packets() if runs.gives(row.predicate, x)} for row in rows[1:]}
-    for place, row in enumerate(rows):
-        at = frozenset(row.positions) if place else START
-        if not all(1 <= position <= len(runs.rests) for position in row.positions):
-            part = "position"
-        elif place == 0 and not all(runs.gives(row.predicate, x) for x in space.packets()):
-            part = "start"
-        else:
-            part = failing_part(runs, at, holds[at] if place else space.packets(), holds)
-        if part:
-            return 1, [f"invalid row {place + 1}: {part}"]
-    return 0, ["valid"]
-
-
-def failing_part(runs, at, packets, holds):
-    """*finals*: both policies end at the same packets. *hop*: some row has the numbers and the packet recorded next."""
-    if any(runs.ends(at, x, 0) != runs.ends(at, x, 1) for x in packets):
-        return "finals"
-    if any(y not in holds.get(numbers, ()) for x in packets for y, numbers in runs.nexts(at, x).items()):
-        return "hop"
-    return None
+def judged(*certified):
+    """`valid`, or the first row that fails and where."""
+    said = Judge(*certified).answer()
+    return (0 if said == "valid" else 1), [said]
 
 
 def answer_trace(text, hops, packet):
     tables = parse_tables(text)
-    return 0, left_lines(tables.program, *trace(tables, hops, packet_of(tables.program, packet)))
+    return left_lines(tables.program, *trace(tables, hops, packet_of(tables.program, packet)))
 
 
 def answer_fly(text, seed, steps, packet):
     tables = parse_tables(text)
-    return 0, left_lines(tables.program, *fly(tables, seed, steps, packet_of(tables.program, packet)))
+    return left_lines(tables.program, *fly(tables, seed, steps, packet_of(tables.program, packet)))
 
 
 def left_lines(program, left, flying):
     """The histories without the tag, then `left L flying F`."""
     lines = [history_text(program, *history, with_tag=False) for history in left]
-    return [*lines, f"left {len(left)} flying {flying}"]
+    return 0, [*lines, f"left {len(left)} flying {flying}"]
 
 
 def answer_update(text, old, new, seed, steps, packet):
@@ -319,7 +272,7 @@ def answer_update(text, old, new, seed, steps, packet):
     tagged(program)
     sides = []
     for policy in chosen:
-        seen(program, policy, program.links)
+        check_by_sight(program, policy, program.links)
         space, runs = edged(program, policy)
         sides.append((space, runs, tag_sets(space, runs)))
     old_tags = len(sides[0][2])
@@ -344,7 +297,7 @@ def answer_job(text, size, seed):
     program = parse_program("\n".join(generated(size, seed)).encode())
     lines = []
     for name in ("go", "cast"):
-        tables = tables_of(program, *policies(program, name))
+        tables, _ = tables_of(program, *policies(program, name))
         text = tables.lines()
         counts = [sum(line.startswith(word) for line in text) for word in ("row ", "group ")]
         lines.append(f"{name} tags {len(tables.sets)} rows {counts[0]} groups {counts[1]}")
@@ -352,19 +305,20 @@ def answer_job(text, size, seed):
     return (status, text) if status else (0, [*lines, f"equal rows {len(text) - 1}"])
 
 
-HOW = {
-    "compile": answer_compile,
-    "compact": answer_compact,
-    "virtual": answer_virtual,
-    "equal": answer_equal,
-    "apart": answer_query,
-    "waypoint": answer_query,
-    "check": answer_check,
-    "check_apart": answer_check_query,
-    "check_waypoint": answer_check_query,
-    "trace": answer_trace,
-    "fly": answer_fly,
-    "update": answer_update,
-    "gen": answer_gen,
-    "job": answer_job,
+# What answers each command, and for each argument the range of a number, or None.
+COMMANDS = {
+    "compile": (answer_compile, None),
+    "compact": (answer_compact, None),
+    "virtual": (answer_virtual, None),
+    "equal": (answer_equal, None, None),
+    "apart": (answer_query, None, None, None),
+    "waypoint": (answer_query, None, None, None, None),
+    "check": (answer_check, None, None),
+    "check_apart": (answer_check_query, None, None, None),
+    "check_waypoint": (answer_check_query, None, None, None, None),
+    "trace": (answer_trace, HOPS, None),
+    "fly": (answer_fly, SEED, STEPS, None),
+    "update": (answer_update, None, None, SEED, STEPS, None),
+    "gen": (answer_gen, SIZE, SEED),
+    "job": (answer_job, SIZE, SEED),
 }
