@@ -28,7 +28,8 @@ pub struct Classes {
 }
 
 /// The class of each tag: two tags are of one class where what is left behind their sets gives the same histories from every
-/// packet in range. `tags` are the tags' sets in their order. The only error is that memory ran out.
+/// packet in range. `tags` are the tags' sets in their order. The only error is that memory ran out; then the store and the sets have
+/// only grown, `twice` keeps its states, and nothing is said of its goal.
 pub fn classes_of(
     st: &mut Store,
     ss: &mut Sets,
@@ -42,6 +43,7 @@ pub fn classes_of(
     ensures grows { Grows st.old st.new }
     ensures sets { SetsGrow ss.old ss.new }
     ensures twice { OnOk result (IsTwice st.new states.now twice.new) }
+    ensures rows { twice.new.rows ≡ twice.old.rows }
     ensures classes { IfOk result (λ c. AreClasses (AreTagsAlike st.old states.now ss.old tags.now) (length tags.now) c.numbers) }
     ensures firsts { IfOk result (λ c. AreFirsts c.numbers c.firsts) }
 {
@@ -84,6 +86,7 @@ fn class_by(
     ensures grows { Grows st.old st.new }
     ensures sets { SetsGrow ss.old ss.new }
     ensures twice { OnOk result (IsTwice st.new states.now twice.new) }
+    ensures rows { twice.new.rows ≡ twice.old.rows }
     ensures within { IfOk result (λ c. c ≤ length firsts.now) }
     ensures yes { IfOk result (λ c. c < length firsts.now →
         AreAlike st.old states.now (labels_behind (tag_set ss.old tags.now (slice_index firsts.now c))) (labels_behind (slice_index_or ss.old s []))) }
@@ -122,6 +125,7 @@ fn class_of(
     ensures grows { Grows st.old st.new }
     ensures sets { SetsGrow ss.old ss.new }
     ensures twice { OnOk result (IsTwice st.new states.now twice.new) }
+    ensures rows { twice.new.rows ≡ twice.old.rows }
     ensures within { IfOk result (λ c. c ≤ length firsts.now) }
     ensures yes { IfOk result (λ c. c < length firsts.now →
         AreAlike st.old states.now (labels_behind (tag_set ss.old tags.now (slice_index firsts.now c))) (labels_behind (slice_index_or ss.old s []))) }

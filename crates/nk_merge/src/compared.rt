@@ -18,8 +18,8 @@ use nk_store::{Id, Store};
 use std::alloc::AllocError;
 
 /// Whether what is left behind two sets of labels gives the same histories from every packet in range. The only error is that
-/// memory ran out.
-pub fn are_alike(
+/// memory ran out; then the store and the sets have only grown, and `twice` keeps its states.
+pub(crate) fn are_alike(
     st: &mut Store,
     ss: &mut Sets,
     states: &[Id],
@@ -35,6 +35,7 @@ pub fn are_alike(
     ensures grows { Grows st.old st.new }
     ensures sets { SetsGrow ss.old ss.new }
     ensures twice { OnOk result (IsTwice st.new states.now twice.new) }
+    ensures rows { twice.new.rows ≡ twice.old.rows }
     ensures yes { IfOk result (λ b. b ≡ true → AreAlike st.old states.now (labels_behind (slice_index_or ss.old s [])) (labels_behind (slice_index_or ss.old t []))) }
     ensures no { IfOk result (λ b. b ≡ false → AreAlike st.old states.now (labels_behind (slice_index_or ss.old s [])) (labels_behind (slice_index_or ss.old t [])) → ⊥) }
 {
@@ -46,7 +47,8 @@ pub fn are_alike(
 }
 
 /// Where what is left behind two sets of labels doesn't give the same histories from every packet in range, the least history
-/// that one of them gives alone; its side is the left one where that is the first set. The only error is that memory ran out.
+/// that one of them gives alone; its side is the left one where that is the first set. The only error is that memory ran out; then
+/// the store and the sets have only grown, `twice` keeps its states, and nothing is said of its goal.
 pub fn apart(
     st: &mut Store,
     ss: &mut Sets,
@@ -63,6 +65,7 @@ pub fn apart(
     ensures grows { Grows st.old st.new }
     ensures sets { SetsGrow ss.old ss.new }
     ensures twice { OnOk result (IsTwice st.new states.now twice.new) }
+    ensures rows { twice.new.rows ≡ twice.old.rows }
     ensures ok { IfOk result (λ r. TellsApart st.old states.now (labels_behind (slice_index_or ss.old s [])) (labels_behind (slice_index_or ss.old t [])) r) }
 {
     let both = levels_of_two(st, ss, states, twice, s, t)?;
@@ -90,6 +93,7 @@ fn levels_of_two(
     ensures grows { Grows st.old st.new }
     ensures sets { SetsGrow ss.old ss.new }
     ensures twice { OnOk result (IsTwice st.new states.now twice.new) }
+    ensures rows { twice.new.rows ≡ twice.old.rows }
     ensures ok { IfOk result (λ lv. AreLevelsOfTwo st.new ss.new states.now (labels_behind (slice_index_or ss.old s [])) (labels_behind (slice_index_or ss.old t [])) twice.new lv.levels lv.broken) }
 {
     let set = joined(st.alloc(), ss, s, t, states.len())?;

@@ -9,5 +9,5 @@ mod together;
 mod twice;
 
 pub use classes::{Classes, classes_of};
-pub use compared::{apart, are_alike};
+pub use compared::apart;
 pub use twice::Twice;

@@ -315,6 +315,17 @@ merged_push a st new met level all more p m g k d = record {
   once = d.once;
 }
 
+-- merged entries stay so while the store grows
+pub merged_on : (a st new : Held) (met level all : List (ℕ × ℕ)) → IsMerged a met level st all → Grows st new → IsMerged a met level new all
+merged_on a st new met level all m g = record {
+  either = λ i x w u. m.either i x w (under_back st new all i x g m.packets u);
+  old = λ i x w u. under_on st new all i x g m.packets (m.old i x w u);
+  more = λ i x w u. under_on st new all i x g m.packets (m.more i x w u);
+  named = m.named;
+  packets = each_weaker (λ q. IsSet st q.1) (λ q. IsSet new q.1) all (λ q s. set_grows st new q.1 g s) m.packets;
+  once = m.once;
+}
+
 -- one item more, taken from the front
 pub take_more : (ps : List (ℕ × ℕ)) (k : ℕ) (p : ℕ × ℕ) → k < length ps → p ≡ get_or ps k p → take (k + 1) ps ≡ take k ps ++ p ∷ []
 take_more [] k p l is = absurd (omega (arith, l))

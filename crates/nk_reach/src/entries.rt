@@ -1,5 +1,5 @@
 //! Sets of labels with their packets, found by the set's number.
-ghost use Rattle.std.specs.Prelude.{◌≡◌, eqb, IfOk, OnOk};
+ghost use Rattle.std.specs.Prelude.{◌≡◌, ℕ, eqb, take, IfOk, OnOk, OnErr};
 ghost use Rattle.std.specs.Map.{lookup};
 ghost use Rattle.nk_store.specs.Held.{Grows};
 ghost use Rattle.nk_sets.specs.PacketSets.{IsSet};
@@ -21,8 +21,8 @@ pub fn under(pairs: &IndexMap<SetId, Id>, t: SetId) -> Option<Id>
     pairs.get(&t).copied()
 }
 
-/// Adds packets under a set. The only error is that memory ran out.
-pub fn add(
+/// Adds packets under a set. The only error is that memory ran out; then the entries stay as they were.
+pub(crate) fn add(
     st: &mut Store,
     pairs: &mut IndexMap<SetId, Id>,
     t: SetId,
@@ -33,6 +33,7 @@ pub fn add(
     requires packets { IsSet st.old y }
     ensures grows { Grows st.old st.new }
     ensures ok { OnOk result (IsAdded st.old pairs.old.entries t y st.new pairs.new.entries) }
+    ensures err { OnErr result (pairs.new.entries ≡ pairs.old.entries) }
 {
     let all = joined(st, pairs, t, y)?;
     pairs.insert(t, all)?;
@@ -78,7 +79,8 @@ pub(crate) fn unmet(
     }
 }
 
-/// Adds the packets of one more level to those met so far. The only error is that memory ran out.
+/// Adds the packets of one more level to those met so far. The only error is that memory ran out; then the store has only grown,
+/// and the packets of the level's first entries are added, and of the others none.
 pub fn merge(
     st: &mut Store,
     met: &mut IndexMap<SetId, Id>,
@@ -89,6 +91,7 @@ pub fn merge(
     requires level { HaveSets st.old level.now }
     ensures grows { Grows st.old st.new }
     ensures ok { OnOk result (IsMerged st.old met.old.entries level.now st.new met.new.entries) }
+    ensures err { OnErr result ((k : ℕ) × IsMerged st.old met.old.entries (take k level.now) st.new met.new.entries) }
 {
     for k in 0..level.len() {
         let (t, y) = *level.at(k);

@@ -25,7 +25,8 @@ pub trait Goal {
     /// The bad finals of a set of labels at a packet, read in a store.
     ghost bad_of: { Self → Held → Items ℕ → Items ℕ → Items Out };
 
-    /// The diagram of the bad finals of a set. The only error is that memory ran out.
+    /// The diagram of the bad finals of a set. The only error is that memory ran out; then the store has only grown, and
+    /// nothing is said of the goal.
     fn bad(&mut self, st: &mut Store, ss: &Sets, s: SetId) -> Result<Id, AllocError>
         requires fits { fits self.old st.old }
         requires set { s < length ss.now }
@@ -45,7 +46,8 @@ pub trait Goal {
         Contains (bad_of g st set pk) o → (o.target ≡ 0) ⊎ (o.target ≡ 1) };
 }
 
-/// Whether a level has a bad final. The only error is that memory ran out.
+/// Whether a level has a bad final. The only error is that memory ran out; then the store has only grown, and nothing is
+/// said of the goal.
 pub fn any_bad<G: Goal>(
     st: &mut Store,
     ss: &Sets,

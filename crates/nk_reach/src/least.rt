@@ -24,7 +24,7 @@ use std::alloc::AllocError;
 /// the states' set states, and a bad final of the side that is told makes its last packet. Fewer records come first, then the
 /// lesser start, then the records in turn, then the last packet; where a bad final of either side makes that history, the
 /// left side is told. The levels are those of these states and this goal, and ended at a bad final. The only error is that
-/// memory ran out.
+/// memory ran out; then the store and the sets have only grown, and nothing is said of the goal.
 pub fn least_history<G: Goal>(
     st: &mut Store,
     ss: &mut Sets,

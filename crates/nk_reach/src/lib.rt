@@ -22,7 +22,7 @@ mod single;
 mod standing;
 mod together;
 
-pub use entries::{add, merge, under};
+pub use entries::{merge, under};
 pub use found::{Found, Side};
 pub use goal::{Goal, any_bad};
 pub use least::least_history;

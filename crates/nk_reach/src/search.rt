@@ -17,7 +17,7 @@ use std::alloc::{AllocError, Global};
 
 /// The levels of an automaton's states, from the set state `s` at the packets `start`, up to the
 /// first level with a bad final of the goal, or until a level meets nothing new. The only error is
-/// that memory ran out.
+/// that memory ran out; then the store and the sets have only grown, and nothing is said of the goal.
 pub fn levels<G: Goal>(
     st: &mut Store,
     ss: &mut Sets,

@@ -28,6 +28,7 @@ loop-c-preserved c =
       grows = grows_on _ _ _ c.loop-c.invariant.grows c.are_alike.ensures.grows;
       sets = sets_on _ _ _ c.loop-c.invariant.sets c.are_alike.ensures.sets;
       twice = c.in_ok-are_alike.ensures.twice;
+      rows = c.are_alike.ensures.rows ∙ c.loop-c.invariant.rows;
       none = λ b less h.
           ⊎_elim
           (λ before. c.loop-c.invariant.none b before h)

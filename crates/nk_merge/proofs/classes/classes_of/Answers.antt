@@ -63,6 +63,7 @@ loop-i-preserved c =
       grows = grows_on _ _ _ grown c.class_by.ensures.grows;
       sets = sets_on _ _ _ c.loop-i.invariant.sets c.class_by.ensures.sets;
       twice = c.in_ok-c.ensures.twice;
+      rows = c.class_by.ensures.rows ∙ c.loop-i.invariant.rows;
       classes = subst (λ (n : ℕ). AreClasses (AreTagsAlike old states ss tags) n c.add.new.all.numbers) next more;
       firsts = more_firsts;
       few = few_firsts firsts c.add.new.all.firsts i c.in_ok-c.c c.in_ok-add.ensures.firsts c.loop-i.invariant.few;

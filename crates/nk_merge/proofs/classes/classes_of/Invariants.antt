@@ -1,4 +1,4 @@
-use Rattle.std.proofs.Common.{◌≤◌, length}
+use Rattle.std.proofs.Common.{◌≡◌, ◌≤◌, length}
 use Rattle.nk_store.specs.Held.{Grows}
 use Rattle.nk_determ.specs.Sets.{SetsGrow}
 use Rattle.nk_merge.specs.Alike.{AreTagsAlike}
@@ -13,6 +13,7 @@ invariant-loop-i l = record {
   grows : Grows l.fn.st l.st;
   sets : SetsGrow l.fn.ss l.ss;
   twice : IsTwice l.st l.states l.twice;
+  rows : l.twice.rows ≡ l.fn.twice.rows;
   classes : AreClasses (AreTagsAlike l.fn.st l.states l.fn.ss l.tags) l.i l.all.numbers;
   firsts : AreFirsts l.all.numbers l.all.firsts;
   few : length l.all.firsts ≤ l.i;
