@@ -1,7 +1,7 @@
 -- A policy is compacted exactly where it can be: no refusal is another answer.
 use Rattle.std.proofs.Common.{List, ℕ, ◌∙◌, sym, subst}
 use Rattle.nk_names.specs.ProgramOf.{said_by}
-use Rattle.nk_compile.proofs.CompactReasons.{never_refused_compact}
+use Rattle.nk_compact.proofs.CompactReasons.{never_refused_compact}
 use Rattle.nk_compiling.specs.Compacting.{IsCompactAnswer}
 use Rattle.nk_reply.specs.Outcome.{Outcome, done, differs, text_refused, policy_refused}
 use Rattle.nk_input.specs.ProgramText.{Declares}

@@ -12,9 +12,9 @@ use Rattle.nk_names.specs.Named.{policy_named}
 use Rattle.nk_gen.specs.Text.{generated}
 use Rattle.nk_table.specs.declared.Tables.{Tables}
 use Rattle.nk_tabtext.specs.Values.{tables_of}
-use Rattle.nk_compile.specs.Compacted.{AcceptsCompact}
 use Rattle.nk_compile.specs.Headline.{IsAcceptedByName}
 use Rattle.nk_compile.specs.PairAnswers.{FitTogether}
+use Rattle.nk_compact.specs.Compacted.{AcceptsCompact}
 use Rattle.nk_cert.specs.Certificates.{CertificateValue, IsCertificate}
 use Rattle.nk_cert.specs.Equality.{AreSame}
 use Rattle.nk_query.specs.Asked.{Asked, apart, waypoint, Question, NoneBreaks}

@@ -12,8 +12,7 @@ use Rattle.nk_policy.proofs.Untouched.{IsZeroAt}
 use Rattle.nk_table.specs.declared.Tables.{Tables}
 use Rattle.nk_table.specs.declared.Bucket.{Bucket}
 use Rattle.nk_table.specs.Rules.{sent_by, sent_for}
-use Rattle.nk_compile.specs.MergedTable.{IsNumberedList}
-use Rattle.nk_compile.specs.PrintedTable.{IsResult}
+use Rattle.nk_compile.specs.PrintedTable.{IsNumberedList, IsResult}
 use Rattle.nk_extract.specs.Buckets.{bucket_of, bucket_key, tag_of, IsBucketBefore}
 use Rattle.nk_compile.proofs.TagPlaces.{never_before}
 use Rattle.nk_compile.proofs.Sent.{sends}

@@ -1,14 +1,9 @@
 pub mod Acting
-pub mod ActingTags
-pub mod AlikeTags
 pub mod Begun
 pub mod Behind
 pub mod Carried
-pub mod ClassRows
 pub mod ComingEnds
 pub mod ComingSteps
-pub mod CompactAnswers
-pub mod Compacting
 pub mod Emitted
 pub mod EndLemmas
 pub mod FewTags
@@ -17,9 +12,6 @@ pub mod Handing
 pub mod Levelled
 pub mod LinkEnds
 pub mod Making
-pub mod Merging
-pub mod MetSets
-pub mod MetUnder
 pub mod Naming
 pub mod Padding
 pub mod PairRows
@@ -42,11 +34,9 @@ pub mod Waits
 pub mod Whole
 pub mod WrongEnding
 pub mod Orders
-pub mod TellingApart
 pub mod TooMany
 pub mod Reasons
 pub mod ReasonByName
 pub mod PairReasons
 pub mod PairReasonByName
 pub mod OneTagList
-pub mod CompactReasons

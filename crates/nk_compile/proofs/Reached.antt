@@ -29,7 +29,7 @@ use Rattle.nk_table.specs.declared.Tables.{Tables}
 use Rattle.nk_table.specs.Rules.{sent_for}
 use Rattle.nk_table.specs.Hops.{moved_to}
 use Rattle.nk_compile.specs.PrintedTable.{IsOfTag, StateRecords, IsResult}
-use Rattle.nk_compile.specs.MergedTable.{IsMetUnder}
+use Rattle.nk_compile.specs.MetUnder.{IsMetUnder}
 use Rattle.nk_compile.specs.WholeTable.{HasRowsAt, link_end}
 use Rattle.nk_compile.proofs.LinkEnds.{end_of_literal}
 use Rattle.nk_compile.proofs.TagPlaces.{StandOnce}

@@ -21,8 +21,7 @@ use Rattle.nk_extract.proofs.Trees.{leaf_stays}
 use Rattle.nk_extract.proofs.PlainRows.{put_all, exactly_differs, rows_give_leaves}
 use Rattle.nk_group.specs.Groups.{rows_after, groups_of as all_groups}
 use Rattle.nk_group.proofs.Choice.{groups_keep_the_choice}
-use Rattle.nk_compile.specs.MergedTable.{IsNumberedList}
-use Rattle.nk_compile.specs.PrintedTable.{IsTreeOfTag, IsBucketList}
+use Rattle.nk_compile.specs.PrintedTable.{IsNumberedList, IsTreeOfTag, IsBucketList}
 use Rattle.nk_compile.specs.WholeTable.{HasRowsAt, TagTree, rows_of_trees, IsSwitchTable}
 use Rattle.nk_compile.proofs.Sent.{same_number, other_number}
 use Rattle.nk_compile.proofs.Acting.{GivesAs, Numbering}

@@ -1,15 +1,11 @@
 pub mod Answers
 pub mod Carries
-pub mod ClassStops
 pub mod Comings
-pub mod Compacted
 pub mod Counted
 pub mod Headline
 pub mod Levelled
 pub mod MadePair
-pub mod Mergeable
-pub mod MergedTable
-pub mod MetPackets
+pub mod MetUnder
 pub mod NumberedBehind
 pub mod OffEdge
 pub mod PairAnswers
@@ -18,6 +14,5 @@ pub mod PrintedTable
 pub mod Ready
 pub mod Refusals
 pub mod Smallest
-pub mod Told
 pub mod WholeTable
 pub mod WrongEnds

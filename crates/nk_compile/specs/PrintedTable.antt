@@ -31,6 +31,11 @@ pub record IsBucketList (width tag : ℕ) (p : Policy) (tags : List (List ℕ)) 
   pub exactly : (b : Bucket) → Contains buckets b ↔ ((x : List ℕ) × (t' : ℕ) × IsResult p tags t pk x t' × (b ≡ bucket_of width tag pk x t'))
   pub in_order : AllPairs (IsBucketBefore tag) buckets
 
+-- the bucket list of a tag at a packet, where a result with a tag gets another number
+pub record IsNumberedList (number : ℕ → ℕ) (width tag : ℕ) (p : Policy) (tags : List (List ℕ)) (t : ℕ) (pk : List ℕ) (buckets : List Bucket) : Type 0 where
+  pub exactly : (b : Bucket) → Contains buckets b ↔ ((x : List ℕ) × (t' : ℕ) × IsResult p tags t pk x t' × (b ≡ bucket_of width tag pk x (number t')))
+  pub in_order : AllPairs (IsBucketBefore tag) buckets
+
 -- the reduced tree of a tag at a switch, over the port and the declared fields but the tag
 pub record IsTreeOfTag (fields : FieldTable) (tag : ℕ) (p : Policy) (tags : List (List ℕ)) (t sw : ℕ) (d : Diagram (List Bucket)) : Type 0 where
   pub reduced : IsReduced d fields.maxima 1

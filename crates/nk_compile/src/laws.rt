@@ -15,7 +15,6 @@ ghost use Rattle.nk_update.specs.Plans.{IsPlannable, pair_of};
 ghost use Rattle.nk_update.specs.Tags.{HaveTheirTags};
 ghost use Rattle.nk_compile.specs.declared.refusal.Refusal.{Refusal};
 ghost use Rattle.nk_compile.specs.Counted.{HasTagSets};
-ghost use Rattle.nk_compile.specs.MergedTable.{IsMergedTable};
 ghost use Rattle.nk_compile.specs.NumberedBehind.{IsTableBehind};
 ghost use Rattle.nk_compile.specs.PairAnswers.{FitTogether, IsPairReason, IsPairRefused};
 ghost use Rattle.nk_compile.specs.WholeTable.{IsTableOf};
@@ -52,20 +51,6 @@ pub fn the_tables_behind_carry()
         → IsProgram program.fields program.topo program.lets
         → policy_named program name ≡ Some p → IsAccepted program p
         → IsTableBehind first program.fields program.topo (IsStartPacket program.fields program.topo) p t
-        → Carries program p t }
-{}
-
-/// The merged table of a compilable policy, where alike tag sets share a tag, carries it too.
-pub fn the_merged_table_carries()
-    ensures compilable { (program : Program) (p : Policy) (tags : List (List ℕ)) (classes : List ℕ) (t : Tables)
-        → IsFieldTable program.fields → AreLinks program.topo
-        → HasDistinct p → IsInRange p program.fields → IsCompilable program.fields program.topo p
-        → IsMergedTable program.fields program.topo (IsStartPacket program.fields program.topo) p tags classes t
-        → Carries program p t }
-    ensures named { (program : Program) (name : List ℕ) (p : Policy) (tags : List (List ℕ)) (classes : List ℕ) (t : Tables)
-        → IsProgram program.fields program.topo program.lets
-        → policy_named program name ≡ Some p → IsCompilable program.fields program.topo p
-        → IsMergedTable program.fields program.topo (IsStartPacket program.fields program.topo) p tags classes t
         → Carries program p t }
 {}
 

@@ -12,7 +12,7 @@ use nk_topo::Topo;
 use std::alloc::{AllocError, Global};
 
 /// For each switch its tags with rows there, ascending: tag 0, and each tag whose link ends there.
-pub fn stops(
+pub fn tag_stops(
     alloc: Global,
     topo: &Topo,
     ends: &[Option<u16>],

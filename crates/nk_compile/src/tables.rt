@@ -26,7 +26,7 @@ use nk_policy::Pol;
 use nk_reach::{Found, Levels, least_history, levels};
 use nk_sight::{Sight, seen};
 use nk_store::{Id, Store};
-use nk_tag::{NumberError, number_from, odd_sets};
+use nk_tag::{NumberError, number_from};
 use nk_topo::Topo;
 use std::alloc::{AllocError, Global};
 
@@ -94,14 +94,6 @@ pub fn numbers(b: &Prepared, first: u64, max: u64) -> Result<List<SetId>, Compil
         Ok(tags) => Ok(tags.sets),
         Err(e) => Err(fault(e)),
     }
-}
-
-/// The numbers of all of a prepared policy's sets at odd levels in order, as many as there are.
-pub fn all_numbers(b: &Prepared) -> Result<List<SetId>, AllocError>
-    requires prepared { (fields : FieldTable) × (topo : Topology) × (tag : ℕ) × (p : Policy) × IsPrepared fields topo tag p b.now }
-    ensures ok { IfOk result (λ r. AreNumbers b.now.sets b.now.levels.levels r) }
-{
-    odd_sets(&b.sets, &b.levels)
 }
 
 /// The fault of numbers as one of compilation.

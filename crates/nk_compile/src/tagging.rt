@@ -14,7 +14,7 @@ ghost use Rattle.nk_compile.specs.Ready.{sets_of, IsClear, IsReady};
 
 use crate::ends::link_ends;
 use crate::prepared::Prepared;
-use crate::stops::stops;
+use crate::stops::tag_stops;
 use nk_determ::{SetId, Sets};
 use nk_field::{Fields, List};
 use nk_policy::Pol;
@@ -43,7 +43,7 @@ fn tag_tables<S: TableSink>(
         → (t : Tables) → t.fields ≡ fields → t.topo ≡ topo.now → t.tables ≡ ts
         → IsTableBehind first fields topo.now (IsStartPacket fields topo.now) p t)) }
 {
-    let stops = stops(st.alloc(), topo, ends, ss, tags)?;
+    let stops = tag_stops(st.alloc(), topo, ends, ss, tags)?;
     switch_tables(st, ss, states, tags, stops.as_slice(), sink)
 }
 

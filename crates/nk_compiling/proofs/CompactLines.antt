@@ -23,10 +23,10 @@ use Rattle.nk_names.specs.ReadBack.{IsWritable}
 use Rattle.nk_names.proofs.Named.{let_named}
 use Rattle.nk_tabtext.specs.ReadBack.{ReadsPrintedTables}
 use Rattle.nk_tabtext.specs.Values.{tables_of}
-use Rattle.nk_compile.specs.declared.compact.Apart.{Apart}
-use Rattle.nk_compile.specs.declared.compact.Compact.{Compact}
-use Rattle.nk_compile.specs.Compacted.{IsFirstSet, IsApartIn, IsCompacted}
-use Rattle.nk_compile.proofs.Merging.{index_get}
+use Rattle.nk_compact.specs.declared.compact.Apart.{Apart}
+use Rattle.nk_compact.specs.declared.compact.Compact.{Compact}
+use Rattle.nk_compact.specs.Compacted.{IsFirstSet, IsApartIn, IsCompacted}
+use Rattle.nk_compact.proofs.Merging.{index_get}
 use Rattle.nk_compiling.specs.CommentLines.{IsCommentLine}
 use Rattle.nk_compiling.specs.Compacting.{apart_words, apart_line, compact_bytes, IsCompactPrinted}
 use Rattle.nk_input.specs.Declarable.{CanBeDeclared}

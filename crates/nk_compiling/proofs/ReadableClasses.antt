@@ -18,10 +18,10 @@ use Rattle.nk_table.specs.declared.Table.{Table}
 use Rattle.nk_table.specs.declared.Tables.{Tables}
 use Rattle.nk_switches.specs.Classed.{class_of}
 use Rattle.nk_compile.specs.WholeTable.{TagTree}
-use Rattle.nk_compile.specs.declared.compact.Compact.{Compact}
-use Rattle.nk_compile.specs.Compacted.{IsCompacted}
-use Rattle.nk_compile.specs.MergedTable.{IsClassTree, IsClassTable, HasClassRowsAt, IsMergedTable}
-use Rattle.nk_compile.proofs.Merging.{index_get}
+use Rattle.nk_compact.specs.declared.compact.Compact.{Compact}
+use Rattle.nk_compact.specs.Compacted.{IsCompacted}
+use Rattle.nk_compact.specs.MergedTable.{IsClassTree, IsClassTable, HasClassRowsAt, IsMergedTable}
+use Rattle.nk_compact.proofs.Merging.{index_get}
 use Rattle.nk_compiling.proofs.ResultBuckets.{numbered_ok}
 use Rattle.nk_compiling.proofs.SoundRows.{IsSoundTree}
 use Rattle.nk_compiling.proofs.Readable.{IsSoundTable, AreSoundTables, named_in_range, sound_in_order, sound_printable}

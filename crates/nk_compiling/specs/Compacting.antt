@@ -9,10 +9,10 @@ use Rattle.nk_names.specs.declared.Program.{Program}
 use Rattle.nk_names.specs.ProgramOf.{Said, said_by}
 use Rattle.nk_tabtext.specs.Text.{table_bytes}
 use Rattle.nk_tabtext.specs.Values.{tables_of}
-use Rattle.nk_compile.specs.declared.compact.Apart.{Apart}
-use Rattle.nk_compile.specs.declared.compact.Compact.{Compact}
 use Rattle.nk_compile.specs.declared.refusal.Refusal.{Refusal}
-use Rattle.nk_compile.specs.Compacted.{IsCompacted, IsCompactRefused}
+use Rattle.nk_compact.specs.declared.compact.Apart.{Apart}
+use Rattle.nk_compact.specs.declared.compact.Compact.{Compact}
+use Rattle.nk_compact.specs.Compacted.{IsCompacted, IsCompactRefused}
 use Rattle.nk_compiling.specs.Messages.{refusal_line}
 use Rattle.nk_reply.specs.Outcome.{Outcome, done, text_refused, policy_refused}
 use Rattle.nk_input.specs.ProgramText.{Declares, HasFault}

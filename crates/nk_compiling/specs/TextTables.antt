@@ -10,9 +10,9 @@ use Rattle.nk_names.specs.Topologies.{IsDeclarable}
 use Rattle.nk_table.specs.declared.Tables.{Tables}
 use Rattle.nk_tabtext.specs.InOrder.{AreInOrder}
 use Rattle.nk_tabtext.specs.ReadBack.{ArePrintableTables}
-use Rattle.nk_compile.specs.declared.compact.Compact.{Compact}
-use Rattle.nk_compile.specs.Compacted.{IsCompacted}
 use Rattle.nk_compile.specs.Headline.{IsCompiled, IsCompiledPolicy}
+use Rattle.nk_compact.specs.declared.compact.Compact.{Compact}
+use Rattle.nk_compact.specs.Compacted.{IsCompacted}
 
 -- no switch has more groups than a text has numbers
 abbrev pub HasFewGroups : Tables → Type 0

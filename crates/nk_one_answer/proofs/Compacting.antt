@@ -1,7 +1,7 @@
 -- What is answered of a name that is compacted, over the bytes of a text, is one.
 use Rattle.std.proofs.Common.{◌≡◌, ℕ, List, sym, ap, ◌∙◌}
 use Rattle.nk_names.proofs.Alike.{fields_alike}
-use Rattle.nk_compile.proofs.CompactReasons.{never_refused_compact, one_compact_refusal}
+use Rattle.nk_compact.proofs.CompactReasons.{never_refused_compact, one_compact_refusal}
 use Rattle.nk_uniqueness.specs.Texts.{TextsHavePackets}
 use Rattle.nk_uniqueness.proofs.OneCompact.{one_compacted}
 use Rattle.nk_compiling.specs.Compacting.{IsCompactPrinted, IsCompactRefusal, IsCompactAnswer, compact_bytes}

@@ -19,16 +19,17 @@ use Rattle.nk_table.specs.declared.Tables.{Tables}
 use Rattle.nk_extract.specs.Buckets.{IsBucketBefore}
 use Rattle.nk_group.specs.Groups.{groups_of, rows_after}
 use Rattle.nk_switches.specs.Classed.{class_of}
-use Rattle.nk_compile.specs.declared.compact.Apart.{Apart}
-use Rattle.nk_compile.specs.declared.compact.Compact.{Compact}
-use Rattle.nk_compile.specs.Compacted.{IsOfFirstSetAlone, IsLeastAlone, IsFirstSet, IsApartIn, classes_apart, AreAparts, IsCompactOf, IsCompacted}
-use Rattle.nk_compile.specs.MergedTable.{GivesBehind, IsOfClass, IsMetMember, IsFirstPlace, IsActingMember, ActsFor, IsNumberedList, IsClassTree, HasClassRowsAt, IsClassTable, IsMergedTable}
+use Rattle.nk_compile.specs.PrintedTable.{IsNumberedList}
 use Rattle.nk_compile.specs.Refusals.{found_from}
 use Rattle.nk_compile.specs.WholeTable.{TagTree, rows_of_trees}
-use Rattle.nk_compile.proofs.CompactReasons.{one_classes}
 use Rattle.nk_compile.proofs.OneTagList.{three, one_tag_list}
 use Rattle.nk_compile.proofs.Orders.{one_least, same_sorted}
 use Rattle.nk_compile.proofs.ReasonByName.{alike}
+use Rattle.nk_compact.specs.declared.compact.Apart.{Apart}
+use Rattle.nk_compact.specs.declared.compact.Compact.{Compact}
+use Rattle.nk_compact.specs.Compacted.{IsOfFirstSetAlone, IsLeastAlone, IsFirstSet, IsApartIn, classes_apart, AreAparts, IsCompactOf, IsCompacted}
+use Rattle.nk_compact.specs.MergedTable.{GivesBehind, IsOfClass, IsMetMember, IsFirstPlace, IsActingMember, ActsFor, IsClassTree, HasClassRowsAt, IsClassTable, IsMergedTable}
+use Rattle.nk_compact.proofs.CompactReasons.{one_classes}
 use Rattle.nk_uniqueness.specs.Packets.{HavePackets}
 use Rattle.nk_uniqueness.proofs.OneTable.{number_is, same_by_key}
 use Rattle.nk_uniqueness.proofs.Trees.{Tree, bucket_once, one_tree_at}

@@ -1,4 +1,4 @@
-use Rattle.nk_compile.proofs.CompactReasons.{never_refused_compact, one_compact_refusal}
+use Rattle.nk_compact.proofs.CompactReasons.{never_refused_compact, one_compact_refusal}
 use Rattle.nk_uniqueness.proofs.OneCompact.{one_compacted}
 use Rattle.nk_uniqueness.proofs.laws.compacting_has_one_answer.Goals as goal
 

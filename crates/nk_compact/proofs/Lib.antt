@@ -1,0 +1,10 @@
+pub mod ActingTags
+pub mod AlikeTags
+pub mod ClassRows
+pub mod CompactAnswers
+pub mod CompactReasons
+pub mod Compacting
+pub mod Merging
+pub mod MetSets
+pub mod MetUnder
+pub mod TellingApart

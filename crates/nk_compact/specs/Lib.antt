@@ -1,0 +1,6 @@
+pub mod ClassStops
+pub mod Compacted
+pub mod Mergeable
+pub mod MergedTable
+pub mod MetPackets
+pub mod Told

@@ -1,0 +1,125 @@
+//! What tells classes of tag sets apart.
+ghost use Rattle.std.specs.Prelude.{◌≡◌, ℕ, ◌<◌, ◌++◌, List as Items, All, IfOk, OnOk, length, slice_index};
+ghost use Rattle.nk_store.specs.Held.{Held, Grows};
+ghost use Rattle.nk_determ.specs.Sets.{SetsGrow};
+ghost use Rattle.nk_merge.specs.Alike.{AreAlike};
+ghost use Rattle.nk_merge.specs.Twice.{IsTwice};
+ghost use Rattle.nk_compact.specs.Told.{number_on_side, first_member_set, IsToldApart, AreToldApart, IsBase, pairs_behind, first_pairs};
+
+use crate::compact::Apart;
+use nk_determ::{SetId, Sets};
+use nk_field::List;
+use nk_merge::{Twice, apart};
+use nk_reach::{Found, Side};
+use nk_store::{Id, Store};
+use std::alloc::AllocError;
+
+/// What tells any two of the classes apart, in the order of the first and then of the second. `firsts` are the places of their
+/// first members among the tags, which are alike to no other. The only error is that memory ran out.
+pub fn aparts(
+    st: &mut Store,
+    ss: &mut Sets,
+    states: &[Id],
+    twice: &mut Twice,
+    tags: &[SetId],
+    firsts: &[usize],
+) -> Result<List<Apart>, AllocError>
+    requires twice { IsTwice st.old states.now twice.old }
+    requires base { IsBase st.old ss.old st.old ss.old states.now tags.now firsts.now }
+    requires different { (i j : ℕ) → i < j → j < length firsts.now
+        → AreAlike st.old states.now (first_member_set ss.old tags.now firsts.now i) (first_member_set ss.old tags.now firsts.now j) → ⊥ }
+    ensures grows { Grows st.old st.new }
+    ensures sets { SetsGrow ss.old ss.new }
+    ensures told { IfOk result (λ r. AreToldApart st.old states.now ss.old tags.now firsts.now (first_pairs (length firsts.now) (length firsts.now)) r) }
+{
+    let mut all = List::new(st.alloc());
+    for i in 0..firsts.len() {
+        apart_row(st, ss, states, twice, tags, firsts, i, &mut all)?;
+    }
+    Ok(all)
+}
+
+/// Appends what tells a class from each behind it.
+fn apart_row(
+    st: &mut Store,
+    ss: &mut Sets,
+    states: &[Id],
+    twice: &mut Twice,
+    tags: &[SetId],
+    firsts: &[usize],
+    i: usize,
+    all: &mut List<Apart>,
+) -> Result<(), AllocError>
+    requires twice { IsTwice st.old states.now twice.old }
+    requires base { IsBase st.old ss.old st.old ss.old states.now tags.now firsts.now }
+    requires within { i < length firsts.now }
+    requires different { (j : ℕ) → i < j → j < length firsts.now
+        → AreAlike st.old states.now (first_member_set ss.old tags.now firsts.now i) (first_member_set ss.old tags.now firsts.now j) → ⊥ }
+    ensures grows { Grows st.old st.new }
+    ensures sets { SetsGrow ss.old ss.new }
+    ensures twice { OnOk result (IsTwice st.new states.now twice.new) }
+    ensures told { OnOk result ((base : Held) (first : Items (Items ℕ)) (pairs : Items (ℕ × ℕ)) → IsBase base first st.old ss.old states.now tags.now firsts.now
+        → AreToldApart base states.now first tags.now firsts.now pairs all.old
+        → AreToldApart base states.now first tags.now firsts.now (pairs ++ pairs_behind i (length firsts.now)) all.new) }
+{
+    for j in i + 1..firsts.len() {
+        let a = apart_of(st, ss, states, twice, tags, firsts, i, j)?;
+        all.push(a)?;
+    }
+    Ok(())
+}
+
+/// What tells the classes at two places apart.
+fn apart_of(
+    st: &mut Store,
+    ss: &mut Sets,
+    states: &[Id],
+    twice: &mut Twice,
+    tags: &[SetId],
+    firsts: &[usize],
+    i: usize,
+    j: usize,
+) -> Result<Apart, AllocError>
+    requires twice { IsTwice st.old states.now twice.old }
+    requires base { IsBase st.old ss.old st.old ss.old states.now tags.now firsts.now }
+    requires first { i < length firsts.now }
+    requires second { j < length firsts.now }
+    requires different { AreAlike st.old states.now (first_member_set ss.old tags.now firsts.now i) (first_member_set ss.old tags.now firsts.now j) → ⊥ }
+    ensures grows { Grows st.old st.new }
+    ensures sets { SetsGrow ss.old ss.new }
+    ensures twice { OnOk result (IsTwice st.new states.now twice.new) }
+    ensures told { IfOk result (λ a. IsToldApart st.old states.now ss.old tags.now firsts.now i j a) }
+{
+    let s = set_of_first(tags, firsts, i);
+    let t = set_of_first(tags, firsts, j);
+    match apart(st, ss, states, twice, s, t)? {
+        Some(found) => Ok(told(found, i as u64 + 1, j as u64 + 1)),
+        None => unreachable!(),
+    }
+}
+
+/// The set of a class's first member.
+fn set_of_first(tags: &[SetId], firsts: &[usize], c: usize) -> SetId
+    requires class { c < length firsts.now }
+    requires within { All (λ i. i < length tags.now) firsts.now }
+    ensures { result ≡ slice_index tags.now (slice_index firsts.now c) }
+{
+    tags[firsts[c]]
+}
+
+/// The history that tells two classes apart, with their numbers.
+fn told(found: Found, first: u64, second: u64) -> Apart
+    ensures { result ≡ record { first = first; second = second; alone = number_on_side found.side first second; start = found.start; history = found.history } }
+{
+    let alone = match found.side {
+        Side::Left => first,
+        Side::Right => second,
+    };
+    Apart {
+        first,
+        second,
+        alone,
+        start: found.start,
+        history: found.history,
+    }
+}
