@@ -4,8 +4,8 @@ use Rattle.nk_field.specs.Act.{lay, act_then}
 use Rattle.nk_field.proofs.Thens.{order, lay-less, lay-same, lay-more}
 use Rattle.nk_store.specs.declared.node.Out.{Out}
 use Rattle.nk_store.specs.Leaves.{Every, Suits, IsActFrom}
-use Rattle.nk_algebra.specs.Seqs.{prefixed, out_after}
-use Rattle.nk_algebra.proofs.Sorted.{merged_every}
+use Rattle.nk_apply.specs.Seqs.{prefixed, out_after}
+use Rattle.nk_apply.proofs.Sorted.{merged_every}
 
 -- assignments laid under others are in range
 lay_acts : (maxes : List ℕ) (s : ℕ × ℕ) (ss : List (ℕ × ℕ)) (rest : List (ℕ × ℕ) → List (ℕ × ℕ)) →

@@ -5,10 +5,10 @@ use Rattle.nk_store.specs.declared.node.Out.{Out}
 use Rattle.nk_store.specs.Nodes.{child_at, Rises, Each}
 use Rattle.nk_store.specs.Held.{Held, IsId, look, Grows, HasLeaves, IsChild, AreParts}
 use Rattle.nk_store.proofs.Looks.{each_child, each_weaker}
-use Rattle.nk_algebra.specs.Subs.{sub, IsPart, IsSplit}
+use Rattle.nk_apply.specs.Subs.{sub, IsPart, IsSplit}
 use Rattle.nk_algebra.specs.Choices.{AreChoices}
-use Rattle.nk_algebra.proofs.Parts.{child_past}
-use Rattle.nk_algebra.proofs.Built.{Ends, ends_push, ends_rise, child_old, child_new, each_push, some_ends, part_old}
+use Rattle.nk_apply.proofs.Parts.{child_past}
+use Rattle.nk_apply.proofs.Built.{Ends, ends_push, ends_rise, child_old, child_new, each_push, some_ends, part_old}
 
 -- parts stay parts in a store that grew
 pub choices_grown : (old new : Held) (f : ℕ) (ps : List (ℕ × ℕ)) → Grows old new → AreChoices old f ps →

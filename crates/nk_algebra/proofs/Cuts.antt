@@ -11,10 +11,10 @@ use Rattle.nk_store.proofs.Looks.{each_child, each_weaker}
 use Rattle.nk_store.proofs.NodeEq.{pair_decides}
 use Rattle.nk_store.proofs.Joins.{joined_child, joined_rises, joined_each}
 use Rattle.nk_store.proofs.Stores.{grows_same}
-use Rattle.nk_algebra.specs.Subs.{sub, found_in, IsPart, IsSplit}
+use Rattle.nk_apply.specs.Subs.{sub, found_in, IsPart, IsSplit}
 use Rattle.nk_algebra.specs.Choices.{AreChoices, first_of, subs, IsCut, IsChosen, parts_eq, AreChosen}
-use Rattle.nk_algebra.proofs.Parts.{Serves, found_serves, child_past, split_at}
-use Rattle.nk_algebra.proofs.Built.{Built, built_push, each_push, sub_grows}
+use Rattle.nk_apply.proofs.Parts.{Serves, found_serves, child_past, split_at}
+use Rattle.nk_apply.proofs.Built.{Built, built_push, each_push, sub_grows}
 use Rattle.nk_algebra.proofs.Chosen.{choices_some, choices_grown}
 
 -- the first field is not after the choice's own

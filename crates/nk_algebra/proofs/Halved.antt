@@ -6,12 +6,12 @@ use Rattle.nk_store.specs.Nodes.{child_at, Rises}
 use Rattle.nk_store.specs.Held.{Held, IsId, look, Grows, HasLeaves}
 use Rattle.nk_store.proofs.Looks.{each_child}
 use Rattle.nk_store.proofs.Same.{child-first, child-rest}
-use Rattle.nk_algebra.specs.Leaves.{merged, guarded}
-use Rattle.nk_algebra.specs.Seqs.{in_span, no_out}
+use Rattle.nk_apply.specs.Leaves.{merged, guarded}
+use Rattle.nk_apply.specs.Seqs.{in_span, no_out}
 use Rattle.nk_algebra.specs.Choices.{AreChoices}
 use Rattle.nk_algebra.specs.Halves.{start, chosen}
 use Rattle.nk_algebra.proofs.Chosen.{choices_some}
-use Rattle.nk_algebra.proofs.Weaves.{merged-nil}
+use Rattle.nk_apply.proofs.Weaves.{merged-nil}
 
 -- parts begin at the first value or later
 pub start_above : (high low : ℕ) (ps : List (ℕ × ℕ)) (k : ℕ) → Rises high low ps → low ≤ start low ps k

@@ -5,15 +5,15 @@ use Rattle.nk_field.specs.Act.{applied}
 use Rattle.nk_store.specs.declared.node.Out.{Out}
 use Rattle.nk_store.specs.Leaves.{Every, Suits, AreOrdered, IsActFrom}
 use Rattle.nk_store.specs.Held.{Held, IsId, node_of, look, top, Grows, HasLeaves, AreTidy}
-use Rattle.nk_algebra.specs.Leaves.{merged}
-use Rattle.nk_algebra.specs.Seqs.{prefixed, out_after, outs_of, no_out, out_made, outs_made}
-use Rattle.nk_algebra.specs.Unions.{in_turn, over_places}
+use Rattle.nk_apply.specs.Leaves.{merged}
+use Rattle.nk_apply.specs.Seqs.{prefixed, out_after, outs_of, no_out, out_made, outs_made}
+use Rattle.nk_apply.specs.Unions.{in_turn, over_places}
 use Rattle.nk_algebra.proofs.Acts.{prefixed_suits}
-use Rattle.nk_algebra.proofs.AtOnce.{leaf_outs}
-use Rattle.nk_algebra.proofs.Gathers.{same_order, every_unordered, has_front, has_back, has_either, prefixed_ordered}
-use Rattle.nk_algebra.proofs.Members.{Has, merged_left, merged_right, merged_has, has_contains, contains_has}
-use Rattle.nk_algebra.proofs.PartSums.{AreNodes}
-use Rattle.nk_algebra.proofs.Sorted.{merged_strict}
+use Rattle.nk_apply.proofs.AtOnce.{leaf_outs}
+use Rattle.nk_apply.proofs.Gathers.{same_order, every_unordered, has_front, has_back, has_either, prefixed_ordered}
+use Rattle.nk_apply.proofs.Members.{Has, merged_left, merged_right, merged_has, has_contains, contains_has}
+use Rattle.nk_apply.proofs.PartSums.{AreNodes}
+use Rattle.nk_apply.proofs.Sorted.{merged_strict}
 
 -- a diagram that tests no field tests none in a store that grew
 pub leaf_still : (old new : Held) (d : ℕ) → Grows old new → IsId old d → top old d ≡ 18 → top new d ≡ 18

@@ -6,11 +6,11 @@ use Rattle.nk_store.specs.declared.node.Out.{Out}
 use Rattle.nk_store.specs.Leaves.{Every}
 use Rattle.nk_store.specs.Held.{Held, IsId, look, top, Grows, HasLeaves, AreTidy}
 use Rattle.nk_algebra.specs.Apart.{assigns, last_value, ends_between, parted}
-use Rattle.nk_algebra.specs.Leaves.{merged}
-use Rattle.nk_algebra.specs.Seqs.{prefixed, seq_leaf}
-use Rattle.nk_algebra.specs.Subs.{sub, IsPart, IsSplit}
-use Rattle.nk_algebra.proofs.Members.{Has, every_from}
-use Rattle.nk_algebra.proofs.Sequences.{same_looks}
+use Rattle.nk_apply.specs.Leaves.{merged}
+use Rattle.nk_apply.specs.Seqs.{prefixed, seq_leaf}
+use Rattle.nk_apply.specs.Subs.{sub, IsPart, IsSplit}
+use Rattle.nk_apply.proofs.Members.{Has, every_from}
+use Rattle.nk_apply.proofs.Sequences.{same_looks}
 use Rattle.nk_algebra.proofs.Splits.{kept_value, has_parted, parted_whole}
 
 -- the last assignment to a field is found from the end

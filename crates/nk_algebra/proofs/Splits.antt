@@ -8,16 +8,16 @@ use Rattle.nk_store.specs.Nodes.{child_at}
 use Rattle.nk_store.specs.Leaves.{Every, Strict, Suits, AreOrdered}
 use Rattle.nk_store.specs.Held.{Held, IsId, IsNodeOf, node_of, look, top, Grows, HasLeaves}
 use Rattle.nk_algebra.specs.Apart.{assigns, passed, parted, apart, Keep}
-use Rattle.nk_algebra.specs.Leaves.{merged}
-use Rattle.nk_algebra.specs.Seqs.{out_after, prefixed, seq_leaf}
-use Rattle.nk_algebra.specs.Subs.{sub, IsPart, IsSplit}
-use Rattle.nk_algebra.proofs.Built.{part_old, ends_rise}
+use Rattle.nk_apply.specs.Leaves.{merged}
+use Rattle.nk_apply.specs.Seqs.{out_after, prefixed, seq_leaf}
+use Rattle.nk_apply.specs.Subs.{sub, IsPart, IsSplit}
+use Rattle.nk_apply.proofs.Built.{part_old, ends_rise}
 use Rattle.nk_algebra.proofs.Chosen.{Serving, serving_push}
-use Rattle.nk_algebra.proofs.Gathers.{flat_ordered}
-use Rattle.nk_algebra.proofs.Members.{Has, merged_left, merged_right, merged_has, every_from, strict_same, gathered_has, has_gathered, gathered_strict, gathered_every, seq_leaf_is, seq_leaf_has, has_seq_leaf}
-use Rattle.nk_algebra.proofs.Parts.{child_past, split_at}
-use Rattle.nk_algebra.proofs.Sequences.{same_looks}
-use Rattle.nk_algebra.proofs.Sorted.{merged_strict, prefixed_strict}
+use Rattle.nk_apply.proofs.Gathers.{flat_ordered}
+use Rattle.nk_apply.proofs.Members.{Has, merged_left, merged_right, merged_has, every_from, strict_same, gathered_has, has_gathered, gathered_strict, gathered_every, seq_leaf_is, seq_leaf_has, has_seq_leaf}
+use Rattle.nk_apply.proofs.Parts.{child_past, split_at}
+use Rattle.nk_apply.proofs.Sequences.{same_looks}
+use Rattle.nk_apply.proofs.Sorted.{merged_strict, prefixed_strict}
 
 -- an act that doesn't assign f leaves its value
 pub kept_value : (f : ℕ) (g : List (ℕ × ℕ)) (pk : List ℕ) → assigns f g ≡ false →

@@ -2,7 +2,7 @@
 use Rattle.std.specs.Prelude.{◌≡◌, ℕ, Bool, true, false, cond, eqb, leb, ◌&&◌, List, [], ◌∷◌}
 use Rattle.nk_store.specs.declared.node.Out.{Out}
 use Rattle.nk_store.specs.Leaves.{Every}
-use Rattle.nk_algebra.specs.Leaves.{gathered}
+use Rattle.nk_apply.specs.Leaves.{gathered}
 
 -- whether the act assigns f
 abbrev pub assigns : ℕ → List (ℕ × ℕ) → Bool

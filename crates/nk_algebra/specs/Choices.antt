@@ -4,7 +4,7 @@ use Rattle.std.specs.Map.{lookup}
 use Rattle.std.specs.Cmp.Lexicographic.{pointwise}
 use Rattle.nk_store.specs.Nodes.{child_at, Rises, Each}
 use Rattle.nk_store.specs.Held.{Held, IsId, IsChild, HasLeaves, look, top}
-use Rattle.nk_algebra.specs.Subs.{sub}
+use Rattle.nk_apply.specs.Subs.{sub}
 
 -- parts of a field's values, each with a diagram
 pub record AreChoices (st : Held) (f : ℕ) (parts : List (ℕ × ℕ)) : Type 0 where

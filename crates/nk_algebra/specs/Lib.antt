@@ -1,11 +1,3 @@
-pub mod Subs
-pub mod MadeOf
-pub mod Leaves
-pub mod Spans
-pub mod Seqs
-pub mod Unions
-pub mod Predicates
-pub mod PacketSets
 pub mod Choices
 pub mod Halves
 pub mod Apart

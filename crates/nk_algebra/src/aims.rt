@@ -1,10 +1,10 @@
 //! Targets, and assignments.
 ghost use Rattle.std.specs.Prelude.{◌≡◌, ◌<◌, ◌≤◌, [], ◌∷◌, map, IfOk, slice_index};
 ghost use Rattle.nk_store.specs.Held.{IsId, look, top, Grows, HasLeaves};
-ghost use Rattle.nk_algebra.specs.Leaves.{out_to, aimed};
-ghost use Rattle.nk_algebra.specs.Predicates.{Ends};
+ghost use Rattle.nk_apply.specs.Leaves.{out_to, aimed};
+ghost use Rattle.nk_apply.specs.Predicates.{Ends};
 
-use crate::maps::{LeafMap, map_leaves};
+use nk_apply::{LeafMap, map_leaves};
 use nk_field::{Act, Fid, List};
 use nk_store::{Id, Out, Store};
 use std::alloc::{AllocError, Global};

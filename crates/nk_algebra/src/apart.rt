@@ -7,14 +7,12 @@ ghost use Rattle.nk_store.specs.Held.{IsId, IsWhole, look, top, Grows, HasLeaves
 ghost use Rattle.nk_algebra.specs.Apart.{assigns, last_value, ends_between, passed, parted, apart, Keep};
 ghost use Rattle.nk_algebra.specs.Kinds.{is_of};
 ghost use Rattle.nk_algebra.specs.Choices.{AreChoices};
-ghost use Rattle.nk_algebra.specs.Seqs.{seq_leaf};
-ghost use Rattle.nk_algebra.specs.Subs.{sub};
+ghost use Rattle.nk_apply.specs.Seqs.{seq_leaf};
+ghost use Rattle.nk_apply.specs.Subs.{sub};
 
 use crate::choices::choose;
-use crate::leaves::union_later;
-use crate::maps::{LeafMap, map_leaves};
-use crate::part::{part_at, part_near, tested};
 use crate::seqs::{sequence, sequence_anew};
+use nk_apply::{LeafMap, map_leaves, part_at, part_near, tested, union_later};
 use nk_field::{Act, Fid, List, PLACES};
 use nk_store::{Id, Node, Out, Store};
 use std::alloc::{AllocError, Global};

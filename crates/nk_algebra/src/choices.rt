@@ -3,11 +3,11 @@ ghost use Rattle.std.specs.Prelude.{◌≡◌, ℕ, ◌<◌, ◌≤◌, min, tru
 ghost use Rattle.std.specs.Map.{lookup};
 ghost use Rattle.nk_store.specs.Nodes.{child_at, Each};
 ghost use Rattle.nk_store.specs.Held.{IsId, IsChild, IsWhole, look, top, Grows, HasLeaves, AreParts};
-ghost use Rattle.nk_algebra.specs.Subs.{sub};
+ghost use Rattle.nk_apply.specs.Subs.{sub};
 ghost use Rattle.nk_algebra.specs.Choices.{AreChoices, first_of, IsCut, parts_eq, AreChosen};
 
 use crate::halves::choose_all;
-use crate::part::{found_near, part_at, part_near, tested};
+use nk_apply::{found_near, part_at, part_near, tested};
 use nk_field::{Fid, List};
 use nk_store::{Id, Node, Store, join_neighbours};
 use std::alloc::AllocError;

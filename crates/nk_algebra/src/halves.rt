@@ -5,8 +5,7 @@ ghost use Rattle.nk_store.specs.Held.{look, Grows, HasLeaves};
 ghost use Rattle.nk_algebra.specs.Choices.{AreChoices};
 ghost use Rattle.nk_algebra.specs.Halves.{start, chosen};
 
-use crate::leaves::{both_later, union_later};
-use crate::spans::range;
+use nk_apply::{both_later, range, union_later};
 use nk_field::{Fid, List};
 use nk_store::{Id, Store};
 use std::alloc::AllocError;

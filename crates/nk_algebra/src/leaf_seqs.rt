@@ -1,11 +1,11 @@
 //! One leaf, then another one.
 ghost use Rattle.std.specs.Prelude.{◌≡◌, ◌<◌, ◌≤◌, ◌-◌, true, IfOk, length};
 ghost use Rattle.nk_store.specs.Held.{IsId, look, top, Grows, HasLeaves};
-ghost use Rattle.nk_algebra.specs.Seqs.{seq_leaf, outs_of, out_made, outs_made};
-ghost use Rattle.nk_algebra.specs.Unions.{in_turn, over_places};
+ghost use Rattle.nk_apply.specs.Seqs.{seq_leaf, outs_of, out_made, outs_made};
+ghost use Rattle.nk_apply.specs.Unions.{in_turn, over_places};
 
-use crate::leaves::union_later;
 use crate::seqs::{out_count, push_after};
+use nk_apply::union_later;
 use nk_field::List;
 use nk_store::{Id, Node, Out, Store};
 use std::alloc::{AllocError, Global};
@@ -39,7 +39,7 @@ pub(crate) fn seq_two_leaves(st: &mut Store, a: Id, b: Id) -> Result<Id, AllocEr
 }
 
 /// The sequence for some of the first leaf's outs: at once where they are no more than a block, else by halves.
-#[tactic(auto, using(crate::proofs::OverPlaces::outs_within, crate::proofs::LeavesAtOnce::leaf_still))]
+#[tactic(auto, using(nk_apply::proofs::OverPlaces::outs_within, crate::proofs::LeavesAtOnce::leaf_still))]
 fn seq_blocks(
     st: &mut Store,
     a: Id,

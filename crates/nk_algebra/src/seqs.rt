@@ -6,20 +6,16 @@ ghost use Rattle.nk_store.specs.Nodes.{child_at};
 ghost use Rattle.nk_store.specs.Held.{IsId, IsWhole, look, top, recalled, Grows, HasLeaves};
 ghost use Rattle.nk_store.specs.KeptAnswers.{GivesKept};
 ghost use Rattle.nk_store.specs.declared.operation.Operation.TheVariants as operations;
-ghost use Rattle.nk_algebra.specs.Subs.{sub, IsSplit};
-ghost use Rattle.nk_algebra.specs.Seqs.{out_after, prefixed, seq_leaf, outs_of, no_out, out_made};
-ghost use Rattle.nk_algebra.specs.Unions.{over_places};
+ghost use Rattle.nk_apply.specs.Subs.{sub, IsSplit};
+ghost use Rattle.nk_apply.specs.Seqs.{out_after, prefixed, seq_leaf, outs_of, no_out, out_made};
+ghost use Rattle.nk_apply.specs.Unions.{over_places};
 ghost use Rattle.nk_algebra.specs.Choices.{AreChoices};
-ghost use Rattle.nk_algebra.specs.Predicates.{IsPredicate, Ends};
+ghost use Rattle.nk_apply.specs.Predicates.{IsPredicate, Ends};
 
 use crate::apart::seq_anew;
 use crate::choices::choose;
-use crate::constants::empty;
 use crate::leaf_seqs::{is_leaf, seq_two_leaves};
-use crate::leaves::union_later;
-use crate::maps::{LeafMap, map_leaves};
-use crate::part::{part_near, tested};
-use crate::restricts::restrict;
+use nk_apply::{LeafMap, empty, map_leaves, part_near, shift, tested, union_later};
 use nk_field::{Act, Fid, List};
 use nk_store::{Id, Node, Operation, Out, Store};
 use std::alloc::{AllocError, Global};
@@ -60,24 +56,6 @@ pub(crate) fn push_after(all: &mut List<Out>, act: &Act, outs: &[Out]) -> Result
         })?;
     }
     Ok(())
-}
-
-/// The diagram's leaf at the packet that an act makes.
-pub fn shift(st: &mut Store, d: Id, act: &Act) -> Result<Id, AllocError>
-    requires { IsId st.old d }
-    ensures grows { Grows st.old st.new }
-    ensures ok { IfOk result (λ r. HasLeaves st.new r (λ pk. look st.old d (applied act.now pk))) }
-{
-    let sets = act.as_slice();
-    let mut to = d;
-    let mut i = sets.len();
-    while i > 0 {
-        i -= 1;
-        let (f, n) = sets[i];
-        let _place = f.place();
-        to = restrict(st, to, f, n)?;
-    }
-    Ok(to)
 }
 
 /// The diagram's leaf at the packet that an act makes, each out after the act.
@@ -243,7 +221,7 @@ fn seq_outs(st: &mut Store, a: Id, b: Id) -> Result<Id, AllocError>
 }
 
 /// The sequence for some of a leaf's outs, by halves.
-#[tactic(auto, using(crate::proofs::OverPlaces::outs_within))]
+#[tactic(auto, using(nk_apply::proofs::OverPlaces::outs_within))]
 fn seq_some(st: &mut Store, a: Id, b: Id, from: usize, to: usize) -> Result<Id, AllocError>
     requires left { IsId st.old a }
     requires right { IsId st.old b }

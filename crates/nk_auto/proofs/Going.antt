@@ -5,10 +5,10 @@ use Rattle.nk_policy.specs.Policy.{Policy, Policies, test, range, assign, seq_of
 use Rattle.nk_policy.specs.Progress.{RecordsAt}
 use Rattle.nk_store.specs.Held.{Held, IsId, IsWhole, IsPacket, look, Grows, HasLeaves, AreTidy}
 use Rattle.nk_store.specs.declared.node.Out.{Out}
-use Rattle.nk_algebra.specs.Leaves.{merged, guarded}
-use Rattle.nk_algebra.specs.Predicates.{IsPass, IsPredicate}
-use Rattle.nk_algebra.specs.Seqs.{seq_leaf, no_out}
-use Rattle.nk_algebra.proofs.Members.{Has, contains_has, has_contains}
+use Rattle.nk_apply.specs.Leaves.{merged, guarded}
+use Rattle.nk_apply.specs.Predicates.{IsPass, IsPredicate}
+use Rattle.nk_apply.specs.Seqs.{seq_leaf, no_out}
+use Rattle.nk_apply.proofs.Members.{Has, contains_has, has_contains}
 use Rattle.nk_auto.specs.Plain.{Sends}
 use Rattle.nk_auto.specs.Continued.{IsFit, IsSilent, GoesOn, IsContinued}
 use Rattle.nk_auto.proofs.Sending.{out_of, sends_on, sends_back, seq_sends, sends_seq, union_sends, sends_left, sends_right}

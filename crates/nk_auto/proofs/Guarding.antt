@@ -7,10 +7,10 @@ use Rattle.nk_policy.specs.Meaning.{Gives}
 use Rattle.nk_policy.specs.After.{has_dup, some_has_dup, after, after_all}
 use Rattle.nk_policy.proofs.Tests.{false_true, both_false}
 use Rattle.nk_store.specs.Held.{Held, IsPacket, look, Grows, HasLeaves}
-use Rattle.nk_algebra.specs.Leaves.{guarded}
-use Rattle.nk_algebra.specs.Predicates.{IsPass, IsPredicate}
-use Rattle.nk_algebra.specs.Seqs.{no_out}
-use Rattle.nk_algebra.proofs.Members.{Has, contains_has, has_contains}
+use Rattle.nk_apply.specs.Leaves.{guarded}
+use Rattle.nk_apply.specs.Predicates.{IsPass, IsPredicate}
+use Rattle.nk_apply.specs.Seqs.{no_out}
+use Rattle.nk_apply.proofs.Members.{Has, contains_has, has_contains}
 use Rattle.nk_auto.specs.Complements.{NegatesPredicates, AllNegatePredicates}
 use Rattle.nk_auto.specs.Plain.{Sends}
 use Rattle.nk_auto.specs.Continued.{IsFit, IsSilent, GoesOn, IsContinued, AreWritten}

@@ -19,9 +19,9 @@ use Rattle.nk_policy.proofs.Splitting.{holds_dup}
 use Rattle.nk_policy.proofs.Uses.{assigns_from_uses}
 use Rattle.nk_store.specs.Held.{Held, IsId, look, Grows, HasLeaves}
 use Rattle.nk_store.specs.Held.{IsOver as IsStoreOver}
-use Rattle.nk_algebra.specs.Leaves.{merged, aimed, out_to}
-use Rattle.nk_algebra.specs.Unions.{AreIds}
-use Rattle.nk_algebra.proofs.Members.{Has, contains_has, has_contains, gathered_has, has_gathered}
+use Rattle.nk_apply.specs.Leaves.{merged, aimed, out_to}
+use Rattle.nk_apply.specs.Unions.{AreIds}
+use Rattle.nk_apply.proofs.Members.{Has, contains_has, has_contains, gathered_has, has_gathered}
 use Rattle.nk_deriv.specs.declared.values.Part.{Part}
 use Rattle.nk_deriv.specs.declared.values.Parts.{Parts}
 use Rattle.nk_deriv.specs.Part.{IsDupFree, AllDupFree, IsBuiltOf, IsLegOf, IsWithin, IsPartOfDerivative}

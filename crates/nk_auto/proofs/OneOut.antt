@@ -3,7 +3,7 @@ use Rattle.std.proofs.Common.{◌≡◌, ℕ, inl, inr, Bool, true, false, cond,
 use Rattle.std.specs.Prelude.{slice_index}
 use Rattle.nk_store.specs.declared.node.Out.{Out}
 use Rattle.nk_store.specs.Nodes.{InRange}
-use Rattle.nk_algebra.proofs.Members.{Has}
+use Rattle.nk_apply.proofs.Members.{Has}
 
 -- the member of a list that has one at most
 pub one_of : (b : Bool) (x o : Out) → Has (cond b (x ∷ []) []) o → (b ≡ true) × (x ≡ o)

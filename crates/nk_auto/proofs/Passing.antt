@@ -4,12 +4,12 @@ use Rattle.nk_field.specs.Act.{applied, act_then}
 use Rattle.nk_store.specs.declared.node.Out.{Out}
 use Rattle.nk_store.specs.Leaves.{Every, Strict}
 use Rattle.nk_store.specs.Held.{Held, IsId, IsWhole, look, Grows, HasLeaves, AreTidy}
-use Rattle.nk_algebra.specs.Predicates.{Ends}
-use Rattle.nk_algebra.specs.Seqs.{out_after, prefixed, seq_leaf, no_out}
-use Rattle.nk_algebra.proofs.Members.{Has, every_has, strict_same, gathered_strict, seq_leaf_is, seq_leaf_has, has_seq_leaf}
-use Rattle.nk_algebra.proofs.Predicates.{whole_applied}
-use Rattle.nk_algebra.proofs.Sequences.{same_looks}
-use Rattle.nk_algebra.proofs.Sorted.{prefixed_strict}
+use Rattle.nk_apply.specs.Predicates.{Ends}
+use Rattle.nk_apply.specs.Seqs.{out_after, prefixed, seq_leaf, no_out}
+use Rattle.nk_apply.proofs.Members.{Has, every_has, strict_same, gathered_strict, seq_leaf_is, seq_leaf_has, has_seq_leaf}
+use Rattle.nk_apply.proofs.Predicates.{whole_applied}
+use Rattle.nk_apply.proofs.Sequences.{same_looks}
+use Rattle.nk_apply.proofs.Sorted.{prefixed_strict}
 use Rattle.nk_auto.proofs.Sending.{out_of}
 
 -- no assignments after an act leave it

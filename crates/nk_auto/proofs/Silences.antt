@@ -12,11 +12,11 @@ use Rattle.nk_store.specs.declared.node.Out.{Out}
 use Rattle.nk_store.specs.Leaves.{Every}
 use Rattle.nk_store.specs.Nodes.{InRange}
 use Rattle.nk_store.specs.Held.{Held, IsId, IsWhole, IsPacket, look, Grows, HasLeaves, AreTidy}
-use Rattle.nk_algebra.specs.Leaves.{absent}
-use Rattle.nk_algebra.specs.Predicates.{Ends}
-use Rattle.nk_algebra.specs.Seqs.{seq_leaf, no_out, in_span}
-use Rattle.nk_algebra.proofs.Members.{Has, contains_has, has_contains, every_has}
-use Rattle.nk_algebra.proofs.Predicates.{ends_by, ends_seq}
+use Rattle.nk_apply.specs.Leaves.{absent}
+use Rattle.nk_apply.specs.Predicates.{Ends}
+use Rattle.nk_apply.specs.Seqs.{seq_leaf, no_out, in_span}
+use Rattle.nk_apply.proofs.Members.{Has, contains_has, has_contains, every_has}
+use Rattle.nk_apply.proofs.Predicates.{ends_by, ends_seq}
 use Rattle.nk_star.specs.Leading.{Makes, Leads}
 use Rattle.nk_auto.specs.Values.{one_out}
 use Rattle.nk_auto.specs.Plain.{Sends}

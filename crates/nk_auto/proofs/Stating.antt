@@ -16,8 +16,8 @@ use Rattle.nk_policy.proofs.Tests.{false_where}
 use Rattle.nk_store.specs.Nodes.{InRange}
 use Rattle.nk_store.specs.Held.{Held, IsWhole, IsPacket, HasLeaves}
 use Rattle.nk_store.proofs.Same.{set_in_range}
-use Rattle.nk_algebra.specs.Seqs.{no_out}
-use Rattle.nk_algebra.proofs.Members.{Has, contains_has}
+use Rattle.nk_apply.specs.Seqs.{no_out}
+use Rattle.nk_apply.proofs.Members.{Has, contains_has}
 use Rattle.nk_auto.specs.Automaton.{IsState, IsAutomaton}
 use Rattle.nk_auto.specs.Complements.{NegatesPredicates, AllNegatePredicates}
 use Rattle.nk_auto.specs.Continued.{IsFit, GoesOn, IsContinued, AreWritten}

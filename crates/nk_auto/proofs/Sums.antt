@@ -7,8 +7,8 @@ use Rattle.nk_policy.specs.Progress.{RecordsAt, SomeRecordsAt}
 use Rattle.nk_store.specs.declared.node.Out.{Out}
 use Rattle.nk_store.specs.Leaves.{Every}
 use Rattle.nk_store.specs.Held.{Held, IsId, IsWhole, IsPacket, look, Grows, HasLeaves}
-use Rattle.nk_algebra.specs.Unions.{AreIds, unions}
-use Rattle.nk_algebra.proofs.Members.{Has, contains_has, has_contains, every_has, every_from}
+use Rattle.nk_apply.specs.Unions.{AreIds, unions}
+use Rattle.nk_apply.proofs.Members.{Has, contains_has, has_contains, every_has, every_from}
 use Rattle.nk_auto.specs.Plain.{Sends}
 use Rattle.nk_auto.specs.Continued.{IsFit, AreFit, IsSilent, GoesOn, IsContinued}
 use Rattle.nk_auto.proofs.Sending.{out_of, sends_on, sends_back, unions_has, has_unions}

@@ -13,10 +13,10 @@ use Rattle.nk_store.specs.declared.node.Out.{Out}
 use Rattle.nk_store.specs.Nodes.{child_at, InRange}
 use Rattle.nk_store.specs.Held.{Held, IsWhole, look, Grows, HasLeaves, IsChild}
 use Rattle.nk_store.proofs.Stores.{grows_same}
-use Rattle.nk_algebra.specs.Predicates.{IsPass, IsPredicate}
-use Rattle.nk_algebra.specs.Seqs.{no_out}
-use Rattle.nk_algebra.specs.Unions.{HaveParts}
-use Rattle.nk_algebra.proofs.Built.{Built, built_push, built_parts, built_leaf}
+use Rattle.nk_apply.specs.Predicates.{IsPass, IsPredicate}
+use Rattle.nk_apply.specs.Seqs.{no_out}
+use Rattle.nk_apply.specs.Unions.{HaveParts}
+use Rattle.nk_apply.proofs.Built.{Built, built_push, built_parts, built_leaf}
 use Rattle.nk_auto.specs.Plain.{Sends}
 use Rattle.nk_auto.specs.Continued.{IsSilent}
 use Rattle.nk_auto.specs.Values.{is_between, KeepsWhere, HaveOneMore, value_leaf, IsConstant, gap}

@@ -3,9 +3,9 @@ use Rattle.std.proofs.Common.{◌≡◌, ℕ, inl, inr, ⊎_elim, List, [], leng
 use Rattle.nk_policy.specs.Policy.{Policy, Policies, sum_of, seq_of, star_of, part, dups_of}
 use Rattle.nk_store.specs.Held.{Held, IsId, look, Grows, HasLeaves, AreTidy}
 use Rattle.nk_store.proofs.Stores.{grows_on}
-use Rattle.nk_algebra.specs.Leaves.{merged}
-use Rattle.nk_algebra.specs.Seqs.{seq_leaf}
-use Rattle.nk_algebra.specs.Unions.{unions}
+use Rattle.nk_apply.specs.Leaves.{merged}
+use Rattle.nk_apply.specs.Seqs.{seq_leaf}
+use Rattle.nk_apply.specs.Unions.{unions}
 use Rattle.nk_auto.specs.Continued.{IsFit, IsSilent, IsContinued}
 use Rattle.nk_auto.specs.TwoWays.{AreWays}
 use Rattle.nk_auto.proofs.Grown.{leaves_grow}

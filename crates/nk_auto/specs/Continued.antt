@@ -7,7 +7,7 @@ use Rattle.nk_policy.specs.Progress.{RecordsAt}
 use Rattle.nk_policy.specs.After.{has_dup, after}
 use Rattle.nk_policy.specs.Ranges.{AllAssignOnly}
 use Rattle.nk_store.specs.Held.{Held, IsId, IsPacket, look}
-use Rattle.nk_algebra.specs.Predicates.{Ends}
+use Rattle.nk_apply.specs.Predicates.{Ends}
 use Rattle.nk_auto.specs.Complements.{NegatesPredicates, AllNegatePredicates}
 use Rattle.nk_auto.specs.Plain.{AssignsWithin, Sends}
 

@@ -3,7 +3,7 @@ ghost use Rattle.std.specs.Prelude.{◌≡◌, ℕ, ◌++◌, List as Items, IfO
 ghost use Rattle.nk_policy.specs.Policy.{Policy};
 ghost use Rattle.nk_policy.specs.Tree.{tree_of};
 ghost use Rattle.nk_store.specs.Held.{Grows};
-ghost use Rattle.nk_algebra.specs.Unions.{AreIds};
+ghost use Rattle.nk_apply.specs.Unions.{AreIds};
 ghost use Rattle.nk_auto.specs.Automaton.{IsAutomaton};
 ghost use Rattle.nk_auto.specs.OfParts.{IsAimed, IsOfPart, AreOfParts, ArePolicyParts, IsDrawable};
 

@@ -3,7 +3,7 @@ ghost use Rattle.std.specs.Prelude.{ℕ, IfOk, IfSome};
 ghost use Rattle.nk_policy.specs.Policy.{Policy, Policies, seq_of, part};
 ghost use Rattle.nk_policy.specs.Tree.{tree_of};
 ghost use Rattle.nk_store.specs.Held.{IsId, Grows};
-ghost use Rattle.nk_algebra.specs.Predicates.{IsPredicate};
+ghost use Rattle.nk_apply.specs.Predicates.{IsPredicate};
 ghost use Rattle.nk_auto.specs.Continued.{IsSilent, IsContinued};
 ghost use Rattle.nk_auto.specs.Guarded.{NeverRecords, IsGuarded};
 

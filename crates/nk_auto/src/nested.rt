@@ -2,7 +2,7 @@
 ghost use Rattle.std.specs.Prelude.{ℕ, IfOk};
 ghost use Rattle.nk_policy.specs.Policy.{Policy, Policies, seq_of, star_of, part};
 ghost use Rattle.nk_store.specs.Held.{IsId, look, Grows};
-ghost use Rattle.nk_algebra.specs.Predicates.{Ends};
+ghost use Rattle.nk_apply.specs.Predicates.{Ends};
 ghost use Rattle.nk_auto.specs.Continued.{IsSilent, IsContinued};
 ghost use Rattle.nk_auto.specs.TwoWays.{AreWays};
 

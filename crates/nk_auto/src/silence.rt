@@ -3,8 +3,8 @@ ghost use Rattle.std.specs.Prelude.{◌≡◌, ℕ, true, IfOk};
 ghost use Rattle.nk_policy.specs.Policy.{test, range, assign, sum_of, seq_of, not_of, star_of, dup, link, is_predicate};
 ghost use Rattle.nk_policy.specs.Tree.{tree_of, trees_of};
 ghost use Rattle.nk_store.specs.Held.{IsId, look, Grows, HasLeaves};
-ghost use Rattle.nk_algebra.specs.Predicates.{Ends, IsPredicate};
-ghost use Rattle.nk_algebra.specs.Seqs.{seq_leaf};
+ghost use Rattle.nk_apply.specs.Predicates.{Ends, IsPredicate};
+ghost use Rattle.nk_apply.specs.Seqs.{seq_leaf};
 ghost use Rattle.nk_auto.specs.Continued.{IsSilent};
 
 use crate::one_field::{range_where, set_where, test_where};

@@ -3,9 +3,9 @@ ghost use Rattle.std.specs.Prelude.{◌≡◌, ◌<◌, ◌++◌, [], ◌∷◌,
 ghost use Rattle.nk_policy.specs.Policy.{sum_of};
 ghost use Rattle.nk_policy.specs.Tree.{tree_of, trees_of};
 ghost use Rattle.nk_store.specs.Held.{Grows, HasLeaves};
-ghost use Rattle.nk_algebra.specs.Predicates.{IsPredicate};
-ghost use Rattle.nk_algebra.specs.Seqs.{no_out};
-ghost use Rattle.nk_algebra.specs.Unions.{HaveParts};
+ghost use Rattle.nk_apply.specs.Predicates.{IsPredicate};
+ghost use Rattle.nk_apply.specs.Seqs.{no_out};
+ghost use Rattle.nk_apply.specs.Unions.{HaveParts};
 ghost use Rattle.nk_auto.specs.Continued.{IsSilent};
 ghost use Rattle.nk_auto.specs.Values.{KeepsWhere, HaveOneMore, value_leaf, IsConstant, gap};
 

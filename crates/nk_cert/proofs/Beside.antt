@@ -6,7 +6,7 @@ use Rattle.nk_field.specs.Packet.{FieldTable}
 use Rattle.nk_policy.specs.Policy.{Policy, dups_of}
 use Rattle.nk_store.specs.Held.{Held, IsId, IsOver, Grows, AreTidy, HasLeaves, look}
 use Rattle.nk_store.proofs.Stores.{grows_on}
-use Rattle.nk_algebra.specs.Leaves.{merged}
+use Rattle.nk_apply.specs.Leaves.{merged}
 use Rattle.nk_auto.specs.Automaton.{IsState, IsAutomaton}
 use Rattle.nk_auto.proofs.Sending.{sends_on, sends_back, union_sends, sends_left, sends_right}
 use Rattle.nk_runs.proofs.Stands.{stands}

@@ -16,7 +16,7 @@ use Rattle.nk_policy.proofs.Tests.{false_true, or_cases}
 use Rattle.nk_store.specs.declared.node.Out.{Out}
 use Rattle.nk_store.specs.Held.{Held, IsPacket, Grows, AreTidy}
 use Rattle.nk_store.proofs.InRange.{packet_in_range, packet_of_fields, over_grown}
-use Rattle.nk_algebra.specs.Unions.{AreIds}
+use Rattle.nk_apply.specs.Unions.{AreIds}
 use Rattle.nk_determ.specs.Exact.{Sends}
 use Rattle.nk_determ.specs.States.{StateLeads}
 use Rattle.nk_auto.proofs.Stating.{label_within}

@@ -4,7 +4,7 @@ use Rattle.std.proofs.lemmas.Bool.Decides.{eqb_tells}
 use Rattle.nk_store.specs.declared.node.Out.{Out}
 use Rattle.nk_store.specs.Held.{Held, Grows}
 use Rattle.nk_sets.specs.PacketSets.{is_in}
-use Rattle.nk_algebra.specs.Unions.{AreIds}
+use Rattle.nk_apply.specs.Unions.{AreIds}
 use Rattle.nk_determ.specs.Sets.{SetsGrow}
 use Rattle.nk_reach.specs.Pairs.{Node, Under, Within, AreStates, HavePlaces, IsPair, ArePairs, IsStep}
 use Rattle.nk_reach.specs.Goals.{PairBad, PairNone, MeetsBad, MeetsNone}

@@ -10,8 +10,8 @@ use Rattle.nk_policy.proofs.Tests.{both_true}
 use Rattle.nk_store.specs.declared.node.Out.{Out}
 use Rattle.nk_store.specs.Held.{Held, IsWhole, IsPacket, Grows, HasLeaves, look}
 use Rattle.nk_store.proofs.Stores.{grows_on}
-use Rattle.nk_algebra.specs.Leaves.{absent}
-use Rattle.nk_algebra.specs.Predicates.{IsPredicate}
+use Rattle.nk_apply.specs.Leaves.{absent}
+use Rattle.nk_apply.specs.Predicates.{IsPredicate}
 use Rattle.nk_sets.specs.PacketSets.{has_out, is_in}
 use Rattle.nk_sets.proofs.SetLemmas.{absent_out}
 use Rattle.nk_auto.specs.Complements.{NegatesPredicates, AllNegatePredicates}

@@ -5,7 +5,7 @@ use Rattle.nk_field.specs.Packet.{FieldTable}
 use Rattle.nk_policy.specs.Policy.{Policy, dups_of}
 use Rattle.nk_store.specs.declared.node.Out.{Out}
 use Rattle.nk_store.specs.Held.{Held, IsId, IsPacket, Grows, AreTidy}
-use Rattle.nk_algebra.specs.Unions.{AreIds}
+use Rattle.nk_apply.specs.Unions.{AreIds}
 use Rattle.nk_auto.proofs.Sending.{sends_on, sends_back}
 use Rattle.nk_reach.specs.Pairs.{HavePlaces}
 use Rattle.nk_reach.specs.Levels.{AreLevels}

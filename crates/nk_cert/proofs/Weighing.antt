@@ -4,7 +4,7 @@ use Rattle.nk_field.specs.Packet.{FieldTable}
 use Rattle.nk_policy.specs.Policy.{Policy, dups_of}
 use Rattle.nk_store.specs.Held.{Held, IsPacket, Grows, AreTidy}
 use Rattle.nk_store.proofs.Stores.{grows_on}
-use Rattle.nk_algebra.specs.Unions.{AreIds}
+use Rattle.nk_apply.specs.Unions.{AreIds}
 use Rattle.nk_determ.specs.Sets.{HasAscendingSets}
 use Rattle.nk_reach.specs.Pairs.{HavePlaces, ArePairs}
 use Rattle.nk_reach.specs.Sides.{alone, ends_of, AreMarked, AreOneSided, IsGoalOf, goal_on}

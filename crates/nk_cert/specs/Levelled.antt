@@ -4,7 +4,7 @@ use Rattle.nk_field.specs.Packet.{FieldTable}
 use Rattle.nk_policy.specs.Policy.{Policy, dups_of}
 use Rattle.nk_store.specs.declared.node.Out.{Out}
 use Rattle.nk_store.specs.Held.{Held, IsId, Grows, IsOver, IsPacket, AreTidy}
-use Rattle.nk_algebra.specs.Unions.{AreIds}
+use Rattle.nk_apply.specs.Unions.{AreIds}
 use Rattle.nk_sets.specs.PacketSets.{is_in}
 use Rattle.nk_auto.specs.Automaton.{IsState, IsAutomaton}
 use Rattle.nk_reach.specs.Pairs.{HavePlaces}

@@ -10,7 +10,7 @@ ghost use Rattle.nk_cert.specs.Judged.{AreLabels, IsEntryOf, IsStartEntryOf, Are
 
 use crate::leveling::start_alone;
 use crate::packets::packets_of;
-use nk_algebra::empty;
+use nk_apply::empty;
 use nk_determ::{SetId, Sets};
 use nk_field::List;
 use nk_policy::Pol;

@@ -14,7 +14,7 @@ ghost use Rattle.nk_store.specs.declared.node.Out.{Out};
 ghost use Rattle.nk_store.specs.Held.{Held, IsId, IsPacket, Grows, AreTidy};
 ghost use Rattle.nk_auto.specs.Plain.{Sends};
 ghost use Rattle.nk_auto.specs.Automaton.{IsState, IsAutomaton};
-ghost use Rattle.nk_algebra.specs.Unions.{AreIds};
+ghost use Rattle.nk_apply.specs.Unions.{AreIds};
 ghost use Rattle.nk_determ.specs.Sets.{HasEachSetOnce};
 ghost use Rattle.nk_reach.specs.Pairs.{HavePlaces};
 ghost use Rattle.nk_reach.specs.Sides.{alone, ends_of, AreOneSided};

@@ -7,7 +7,7 @@ ghost use Rattle.nk_reach.specs.Sides.{IsGoalOf};
 ghost use Rattle.nk_cert.specs.Levelled.{AreSideLevels};
 
 use crate::pairing::Both;
-use nk_algebra::identity;
+use nk_apply::identity;
 use nk_determ::Sets;
 use nk_field::List;
 use nk_reach::{Levels, OneSide, levels};

@@ -6,7 +6,7 @@ ghost use Rattle.nk_store.specs.Held.{IsId, Grows};
 ghost use Rattle.nk_cert.specs.Levelled.{HasEach};
 ghost use Rattle.nk_cert.specs.Judged.{IsPacketsOf};
 
-use nk_algebra::negate;
+use nk_apply::negate;
 use nk_auto::silent;
 use nk_policy::Pol;
 use nk_sets::is_empty;

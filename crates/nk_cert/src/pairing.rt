@@ -7,7 +7,7 @@ ghost use Rattle.nk_store.specs.Held.{IsOver, Grows};
 ghost use Rattle.nk_auto.specs.Continued.{IsFit};
 ghost use Rattle.nk_cert.specs.Levelled.{IsAutomatonOfBoth};
 
-use nk_algebra::union;
+use nk_apply::union;
 use nk_auto::policy_automaton;
 use nk_field::List;
 use nk_policy::{Pol, dups};

@@ -12,7 +12,7 @@ ghost use Rattle.nk_cert.specs.Later.{packets_at, IsRowBy, AreLaterPackets};
 
 use crate::certificate::Certificate;
 use indexmap::IndexMap;
-use nk_algebra::empty;
+use nk_apply::empty;
 use nk_determ::{SetId, Sets};
 use nk_field::List;
 use nk_policy::{Pol, Pols};

@@ -7,7 +7,7 @@ use Rattle.std.proofs.lemmas.Bool.Decides.{nat_tests}
 use Rattle.nk_field.proofs.Lists.{In, in_either, in_left, in_right, in_mapped, from_mapped, map_joined}
 use Rattle.nk_field.proofs.Ascending.{Rising}
 use Rattle.nk_store.specs.Held.{Held}
-use Rattle.nk_algebra.specs.PacketSets.{is_in}
+use Rattle.nk_apply.specs.PacketSets.{is_in}
 use Rattle.nk_switches.specs.declared.stop.ActingTag.{ActingTag}
 use Rattle.nk_switches.specs.declared.stop.ClassHere.{ClassHere}
 use Rattle.nk_switches.specs.Classed.{acting_tag}

@@ -15,7 +15,7 @@ use Rattle.nk_names.specs.Accepted.{IsStartPacket}
 use Rattle.nk_store.specs.Diagram.{IsReduced, leaf_at}
 use Rattle.nk_store.specs.Held.{Held, IsId, IsPacket as IsPacketOf}
 use Rattle.nk_store.proofs.InRange.{packet_in_range}
-use Rattle.nk_algebra.specs.PacketSets.{is_in}
+use Rattle.nk_apply.specs.PacketSets.{is_in}
 use Rattle.nk_extract.specs.Buckets.{bucket_of, AreBuckets}
 use Rattle.nk_group.specs.Groups.{groups_of, rows_after}
 use Rattle.nk_table.specs.declared.Table.{Table}

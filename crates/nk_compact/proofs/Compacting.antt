@@ -22,7 +22,7 @@ use Rattle.nk_store.specs.Nodes.{InRange}
 use Rattle.nk_store.specs.Held.{Held, IsId, IsWhole, Grows, IsOver, HasFields, AreTidy, IsPacket as IsPacketOf}
 use Rattle.nk_store.proofs.InRange.{packet_in_range, over_grown}
 use Rattle.nk_store.proofs.Stores.{grows_same, grows_on}
-use Rattle.nk_algebra.specs.PacketSets.{has_out, is_in}
+use Rattle.nk_apply.specs.PacketSets.{has_out, is_in}
 use Rattle.nk_determ.specs.Automaton.{IsAutomaton}
 use Rattle.nk_determ.specs.InOrder.{AreNumbers}
 use Rattle.nk_determ.specs.Levels.{AreLevels, InLevel}

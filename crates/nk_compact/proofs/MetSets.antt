@@ -7,9 +7,9 @@ use Rattle.nk_field.proofs.Lists.{In, numbers_decided, from_mapped}
 use Rattle.nk_field.proofs.Ascending.{Rising, rising_from, increasing_from, members_from_all}
 use Rattle.nk_store.specs.declared.node.Out.{Out}
 use Rattle.nk_store.specs.Held.{Held, IsId, IsWhole, look, Grows, HasLeaves}
-use Rattle.nk_algebra.specs.Leaves.{merged}
-use Rattle.nk_algebra.specs.PacketSets.{has_out, is_in}
-use Rattle.nk_algebra.proofs.Members.{Has, merged_has, merged_left, merged_right}
+use Rattle.nk_apply.specs.Leaves.{merged}
+use Rattle.nk_apply.specs.PacketSets.{has_out, is_in}
+use Rattle.nk_apply.proofs.Members.{Has, merged_has, merged_left, merged_right}
 use Rattle.nk_determ.specs.Sets.{IsSetOf, SetsGrow, HasEachSetOnce}
 use Rattle.nk_determ.specs.Pairs.{Under, EachPair}
 use Rattle.nk_switches.specs.Tagged.{set_of_tag}

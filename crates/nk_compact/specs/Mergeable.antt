@@ -6,7 +6,7 @@ use Rattle.nk_policy.specs.Policy.{Policy}
 use Rattle.nk_policy.specs.Ranges.{IsInRange}
 use Rattle.nk_names.specs.Accepted.{IsStartPacket}
 use Rattle.nk_store.specs.Held.{Held, IsId}
-use Rattle.nk_algebra.specs.PacketSets.{is_in}
+use Rattle.nk_apply.specs.PacketSets.{is_in}
 use Rattle.nk_switches.specs.Tagged.{set_of_tag}
 use Rattle.nk_merge.specs.Classes.{AreFirsts}
 use Rattle.nk_compile.specs.MetUnder.{IsMetUnder}

@@ -1,7 +1,7 @@
 -- The packets that levels have under a set, whatever the level.
 use Rattle.std.specs.Prelude.{◌≡◌, ◌↔◌, ℕ, ◌<◌, true, List, [], ◌∷◌, ◌++◌, length, slice_index}
 use Rattle.nk_store.specs.Held.{Held, IsId, IsWhole}
-use Rattle.nk_algebra.specs.PacketSets.{is_in}
+use Rattle.nk_apply.specs.PacketSets.{is_in}
 use Rattle.nk_determ.specs.Pairs.{Under, EachPair}
 use Rattle.nk_determ.specs.Levels.{InLevel}
 

@@ -6,7 +6,7 @@ ghost use Rattle.nk_switches.specs.Tagged.{set_of_tag};
 ghost use Rattle.nk_merge.specs.Alike.{labels_behind};
 ghost use Rattle.nk_compact.specs.MetPackets.{entries_of, HaveIds, AreUnder, AreMet};
 
-use nk_algebra::{empty, union};
+use nk_apply::{empty, union};
 use nk_determ::{Levels, SetId, Sets};
 use nk_field::List;
 use nk_store::{Id, Store};

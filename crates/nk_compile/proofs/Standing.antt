@@ -20,7 +20,7 @@ use Rattle.nk_policy.proofs.LabelSteps.{gives_is_runs}
 use Rattle.nk_policy.proofs.Parity.{no_records}
 use Rattle.nk_store.specs.Held.{Held, IsPacket}
 use Rattle.nk_store.proofs.Same.{set_in_range}
-use Rattle.nk_algebra.specs.Unions.{AreIds}
+use Rattle.nk_apply.specs.Unions.{AreIds}
 use Rattle.nk_determ.specs.States.{StateLeads}
 use Rattle.nk_auto.specs.Automaton.{IsState, IsAutomaton}
 use Rattle.nk_switches.specs.States.{StayAt}

@@ -8,9 +8,9 @@ use Rattle.std.proofs.lemmas.Bool.Decides.{eqb_tells, leb_tells}
 use Rattle.nk_field.proofs.Lists.{In}
 use Rattle.nk_store.specs.declared.node.Out.{Out}
 use Rattle.nk_store.specs.Held.{Held, IsId, IsWhole, look, Grows}
-use Rattle.nk_algebra.specs.Leaves.{merged}
-use Rattle.nk_algebra.specs.Unions.{AreIds, unions}
-use Rattle.nk_algebra.proofs.Members.{Has, merged_left, merged_right, merged_has}
+use Rattle.nk_apply.specs.Leaves.{merged}
+use Rattle.nk_apply.specs.Unions.{AreIds, unions}
+use Rattle.nk_apply.proofs.Members.{Has, merged_left, merged_right, merged_has}
 use Rattle.nk_compile.specs.WrongEnds.{end_leaf, wrong_leaf, IsEndOf, AreEndsOf, HaveEndsOf, end_on}
 
 -- and so does a table of them

@@ -7,9 +7,9 @@ use Rattle.nk_field.proofs.Lists.{in_from_contains, contains_from_in}
 use Rattle.nk_topo.specs.Topology.{Topology}
 use Rattle.nk_store.specs.declared.node.Out.{Out}
 use Rattle.nk_store.specs.Held.{Held, IsId, IsPacket, look, Grows, AreTidy}
-use Rattle.nk_algebra.specs.Predicates.{IsPass, IsPredicate}
-use Rattle.nk_algebra.specs.Seqs.{out_after, no_out}
-use Rattle.nk_algebra.proofs.Members.{Has, has_contains, contains_has, gathered_has, has_gathered, seq_leaf_has, has_seq_leaf}
+use Rattle.nk_apply.specs.Predicates.{IsPass, IsPredicate}
+use Rattle.nk_apply.specs.Seqs.{out_after, no_out}
+use Rattle.nk_apply.proofs.Members.{Has, has_contains, contains_has, gathered_has, has_gathered, seq_leaf_has, has_seq_leaf}
 use Rattle.nk_determ.specs.Exact.{Sends}
 use Rattle.nk_determ.specs.States.{StateLeads}
 use Rattle.nk_determ.specs.Sets.{SetsGrow, IsSetOf as IsLabels}

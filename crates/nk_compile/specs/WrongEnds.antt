@@ -7,11 +7,11 @@ use Rattle.nk_field.specs.Act.{applied}
 use Rattle.nk_field.proofs.Lists.{In}
 use Rattle.nk_field.proofs.Ascending.{members_from_all}
 use Rattle.nk_store.specs.Held.{Held, IsId, IsWhole, look, Grows}
-use Rattle.nk_algebra.specs.Leaves.{merged}
-use Rattle.nk_algebra.specs.Seqs.{seq_leaf}
-use Rattle.nk_algebra.specs.Predicates.{IsPass}
-use Rattle.nk_algebra.proofs.Members.{Has, contains_has, merged_has, has_seq_leaf}
-use Rattle.nk_algebra.proofs.Predicates.{whole_applied}
+use Rattle.nk_apply.specs.Leaves.{merged}
+use Rattle.nk_apply.specs.Seqs.{seq_leaf}
+use Rattle.nk_apply.specs.Predicates.{IsPass}
+use Rattle.nk_apply.proofs.Members.{Has, contains_has, merged_has, has_seq_leaf}
+use Rattle.nk_apply.proofs.Predicates.{whole_applied}
 use Rattle.nk_sets.specs.PacketSets.{IsSet}
 use Rattle.nk_sets.proofs.SetLemmas.{set_grows}
 use Rattle.nk_determ.specs.Targets.{retargeted}

@@ -1,7 +1,7 @@
 //! Ends off edge ports: what ends the levels of a policy's automaton.
 ghost use Rattle.std.specs.Prelude.{◌≡◌, ◌<◌, ◌∷◌, [], Some, All, IfOk, OnOk, map, length, slice_index};
 ghost use Rattle.nk_store.specs.Held.{IsId, Grows, HasLeaves, look};
-ghost use Rattle.nk_algebra.specs.Unions.{AreIds};
+ghost use Rattle.nk_apply.specs.Unions.{AreIds};
 ghost use Rattle.nk_sets.specs.PacketSets.{IsSet};
 ghost use Rattle.nk_determ.specs.Targets.{retargeted};
 ghost use Rattle.nk_compile.specs.WrongEnds.{IsEndOf, AreEndsOf, HaveEndsOf, wrong_leaf, ends_on, wrong_on, wrong_sided};

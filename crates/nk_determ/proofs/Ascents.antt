@@ -13,7 +13,7 @@ use Rattle.nk_field.specs.contracts.act.ActOrd.TheImpl.Laws.{total-law, matches_
 use Rattle.nk_store.specs.declared.node.Out.{Out}
 use Rattle.nk_store.specs.Leaves.{out_cmp, Every}
 use Rattle.nk_store.proofs.NodeEq.{pair_decides}
-use Rattle.nk_algebra.proofs.Members.{Has, every_has}
+use Rattle.nk_apply.proofs.Members.{Has, every_has}
 
 -- the order of acts is total
 act_order : IsTotalOrder ghosts.cmp

@@ -4,7 +4,7 @@ use Rattle.std.specs.List.{Contains, list_any}
 use Rattle.std.proofs.lemmas.List.{map_more}
 use Rattle.std.proofs.lemmas.Bool.Decides.{eqb_tells}
 use Rattle.nk_store.specs.declared.node.Out.{Out}
-use Rattle.nk_algebra.proofs.Members.{Has, has_contains, contains_has, every_from}
+use Rattle.nk_apply.proofs.Members.{Has, has_contains, contains_has, every_from}
 use Rattle.nk_determ.specs.Unchanged.{act_fields, leaf_fields, AreAmong, exact_below, out_below, split_below}
 use Rattle.nk_determ.proofs.Collected.{among_on, among_both}
 use Rattle.nk_determ.proofs.Below.{ltb_tells, gathered_alike}

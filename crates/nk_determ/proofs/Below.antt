@@ -4,8 +4,8 @@ use Rattle.std.proofs.lemmas.Bool.Decides.{eqb_tells, nat_tests}
 use Rattle.nk_field.specs.Act.{left_without}
 use Rattle.nk_store.specs.declared.node.Out.{Out}
 use Rattle.nk_store.specs.Leaves.{Every, Strict, Suits, IsActFrom}
-use Rattle.nk_algebra.specs.Leaves.{merged, gathered}
-use Rattle.nk_algebra.proofs.Members.{Has, strict_same, gathered_strict, gathered_has, has_gathered}
+use Rattle.nk_apply.specs.Leaves.{merged, gathered}
+use Rattle.nk_apply.proofs.Members.{Has, strict_same, gathered_strict, gathered_has, has_gathered}
 use Rattle.nk_determ.specs.Exact.{exact, exact_out, split_leaf}
 use Rattle.nk_determ.specs.Unchanged.{assigns, act_without, out_without, leaf_without, exact_below, out_below, split_below}
 

@@ -14,11 +14,11 @@ use Rattle.nk_field.specs.contracts.act.ActPartialEq.TheImpl.{ghosts}
 use Rattle.nk_store.specs.declared.node.Out.{Out}
 use Rattle.nk_store.specs.Leaves.{IsActFrom, Every, Suits, AreOrdered}
 use Rattle.nk_store.specs.Held.{Held, IsId, IsPacket, node_of, look, top, HasLeaves, AreTidy}
-use Rattle.nk_algebra.specs.Seqs.{outs_of}
-use Rattle.nk_algebra.specs.Unions.{AreIds, AreFrom, outs_in_turn}
-use Rattle.nk_algebra.proofs.PartSums.{AreNodes}
-use Rattle.nk_algebra.proofs.AtOnce.{leaf_outs}
-use Rattle.nk_algebra.proofs.Members.{has_contains, contains_has, every_has, every_from}
+use Rattle.nk_apply.specs.Seqs.{outs_of}
+use Rattle.nk_apply.specs.Unions.{AreIds, AreFrom, outs_in_turn}
+use Rattle.nk_apply.proofs.PartSums.{AreNodes}
+use Rattle.nk_apply.proofs.AtOnce.{leaf_outs}
+use Rattle.nk_apply.proofs.Members.{has_contains, contains_has, every_has, every_from}
 use Rattle.nk_determ.specs.Exact.{Sends}
 use Rattle.nk_determ.specs.Plain.{fields_in}
 use Rattle.nk_determ.specs.Sets.{SetsGrow, holds, place_in}

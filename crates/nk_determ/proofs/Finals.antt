@@ -7,8 +7,8 @@ use Rattle.nk_store.specs.declared.node.Out.{Out}
 use Rattle.nk_store.specs.Leaves.{out_cmp, Every, Strict}
 use Rattle.std.specs.declared.cmp.Ordering.TheVariants.{Less}
 use Rattle.nk_store.specs.Held.{Held, IsId, IsLeaf}
-use Rattle.nk_algebra.proofs.Members.{Has, every_has}
-use Rattle.nk_algebra.proofs.Gathers.{same_order}
+use Rattle.nk_apply.proofs.Members.{Has, every_has}
+use Rattle.nk_apply.proofs.Gathers.{same_order}
 use Rattle.nk_determ.specs.Branches.{with_target, begun, runs, branches, targets_of, labels_of}
 use Rattle.nk_determ.specs.States.{IsThere, HasAll, IsRegrouped, branch_outs, regrouped}
 use Rattle.nk_determ.proofs.Ascents.{act_decides, targets_rise}

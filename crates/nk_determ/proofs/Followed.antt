@@ -5,7 +5,7 @@ use Rattle.nk_field.specs.Act.{applied}
 use Rattle.nk_store.specs.declared.node.Out.{Out}
 use Rattle.nk_store.specs.Leaves.{IsActFrom, Suits}
 use Rattle.nk_store.specs.Held.{Held, IsPacket, look, AreTidy}
-use Rattle.nk_algebra.proofs.Members.{Has, has_contains, contains_has, every_has, gathered_has, has_gathered}
+use Rattle.nk_apply.proofs.Members.{Has, has_contains, contains_has, every_has, gathered_has, has_gathered}
 use Rattle.nk_determ.specs.Exact.{exact, exact_out, split_leaf, IsExact, Sends}
 use Rattle.nk_determ.specs.States.{SomeSends, SomeLeads, AreLedTo, IsStateOf}
 use Rattle.nk_determ.proofs.Exacts.{exact_acts}

@@ -5,7 +5,7 @@ use Rattle.nk_store.specs.declared.node.Out.{Out}
 use Rattle.nk_store.specs.Nodes.{child_at, Each}
 use Rattle.nk_store.specs.Leaves.{Strict}
 use Rattle.nk_store.specs.Held.{Held, IsId, look, IsCase, IsChild}
-use Rattle.nk_algebra.proofs.Members.{Has}
+use Rattle.nk_apply.proofs.Members.{Has}
 use Rattle.nk_determ.specs.Branches.{Branch, begun, branches, targets_of, labels, labels_of}
 use Rattle.nk_determ.specs.Sets.{SetsGrow}
 use Rattle.nk_determ.specs.States.{IsThere, HasAll, HasSets}

@@ -6,7 +6,7 @@ use Rattle.std.proofs.lemmas.List.{append_assoc, append-nil}
 use Rattle.nk_field.specs.contracts.act.ActPartialEq.TheImpl.{ghosts}
 use Rattle.nk_store.specs.declared.node.Out.{Out}
 use Rattle.nk_store.specs.Leaves.{Strict}
-use Rattle.nk_algebra.proofs.Members.{Has}
+use Rattle.nk_apply.proofs.Members.{Has}
 use Rattle.nk_determ.specs.Branches.{Branch, with_target, begun, runs, branches, branches_in, first_act, targets_in, branch_of, labels}
 use Rattle.nk_determ.specs.Sets.{SetsGrow}
 use Rattle.nk_determ.specs.States.{IsThere, HasAll, final_of, branch_outs}

@@ -8,7 +8,7 @@ use Rattle.nk_store.specs.declared.node.Out.{Out}
 use Rattle.nk_store.specs.Nodes.{InRange}
 use Rattle.nk_store.specs.Leaves.{IsActFrom, Every, Suits}
 use Rattle.nk_store.specs.Held.{Held, IsWhole, IsPacket, look, Grows, HasLeaves, AreTidy, Agree}
-use Rattle.nk_algebra.proofs.Members.{Has, has_contains, contains_has, every_has, every_from, gathered_has, has_gathered, strict_same}
+use Rattle.nk_apply.proofs.Members.{Has, has_contains, contains_has, every_has, every_from, gathered_has, has_gathered, strict_same}
 use Rattle.nk_determ.specs.Exact.{exact, exact_out, split_leaf, IsExact, AreExact, Sends}
 
 -- writing the value that is there changes nothing

@@ -5,8 +5,8 @@ use Rattle.std.proofs.lemmas.List.{get_or-set_same}
 use Rattle.nk_store.specs.declared.node.Out.{Out}
 use Rattle.nk_store.specs.Nodes.{child_at}
 use Rattle.nk_store.specs.Held.{Held, IsId, look, top, Grows, HasLeaves, IsWhole, IsStill, AreTidy}
-use Rattle.nk_algebra.specs.Subs.{sub, IsPart, IsSplit}
-use Rattle.nk_algebra.proofs.Built.{Built, built_push, part_old}
+use Rattle.nk_apply.specs.Subs.{sub, IsPart, IsSplit}
+use Rattle.nk_apply.proofs.Built.{Built, built_push, part_old}
 use Rattle.nk_determ.specs.Unchanged.{leaf_without, leaf_changing, leaf_values, HasValues}
 use Rattle.nk_determ.proofs.Withouts.{leaf_stays}
 

@@ -7,8 +7,8 @@ use Rattle.nk_store.specs.declared.node.Out.{Out}
 use Rattle.nk_store.specs.Nodes.{InRange}
 use Rattle.nk_store.specs.Leaves.{IsActFrom, Every, Suits}
 use Rattle.nk_store.specs.Held.{Held, IsWhole, IsPacket, look, Grows, HasLeaves, AreTidy}
-use Rattle.nk_algebra.specs.Unions.{AreIds, unions}
-use Rattle.nk_algebra.proofs.Members.{Has, has_contains, contains_has, every_has}
+use Rattle.nk_apply.specs.Unions.{AreIds, unions}
+use Rattle.nk_apply.proofs.Members.{Has, has_contains, contains_has, every_has}
 use Rattle.nk_determ.specs.Exact.{Sends}
 use Rattle.nk_determ.specs.Sets.{place_in}
 use Rattle.nk_determ.specs.Branches.{labels_of}

@@ -7,7 +7,7 @@ use Rattle.nk_store.specs.declared.node.Out.{Out}
 use Rattle.nk_store.specs.Nodes.{InRange}
 use Rattle.nk_store.specs.Leaves.{IsActFrom, Every, Strict, Suits, AreOrdered}
 use Rattle.nk_store.specs.Held.{Held, IsWhole, look}
-use Rattle.nk_algebra.proofs.Members.{Has, has_contains, contains_has, every_from, gathered_has, has_gathered, gathered_strict}
+use Rattle.nk_apply.proofs.Members.{Has, has_contains, contains_has, every_from, gathered_has, has_gathered, gathered_strict}
 use Rattle.nk_determ.specs.Exact.{exact_out, split_leaf, IsExact, AreExact}
 use Rattle.nk_determ.specs.Sets.{holds, place_in}
 use Rattle.nk_determ.specs.Branches.{Branch, with_target, begun, runs, branches, targets_of, labels, labels_of}

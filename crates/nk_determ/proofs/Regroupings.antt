@@ -4,9 +4,9 @@ use Rattle.std.specs.Map.{lookup}
 use Rattle.std.proofs.lemmas.Bool.Decides.{leb_tells, eqb_tells}
 use Rattle.nk_store.specs.Nodes.{child_at}
 use Rattle.nk_store.specs.Held.{Held, IsId, look, top, Grows, HasLeaves, IsWhole}
-use Rattle.nk_algebra.specs.Subs.{sub, IsPart, IsSplit}
-use Rattle.nk_algebra.proofs.Built.{Built, part_old}
-use Rattle.nk_algebra.proofs.Turned.{turned, turned_push, turned_made}
+use Rattle.nk_apply.specs.Subs.{sub, IsPart, IsSplit}
+use Rattle.nk_apply.proofs.Built.{Built, part_old}
+use Rattle.nk_apply.proofs.Turned.{turned, turned_push, turned_made}
 use Rattle.nk_determ.specs.Sets.{SetsGrow}
 use Rattle.nk_determ.specs.States.{HasAll, HasSets, IsRegrouped, AreRegrouped, regrouped}
 use Rattle.nk_determ.proofs.Interned.{sets_on, sets_same}

@@ -11,7 +11,7 @@ use Rattle.nk_field.proofs.Lists.{In}
 use Rattle.nk_field.proofs.Ascending.{Rising, increasing_from}
 use Rattle.nk_store.specs.declared.node.Out.{Out}
 use Rattle.nk_store.specs.Leaves.{out_cmp, Every, Strict}
-use Rattle.nk_algebra.proofs.Members.{Has, every_has}
+use Rattle.nk_apply.proofs.Members.{Has, every_has}
 use Rattle.nk_determ.specs.Branches.{Branch, with_target, begun, runs, branches, targets_of, labels}
 use Rattle.nk_determ.proofs.Ascents.{act_decides, targets_rise, acts_rise, none_first, apart}
 

@@ -8,10 +8,10 @@ use Rattle.nk_store.specs.Leaves.{Suits, IsActFrom}
 use Rattle.nk_store.specs.Nodes.{InRange}
 use Rattle.nk_store.specs.Held.{Held, IsId, IsWhole, IsPacket, look, Grows, HasLeaves, AreTidy}
 use Rattle.nk_store.proofs.Same.{set_in_range}
-use Rattle.nk_algebra.specs.Leaves.{merged}
-use Rattle.nk_algebra.specs.Seqs.{seq_leaf}
-use Rattle.nk_algebra.specs.Unions.{unions}
-use Rattle.nk_algebra.proofs.Members.{Has, contains_has, has_contains, every_has, merged_left, merged_right, merged_has, seq_leaf_has, has_seq_leaf}
+use Rattle.nk_apply.specs.Leaves.{merged}
+use Rattle.nk_apply.specs.Seqs.{seq_leaf}
+use Rattle.nk_apply.specs.Unions.{unions}
+use Rattle.nk_apply.proofs.Members.{Has, contains_has, has_contains, every_has, merged_left, merged_right, merged_has, seq_leaf_has, has_seq_leaf}
 use Rattle.nk_determ.specs.Exact.{Sends}
 
 -- the out of an act to a target

@@ -4,7 +4,7 @@ use Rattle.std.specs.Prelude.{All, map}
 use Rattle.std.specs.List.{Contains}
 use Rattle.std.proofs.lemmas.List.{get_or_default, get_or-map, length-map}
 use Rattle.nk_store.specs.Held.{Held, IsId, look}
-use Rattle.nk_algebra.specs.Unions.{AreIds}
+use Rattle.nk_apply.specs.Unions.{AreIds}
 use Rattle.nk_determ.specs.Exact.{split_leaf, Sends}
 use Rattle.nk_determ.specs.States.{SomeSends, SomeLeads, StateSends, StateLeads, IsSetOfMet}
 

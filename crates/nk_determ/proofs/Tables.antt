@@ -3,8 +3,8 @@ use Rattle.std.proofs.Common.{◌≡◌, ℕ, Option, Some, None, List, get_or, 
 use Rattle.std.specs.List.{flat_map}
 use Rattle.nk_store.specs.declared.node.Out.{Out}
 use Rattle.nk_store.specs.Leaves.{Every, Strict, Suits, IsActFrom, AreOrdered}
-use Rattle.nk_algebra.proofs.Members.{gathered_every}
-use Rattle.nk_algebra.proofs.Gathers.{flat_ordered}
+use Rattle.nk_apply.proofs.Members.{gathered_every}
+use Rattle.nk_apply.proofs.Gathers.{flat_ordered}
 use Rattle.nk_determ.specs.Targets.{option_out, out_by_table, retargeted}
 
 -- at most one out ascends strictly

@@ -5,8 +5,8 @@ use Rattle.std.proofs.Math.Seq.{get_or-append_seam}
 use Rattle.std.proofs.lemmas.Bool.Decides.{leb_tells}
 use Rattle.nk_store.specs.declared.node.Out.{Out}
 use Rattle.nk_store.specs.Held.{Held, IsId, look, Grows, HasLeaves}
-use Rattle.nk_algebra.specs.Unions.{AreIds, unions}
-use Rattle.nk_algebra.proofs.Members.{Has, has_contains, contains_has, merged_left, merged_right, merged_has}
+use Rattle.nk_apply.specs.Unions.{AreIds, unions}
+use Rattle.nk_apply.proofs.Members.{Has, has_contains, contains_has, merged_left, merged_right, merged_has}
 use Rattle.nk_determ.specs.Exact.{split_leaf}
 use Rattle.nk_determ.specs.States.{HaveEach, IsTogether}
 

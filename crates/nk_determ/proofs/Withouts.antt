@@ -5,11 +5,11 @@ use Rattle.std.proofs.lemmas.Bool.Decides.{eqb_tells}
 use Rattle.nk_field.specs.Act.{left_without}
 use Rattle.nk_store.specs.declared.node.Out.{Out}
 use Rattle.nk_store.specs.Leaves.{Every, Strict, Suits, IsActFrom, AreOrdered}
-use Rattle.nk_algebra.proofs.Members.{Has, has_contains, every_from, gathered_every}
+use Rattle.nk_apply.proofs.Members.{Has, has_contains, every_from, gathered_every}
 use Rattle.nk_determ.specs.Unchanged.{assigns, act_without, out_without, leaf_without, act_values, leaf_values}
 use Rattle.nk_determ.proofs.Exacts.{weaker_from}
 use Rattle.nk_determ.proofs.Below.{gathered_alike, gathered_same}
-use Rattle.nk_algebra.proofs.Gathers.{map_ordered, every_unordered}
+use Rattle.nk_apply.proofs.Gathers.{map_ordered, every_unordered}
 
 -- a member of a list stays one before other items
 pub front : {X : Type 0} (xs ys : List X) (o : X) → Has xs o → Has (xs ++ ys) o

@@ -2,7 +2,7 @@
 use Rattle.std.specs.Prelude.{◌≡◌, ℕ, ◌+◌, ◌-◌, ◌<◌, ◌≤◌, Bool, true, false, List, [], ◌∷◌, length, slice_index_or}
 use Rattle.nk_store.specs.declared.node.Out.{Out}
 use Rattle.nk_store.specs.Held.{Held, IsPacket}
-use Rattle.nk_algebra.specs.PacketSets.{is_in}
+use Rattle.nk_apply.specs.PacketSets.{is_in}
 use Rattle.nk_determ.specs.Reach.{Reach, Exact}
 use Rattle.nk_determ.specs.Pairs.{Node, Within, EachPair, ArePairs, IsStart, IsStep, IsGood}
 

@@ -5,7 +5,7 @@ use Rattle.std.specs.Map.{lookup}
 use Rattle.nk_store.specs.declared.node.Out.{Out}
 use Rattle.nk_store.specs.Leaves.{Strict}
 use Rattle.nk_store.specs.Held.{Held, IsId, IsWhole, look, top, HasLeaves}
-use Rattle.nk_algebra.specs.Leaves.{gathered}
+use Rattle.nk_apply.specs.Leaves.{gathered}
 use Rattle.nk_determ.specs.Exact.{split_leaf, Sends}
 use Rattle.nk_determ.specs.Sets.{SetsGrow, holds, place_in}
 use Rattle.nk_determ.specs.Branches.{Branch, branches, labels, labels_of}

@@ -1,7 +1,7 @@
 -- Targets by a table.
 use Rattle.std.specs.Prelude.{ℕ, Option, Some, None, List, [], ◌∷◌, slice_index_or}
 use Rattle.nk_store.specs.declared.node.Out.{Out}
-use Rattle.nk_algebra.specs.Leaves.{gathered}
+use Rattle.nk_apply.specs.Leaves.{gathered}
 
 -- the act to a target, or nothing
 abbrev pub option_out : List (ℕ × ℕ) → Option ℕ → List Out

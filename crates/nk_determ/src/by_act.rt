@@ -4,8 +4,8 @@ ghost use Rattle.std.specs.Prelude.{◌≡◌, ◌↔◌, ℕ, ◌+◌, ◌<◌,
 ghost use Rattle.std.specs.List.Sorted.{IsStrictlyIncreasing};
 ghost use Rattle.nk_store.specs.declared.node.Out.{Out};
 ghost use Rattle.nk_store.specs.Held.{IsId, IsPacket, top, Grows};
-ghost use Rattle.nk_algebra.specs.Seqs.{outs_of};
-ghost use Rattle.nk_algebra.specs.Unions.{AreIds, AreFrom, outs_in_turn};
+ghost use Rattle.nk_apply.specs.Seqs.{outs_of};
+ghost use Rattle.nk_apply.specs.Unions.{AreIds, AreFrom, outs_in_turn};
 ghost use Rattle.nk_determ.specs.Exact.{Sends};
 ghost use Rattle.nk_determ.specs.Sets.{SetsGrow};
 ghost use Rattle.nk_determ.specs.Branches.{labels_of};

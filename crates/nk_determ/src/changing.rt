@@ -3,11 +3,11 @@ ghost use Rattle.std.specs.Prelude.{◌≡◌, ℕ, ◌<◌, ◌≤◌, map, min
 ghost use Rattle.std.specs.List.Sorted.{IsNonDecreasing};
 ghost use Rattle.nk_store.specs.Nodes.{child_at};
 ghost use Rattle.nk_store.specs.Held.{IsId, IsWhole, look, top, Grows, HasLeaves, AreParts};
-ghost use Rattle.nk_algebra.specs.Subs.{sub};
+ghost use Rattle.nk_apply.specs.Subs.{sub};
 ghost use Rattle.nk_determ.specs.Unchanged.{assigns, act_without, out_without, leaf_without, leaf_changing, HasValues};
 
 use crate::assigned::{assigned, next_cut};
-use nk_algebra::{LeafMap, NodeMap, map_leaves, map_nodes, part_near};
+use nk_apply::{LeafMap, NodeMap, map_leaves, map_nodes, part_near};
 use nk_field::{Act, Fid, List};
 use nk_store::{Id, Out, Store};
 use std::alloc::{AllocError, Global};

@@ -2,7 +2,7 @@
 //! union, split field by field only where its leaves need it.
 ghost use Rattle.std.specs.Prelude.{ℕ, ◌+◌, ◌<◌, List as Items, IfOk};
 ghost use Rattle.nk_store.specs.Held.{IsId, IsPacket, Grows};
-ghost use Rattle.nk_algebra.specs.Unions.{AreIds};
+ghost use Rattle.nk_apply.specs.Unions.{AreIds};
 ghost use Rattle.nk_determ.specs.Exact.{Sends};
 ghost use Rattle.nk_determ.specs.Sets.{SetsGrow};
 ghost use Rattle.nk_determ.specs.States.{SomeLeads, AreLedTo};
@@ -11,7 +11,7 @@ use crate::by_act::{acts_of, steps_by_act};
 use crate::plain::is_plain;
 use crate::sets::Sets;
 use crate::states::{regroup, state_of};
-use nk_algebra::union_all;
+use nk_apply::union_all;
 use nk_store::{Id, Store};
 use std::alloc::AllocError;
 

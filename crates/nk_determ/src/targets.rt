@@ -3,7 +3,7 @@ ghost use Rattle.std.specs.Prelude.{◌≡◌, ◌≤◌, ◌++◌, None, IfOk, 
 ghost use Rattle.nk_store.specs.Held.{IsId, look, top, Grows, HasLeaves};
 ghost use Rattle.nk_determ.specs.Targets.{out_by_table, retargeted};
 
-use nk_algebra::{LeafMap, map_leaves};
+use nk_apply::{LeafMap, map_leaves};
 use nk_field::List;
 use nk_store::{Id, Out, Store};
 use std::alloc::{AllocError, Global};

@@ -3,7 +3,7 @@ use Rattle.std.proofs.Common.{◌≡◌, ℕ, zero, suc, ◌<◌, List, [], ◌�
 use Rattle.std.specs.Prelude.{All}
 use Rattle.std.specs.List.Sorted.{IsStrictlyIncreasing}
 use Rattle.nk_store.specs.Held.{Held, IsId}
-use Rattle.nk_algebra.specs.Unions.{AreIds}
+use Rattle.nk_apply.specs.Unions.{AreIds}
 
 -- two numbers ascend
 pub two_ascend : (xs : List ℕ) (a b : ℕ) → xs ≡ a ∷ b ∷ [] → a < b → IsStrictlyIncreasing xs

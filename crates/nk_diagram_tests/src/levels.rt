@@ -1,7 +1,7 @@
 //! The levels of a ring of two switches, and the numbers of its sets.
 ghost use Rattle.std.specs.Prelude.{◌≡◌, ◌≤◌, ◌<◌, [], ◌∷◌, refl, IfOk, IfSome, length};
 ghost use Rattle.nk_store.specs.Held.{Grows};
-ghost use Rattle.nk_algebra.proofs.Members.{contains_has};
+ghost use Rattle.nk_apply.proofs.Members.{contains_has};
 ghost use Rattle.nk_sets.specs.PacketSets.{IsSet};
 ghost use Rattle.nk_determ.specs.Sets.{IsSetOf};
 ghost use Rattle.nk_reach.specs.Pairs.{AreStates};

@@ -1,7 +1,7 @@
 //! Copies of small diagrams, one after another.
 ghost use Rattle.std.specs.Prelude.{◌<◌, ◌≤◌, IfOk, slice_index};
 ghost use Rattle.nk_store.specs.Held.{IsId, look, Grows};
-ghost use Rattle.nk_algebra.specs.Predicates.{Ends};
+ghost use Rattle.nk_apply.specs.Predicates.{Ends};
 
 use crate::cases::DST;
 use nk_algebra::{assign, both, test, union};

@@ -6,8 +6,8 @@ use Rattle.std.proofs.lemmas.Bool.Decides.{leb_tells}
 use Rattle.nk_store.specs.declared.node.Out.{Out}
 use Rattle.nk_store.specs.Held.{Held, IsId, IsPacket, look, Grows, HasLeaves}
 use Rattle.nk_store.proofs.Stores.{grows_on}
-use Rattle.nk_algebra.specs.Unions.{AreIds}
-use Rattle.nk_algebra.proofs.Members.{Has, contains_has, has_contains, gathered_has, has_gathered}
+use Rattle.nk_apply.specs.Unions.{AreIds}
+use Rattle.nk_apply.proofs.Members.{Has, contains_has, has_contains, gathered_has, has_gathered}
 use Rattle.nk_determ.specs.Exact.{Sends}
 use Rattle.nk_determ.specs.Targets.{option_out, out_by_table, retargeted}
 use Rattle.nk_determ.specs.Pairs.{HavePlaces, AreStates}

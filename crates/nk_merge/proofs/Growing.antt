@@ -4,7 +4,7 @@ use Rattle.std.specs.Prelude.{slice_index}
 use Rattle.nk_field.specs.Order.{Found}
 use Rattle.nk_store.specs.declared.node.Out.{Out}
 use Rattle.nk_store.specs.Held.{Held, IsId, IsPacket, Grows}
-use Rattle.nk_algebra.specs.Unions.{AreIds}
+use Rattle.nk_apply.specs.Unions.{AreIds}
 use Rattle.nk_determ.specs.Pairs.{Node, HavePlaces, AreStates, IsStep}
 use Rattle.nk_determ.specs.Breaks.{Walks}
 use Rattle.nk_reach.specs.Sides.{alone, ends_of, ends_same, goal_on, EndsAt, AreOneSided, IsGoalOf}

@@ -4,7 +4,7 @@ use Rattle.std.specs.Prelude.{nat_lt, map, Contains, slice_index}
 use Rattle.std.proofs.lemmas.Bool.{ltb-true, ltb-false, lt-ltb, le-ltb}
 use Rattle.nk_field.proofs.Lists.{in_from_contains, contains_from_in, in_left, in_right, in_either, in_mapped, from_mapped, in_decided, numbers_decided, Decided}
 use Rattle.nk_store.specs.Held.{Held, IsPacket, HasLeaves}
-use Rattle.nk_algebra.specs.Seqs.{no_out}
+use Rattle.nk_apply.specs.Seqs.{no_out}
 use Rattle.nk_sets.specs.PacketSets.{has_out, is_in}
 use Rattle.nk_determ.specs.Exact.{Sends}
 use Rattle.nk_determ.specs.States.{StateLeads}

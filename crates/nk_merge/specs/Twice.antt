@@ -2,7 +2,7 @@
 use Rattle.std.specs.Prelude.{◌≡◌, ℕ, zero, suc, ◌+◌, ◌-◌, ◌^◌, ◌<◌, ◌↔◌, eqb, Option, Some, List, length, slice_index}
 use Rattle.std.specs.Map.{lookup}
 use Rattle.nk_store.specs.Held.{Held, IsId, IsPacket, look, HasLeaves}
-use Rattle.nk_algebra.specs.Unions.{AreIds}
+use Rattle.nk_apply.specs.Unions.{AreIds}
 use Rattle.nk_determ.specs.Exact.{Sends}
 use Rattle.nk_determ.specs.Targets.{retargeted}
 use Rattle.nk_determ.specs.Pairs.{HavePlaces, AreStates}

@@ -11,7 +11,7 @@ ghost use Rattle.nk_merge.specs.Twice.{IsTwice};
 
 use crate::joined::joined;
 use crate::twice::Twice;
-use nk_algebra::identity;
+use nk_apply::identity;
 use nk_determ::{SetId, Sets};
 use nk_reach::{Found, Levels, least_history, levels};
 use nk_store::{Id, Store};

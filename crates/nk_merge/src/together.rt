@@ -1,12 +1,12 @@
 //! What the states behind a set of labels do together, as one diagram.
 ghost use Rattle.std.specs.Prelude.{◌≡◌, ◌+◌, ◌<◌, [], IfOk, length, map, slice_index, slice_index_or};
 ghost use Rattle.nk_store.specs.Held.{Grows};
-ghost use Rattle.nk_algebra.specs.Unions.{AreIds};
+ghost use Rattle.nk_apply.specs.Unions.{AreIds};
 ghost use Rattle.nk_reach.specs.Pairs.{HavePlaces};
 ghost use Rattle.nk_merge.specs.Alike.{labels_behind};
 ghost use Rattle.nk_merge.specs.Seen.{DoesTogether};
 
-use nk_algebra::union_all;
+use nk_apply::union_all;
 use nk_determ::{SetId, Sets};
 use nk_field::List;
 use nk_store::{Id, Store};

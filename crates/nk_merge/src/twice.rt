@@ -5,7 +5,7 @@ ghost use Rattle.nk_determ.specs.Targets.{retargeted};
 ghost use Rattle.nk_determ.specs.Pairs.{AreStates};
 ghost use Rattle.nk_merge.specs.Twice.{again, AreTwice, IsTwice, AreMadeBy};
 
-use nk_algebra::known;
+use nk_apply::known;
 use nk_determ::retarget;
 use nk_field::List;
 use nk_reach::OneSide;

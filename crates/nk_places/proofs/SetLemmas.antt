@@ -10,8 +10,8 @@ use Rattle.nk_store.specs.Leaves.{out_cmp}
 use Rattle.nk_store.specs.Nodes.{InRange}
 use Rattle.nk_store.specs.declared.node.Out.{Out}
 use Rattle.nk_store.specs.Held.{Held, IsPacket, look, Grows, HasLeaves}
-use Rattle.nk_algebra.specs.Leaves.{weave, merged, by_order}
-use Rattle.nk_algebra.specs.Unions.{unions}
+use Rattle.nk_apply.specs.Leaves.{weave, merged, by_order}
+use Rattle.nk_apply.specs.Unions.{unions}
 use Rattle.nk_places.specs.PacketSets.{has_out, IsSetInRange}
 
 -- two leaves together

@@ -2,7 +2,7 @@
 ghost use Rattle.std.specs.Prelude.{◌≤◌, is_some, slice_index, IfOk};
 ghost use Rattle.nk_topo.specs.Topology.{is_port, link_from};
 ghost use Rattle.nk_store.specs.Held.{Grows};
-ghost use Rattle.nk_algebra.specs.Predicates.{IsPredicate};
+ghost use Rattle.nk_apply.specs.Predicates.{IsPredicate};
 ghost use Rattle.nk_places.specs.PacketSets.{IsSetInRange};
 ghost use Rattle.nk_places.specs.Edges.{is_start, is_no_edge};
 

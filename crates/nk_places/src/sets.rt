@@ -1,10 +1,10 @@
 //! Sets of packets as diagrams: where packets are.
 ghost use Rattle.std.specs.Prelude.{◌≡◌, ◌≤◌, ◌<◌, ℕ, ◌==◌, ◌&&◌, not, slice_index, slice_index_or, length, IfOk};
 ghost use Rattle.nk_store.specs.Held.{IsId, Grows, look};
-ghost use Rattle.nk_algebra.specs.Predicates.{IsPredicate};
+ghost use Rattle.nk_apply.specs.Predicates.{IsPredicate};
 ghost use Rattle.nk_places.specs.PacketSets.{has_out, IsSetInRange, is_at, is_at_place};
 
-use nk_algebra::{both, negate, test, union_all};
+use nk_apply::{both, negate, test, union_all};
 use nk_field::{Fid, List};
 use nk_store::{Id, Store};
 use std::alloc::AllocError;

@@ -8,7 +8,7 @@ use Rattle.nk_field.specs.Act.{applied}
 use Rattle.nk_field.specs.Order.{Precedes}
 use Rattle.nk_store.specs.declared.node.Out.{Out}
 use Rattle.nk_store.specs.Held.{Held, IsWhole, IsPacket, look, Grows}
-use Rattle.nk_algebra.specs.Seqs.{no_out}
+use Rattle.nk_apply.specs.Seqs.{no_out}
 use Rattle.nk_sets.specs.PacketSets.{has_out, is_in, IsLeast}
 use Rattle.nk_determ.specs.Sets.{SetsGrow, HasEachSetOnce}
 use Rattle.nk_reach.specs.Reach.{Reach}

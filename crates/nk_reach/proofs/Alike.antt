@@ -10,9 +10,9 @@ use Rattle.std.proofs.lemmas.Bool.Decides.{eqb_tells}
 use Rattle.nk_store.specs.declared.node.Out.{Out}
 use Rattle.nk_store.specs.Leaves.{Strict}
 use Rattle.nk_store.specs.Held.{Held, IsId, look, AreTidy}
-use Rattle.nk_algebra.specs.Unions.{AreIds, unions}
-use Rattle.nk_algebra.proofs.Sorted.{merged_strict}
-use Rattle.nk_algebra.proofs.Members.{Has, merged_left, merged_right, merged_has, strict_same}
+use Rattle.nk_apply.specs.Unions.{AreIds, unions}
+use Rattle.nk_apply.proofs.Sorted.{merged_strict}
+use Rattle.nk_apply.proofs.Members.{Has, merged_left, merged_right, merged_has, strict_same}
 use Rattle.nk_reach.proofs.Kept.{get_or_same}
 
 -- numbers that were sorted and whose doubles were dropped are the same ones

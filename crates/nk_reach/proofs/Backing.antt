@@ -5,8 +5,8 @@ use Rattle.std.proofs.lemmas.List.{get_or_default}
 use Rattle.nk_store.specs.declared.node.Out.{Out}
 use Rattle.nk_store.specs.Held.{Held, IsPacket, HasLeaves, look, Grows}
 use Rattle.nk_store.proofs.Stores.{grows_on}
-use Rattle.nk_algebra.specs.Leaves.{guarded}
-use Rattle.nk_algebra.specs.Predicates.{IsPass, IsPredicate}
+use Rattle.nk_apply.specs.Leaves.{guarded}
+use Rattle.nk_apply.specs.Predicates.{IsPass, IsPredicate}
 use Rattle.nk_sets.specs.PacketSets.{has_out, is_in, IsSet}
 use Rattle.nk_sets.proofs.SetLemmas.{guarded_out, both_pass, pass_both}
 use Rattle.nk_determ.specs.Sets.{SetsGrow}

@@ -2,7 +2,7 @@
 use Rattle.std.proofs.Common.{◌≡◌, ℕ, ◌<◌, ◌+◌, true, false, inl, inr, refl, sym, ◌∙◌, ap, subst, arith, List, [], ◌∷◌, length, get_or}
 use Rattle.nk_store.specs.declared.node.Out.{Out}
 use Rattle.nk_store.specs.Held.{Held, IsId, IsWhole, IsPacket, look, Grows, HasLeaves}
-use Rattle.nk_algebra.specs.Leaves.{guarded}
+use Rattle.nk_apply.specs.Leaves.{guarded}
 use Rattle.nk_sets.specs.PacketSets.{has_out, is_in, IsSet}
 use Rattle.nk_reach.specs.Goals.{MeetsBad, MeetsNone, PairBad, PairNone}
 use Rattle.std.proofs.lemmas.Bool.Decides.{eqb_tells}

@@ -8,10 +8,10 @@ use Rattle.nk_store.specs.Leaves.{Suits}
 use Rattle.nk_store.specs.Held.{Held, IsId, IsPacket, look, top, Grows, HasLeaves, IsLeaf}
 use Rattle.nk_store.proofs.Stores.{grows_on}
 use Rattle.nk_store.proofs.Ordered.{every_member}
-use Rattle.nk_algebra.specs.Seqs.{no_out}
-use Rattle.nk_algebra.specs.Subs.{IsPart, IsSplit}
-use Rattle.nk_algebra.specs.Predicates.{IsPredicate}
-use Rattle.nk_algebra.proofs.Built.{part_old}
+use Rattle.nk_apply.specs.Seqs.{no_out}
+use Rattle.nk_apply.specs.Subs.{IsPart, IsSplit}
+use Rattle.nk_apply.specs.Predicates.{IsPredicate}
+use Rattle.nk_apply.proofs.Built.{part_old}
 use Rattle.nk_sets.specs.PacketSets.{has_out, is_in}
 use Rattle.nk_reach.specs.declared.groups.Stretch.{Stretch}
 use Rattle.nk_reach.specs.declared.outs.Given.{Given}

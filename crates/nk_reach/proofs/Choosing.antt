@@ -10,8 +10,8 @@ use Rattle.std.proofs.lemmas.List.{get_or_default}
 use Rattle.nk_field.specs.Act.{applied}
 use Rattle.nk_field.specs.Order.{Precedes}
 use Rattle.nk_store.specs.declared.node.Out.{Out}
-use Rattle.nk_algebra.specs.Seqs.{no_out}
-use Rattle.nk_algebra.proofs.Predicates.{whole_applied}
+use Rattle.nk_apply.specs.Seqs.{no_out}
+use Rattle.nk_apply.proofs.Predicates.{whole_applied}
 use Rattle.nk_reach.specs.declared.choice.Choice.{Choice}
 use Rattle.nk_reach.specs.Choices.{IsChoiceUpTo, IsBest, IsBestSoFar, IsLesser}
 

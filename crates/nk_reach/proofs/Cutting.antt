@@ -2,7 +2,7 @@
 use Rattle.std.proofs.Common.{◌≡◌, ℕ, ◌<◌, true, refl, sym, ◌∙◌, ap, subst, arith, List, [], ◌∷◌, length, get_or, Contains}
 use Rattle.nk_store.specs.declared.node.Out.{Out}
 use Rattle.nk_store.specs.Held.{Held, IsId, IsWhole, IsPacket, look, Grows, HasLeaves}
-use Rattle.nk_algebra.specs.Leaves.{guarded}
+use Rattle.nk_apply.specs.Leaves.{guarded}
 use Rattle.nk_sets.specs.PacketSets.{has_out}
 use Rattle.nk_determ.specs.Sets.{HasAscendingSets}
 use Rattle.nk_determ.specs.Exact.{Sends}

@@ -2,8 +2,8 @@
 use Rattle.std.proofs.Common.{◌≡◌, ℕ, suc, zero, ◌<◌, ◌≤◌, ◌+◌, inl, inr, refl, sym, ap, subst, arith, List, [], ◌∷◌, ◌++◌, length, get_or}
 use Rattle.std.proofs.lemmas.Bool.Decides.{eqb_tells}
 use Rattle.std.specs.List.Sorted.{IsStrictlyIncreasing}
-use Rattle.nk_algebra.proofs.Members.{Has as Among}
-use Rattle.nk_algebra.proofs.Members.{has_contains}
+use Rattle.nk_apply.proofs.Members.{Has as Among}
+use Rattle.nk_apply.proofs.Members.{has_contains}
 use Rattle.nk_reach.specs.Pairs.{Node, HavePlaces}
 use Rattle.nk_reach.proofs.Growing.{place_of}
 use Rattle.nk_reach.proofs.Rising.{RisesFrom, rises_from}

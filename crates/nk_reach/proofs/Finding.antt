@@ -5,7 +5,7 @@ use Rattle.nk_field.specs.Act.{applied}
 use Rattle.nk_field.specs.Order.{Found, Precedes, AllPrecede, IsLeast}
 use Rattle.nk_store.specs.declared.node.Out.{Out}
 use Rattle.nk_store.specs.Held.{Held}
-use Rattle.nk_algebra.specs.Seqs.{no_out}
+use Rattle.nk_apply.specs.Seqs.{no_out}
 use Rattle.nk_reach.specs.Pairs.{Node, IsStep}
 use Rattle.nk_reach.specs.Levels.{Bad, AreLevels}
 use Rattle.nk_reach.specs.Sides.{MakesWithTarget}

@@ -3,7 +3,7 @@ use Rattle.std.proofs.Common.{◌≡◌, ℕ, suc, zero, ◌<◌, ◌≤◌, ◌
 use Rattle.nk_store.specs.declared.node.Out.{Out}
 use Rattle.nk_store.specs.Held.{Held, Grows}
 use Rattle.nk_store.proofs.Stores.{grows_on}
-use Rattle.nk_algebra.proofs.Members.{Has as Among}
+use Rattle.nk_apply.proofs.Members.{Has as Among}
 use Rattle.nk_determ.specs.Sets.{SetsGrow}
 use Rattle.nk_determ.proofs.Interned.{sets_on}
 use Rattle.nk_reach.specs.Reach.{Exact}

@@ -3,7 +3,7 @@ use Rattle.std.proofs.Common.{◌≡◌, ℕ, inl, refl, sym, ◌∙◌, ap, sub
 use Rattle.nk_store.specs.declared.node.Out.{Out}
 use Rattle.nk_store.specs.Leaves.{Strict}
 use Rattle.nk_store.specs.Held.{Held, look, HasLeaves}
-use Rattle.nk_algebra.proofs.Members.{Has, gathered_has, has_gathered, gathered_strict, strict_same}
+use Rattle.nk_apply.proofs.Members.{Has, gathered_has, has_gathered, gathered_strict, strict_same}
 use Rattle.nk_determ.specs.Exact.{exact, exact_out, split_leaf}
 use Rattle.nk_determ.specs.Targets.{option_out, out_by_table, retargeted}
 use Rattle.nk_reach.specs.Sides.{marked}

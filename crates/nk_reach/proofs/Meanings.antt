@@ -9,8 +9,8 @@ use Rattle.nk_store.specs.contracts.node.OutPartialEq.TheImpl.{ghosts}
 use Rattle.nk_store.specs.Leaves.{Suits, IsActFrom}
 use Rattle.nk_store.specs.Held.{Held, IsPacket, look, AreTidy}
 use Rattle.nk_store.proofs.NodeEq.{out_decides}
-use Rattle.nk_algebra.specs.Leaves.{merged}
-use Rattle.nk_algebra.proofs.Members.{Has, has_contains, contains_has, every_has, merged_left, merged_right, merged_has, gathered_has, has_gathered}
+use Rattle.nk_apply.specs.Leaves.{merged}
+use Rattle.nk_apply.proofs.Members.{Has, has_contains, contains_has, every_has, merged_left, merged_right, merged_has, gathered_has, has_gathered}
 use Rattle.nk_determ.specs.Exact.{exact, exact_out, split_leaf, IsExact, Sends}
 use Rattle.nk_determ.specs.Targets.{out_by_table, retargeted}
 use Rattle.nk_determ.proofs.Exacts.{exact_acts}

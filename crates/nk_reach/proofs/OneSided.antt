@@ -9,10 +9,10 @@ use Rattle.nk_determ.specs.Targets.{retargeted}
 use Rattle.nk_store.specs.declared.node.Out.{Out}
 use Rattle.nk_store.specs.Leaves.{Every, Strict, Suits, AreOrdered}
 use Rattle.nk_store.specs.Held.{Held, IsId, look, Grows, HasLeaves}
-use Rattle.nk_algebra.specs.Leaves.{merged}
-use Rattle.nk_algebra.specs.Unions.{AreIds, unions}
-use Rattle.nk_algebra.proofs.Members.{gathered_every}
-use Rattle.nk_algebra.proofs.Gathers.{flat_ordered}
+use Rattle.nk_apply.specs.Leaves.{merged}
+use Rattle.nk_apply.specs.Unions.{AreIds, unions}
+use Rattle.nk_apply.proofs.Members.{gathered_every}
+use Rattle.nk_apply.proofs.Gathers.{flat_ordered}
 use Rattle.nk_reach.specs.Pairs.{HavePlaces}
 use Rattle.nk_reach.specs.Sides.{alone_out, alone, ends_of, IsAloneOf, AreAloneOf, IsGoalOf, alone_on, marked, IsMarkedOf, AreMarkedOf, mark_of, AreMarked}
 

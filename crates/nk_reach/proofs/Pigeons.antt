@@ -1,6 +1,6 @@
 -- Things that differ, all in one list, are no more than it has.
 use Rattle.std.proofs.Common.{◌≡◌, ◌≤◌, ◌+◌, inl, inr, refl, sym, ◌∙◌, subst, arith, List, [], ◌∷◌, length}
-use Rattle.nk_algebra.proofs.Members.{Has as Among}
+use Rattle.nk_apply.proofs.Members.{Has as Among}
 
 -- no item stands twice
 abbrev pub Apart : {A : Type 0} → List A → Type 0

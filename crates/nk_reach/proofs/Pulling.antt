@@ -5,8 +5,8 @@ use Rattle.nk_field.specs.Act.{applied}
 use Rattle.nk_store.specs.declared.node.Out.{Out}
 use Rattle.nk_store.specs.Held.{Held, HasLeaves, look, Grows}
 use Rattle.nk_store.proofs.Stores.{grows_on}
-use Rattle.nk_algebra.specs.Leaves.{guarded, merged}
-use Rattle.nk_algebra.specs.Predicates.{IsPredicate}
+use Rattle.nk_apply.specs.Leaves.{guarded, merged}
+use Rattle.nk_apply.specs.Predicates.{IsPredicate}
 use Rattle.nk_sets.specs.PacketSets.{has_out, is_in, IsSet, IsPacketSetOf}
 use Rattle.nk_sets.proofs.SetLemmas.{guarded_out, merged_out, both_pass, pass_both, predicate_grows}
 use Rattle.nk_determ.specs.Sets.{SetsGrow, HasEachSetOnce}

@@ -1,7 +1,7 @@
 -- Lists of numbers that rise strictly.
 use Rattle.std.proofs.Common.{◌≡◌, ℕ, suc, ◌<◌, ◌≤◌, ◌+◌, inl, inr, refl, sym, subst, arith, List, [], ◌∷◌, length, get_or, Contains}
 use Rattle.std.specs.List.Sorted.{IsStrictlyIncreasing}
-use Rattle.nk_algebra.proofs.Members.{Has as Among, has_contains, contains_has}
+use Rattle.nk_apply.proofs.Members.{Has as Among, has_contains, contains_has}
 
 -- the numbers rise strictly, from low on
 abbrev pub RisesFrom : ℕ → List ℕ → Type 0

@@ -4,7 +4,7 @@ use Rattle.std.proofs.lemmas.Bool.Decides.{eqb_tells}
 use Rattle.nk_store.specs.declared.node.Out.{Out}
 use Rattle.nk_store.specs.Held.{Held, IsPacket, Grows}
 use Rattle.nk_store.proofs.Stores.{grows_on, grows_same}
-use Rattle.nk_algebra.proofs.Members.{Has as Among}
+use Rattle.nk_apply.proofs.Members.{Has as Among}
 use Rattle.nk_sets.specs.PacketSets.{IsSet}
 use Rattle.nk_determ.specs.Sets.{SetsGrow}
 use Rattle.nk_reach.specs.Pairs.{Node, EachPair, Within, AreStates, HavePlaces, ArePairs, IsStart, IsStep, IsGood}

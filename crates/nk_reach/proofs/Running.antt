@@ -5,9 +5,9 @@ use Rattle.nk_store.specs.declared.node.Out.{Out}
 use Rattle.nk_store.specs.Nodes.{child_at, Each, Rises}
 use Rattle.nk_store.specs.Held.{Held, IsWhole, IsChild, HasLeaves, look, top}
 use Rattle.nk_store.proofs.Looks.{each_child}
-use Rattle.nk_algebra.specs.Predicates.{IsPass, IsPredicate}
-use Rattle.nk_algebra.proofs.Built.{Ends, ends_push, ends_rise, each_push, child_old, child_new}
-use Rattle.nk_algebra.proofs.PartSums.{rising_some}
+use Rattle.nk_apply.specs.Predicates.{IsPass, IsPredicate}
+use Rattle.nk_apply.proofs.Built.{Ends, ends_push, ends_rise, each_push, child_old, child_new}
+use Rattle.nk_apply.proofs.PartSums.{rising_some}
 use Rattle.nk_sets.specs.PacketSets.{has_out}
 use Rattle.nk_reach.specs.declared.groups.Stretch.{Stretch}
 use Rattle.nk_reach.specs.Outs.{piece, IsStretch, AreStretches, HasAt, IsNone, HaveOneOut, with_gap, with_stretch, HaveRun, IsRunOf}

@@ -9,7 +9,7 @@ use Rattle.nk_field.specs.contracts.act.ActOrd.TheImpl.{ghosts}
 use Rattle.nk_store.specs.declared.node.Out.{Out}
 use Rattle.nk_store.specs.Leaves.{out_cmp, Every, Strict, Suits}
 use Rattle.nk_store.specs.Held.{Held, IsLeaf}
-use Rattle.nk_algebra.proofs.Members.{Has, has_contains, contains_has, every_has, every_from}
+use Rattle.nk_apply.proofs.Members.{Has, has_contains, contains_has, every_has, every_from}
 use Rattle.nk_determ.specs.Sets.{SetsGrow, holds, place_in}
 use Rattle.nk_determ.proofs.Interned.{holds_grow, sets_same}
 use Rattle.nk_reach.specs.Single.{step_to, single_to, IsSingleIn, AreSteps, AreLeafSteps}

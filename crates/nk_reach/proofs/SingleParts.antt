@@ -5,9 +5,9 @@ use Rattle.std.proofs.lemmas.Bool.Decides.{leb_tells, eqb_tells}
 use Rattle.nk_store.specs.declared.node.Out.{Out}
 use Rattle.nk_store.specs.Nodes.{child_at}
 use Rattle.nk_store.specs.Held.{Held, IsId, look, top, Grows, HasLeaves}
-use Rattle.nk_algebra.specs.Subs.{sub, IsPart, IsSplit}
-use Rattle.nk_algebra.proofs.Built.{Built, part_old, built_parts, built_leaf}
-use Rattle.nk_algebra.proofs.Turned.{turned, turned_push, turned_made, turned_past}
+use Rattle.nk_apply.specs.Subs.{sub, IsPart, IsSplit}
+use Rattle.nk_apply.proofs.Built.{Built, part_old, built_parts, built_leaf}
+use Rattle.nk_apply.proofs.Turned.{turned, turned_push, turned_made, turned_past}
 use Rattle.nk_determ.specs.Sets.{SetsGrow}
 use Rattle.nk_determ.proofs.Interned.{sets_on, sets_same}
 use Rattle.nk_reach.specs.Single.{single_to, IsSingleIn, AreLeafSteps, IsSingle, AreSingle, AreSingleBy}

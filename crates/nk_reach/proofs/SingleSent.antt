@@ -4,7 +4,7 @@ use Rattle.std.specs.List.{Contains}
 use Rattle.nk_field.specs.Act.{applied}
 use Rattle.nk_store.specs.declared.node.Out.{Out}
 use Rattle.nk_store.specs.Held.{Held, IsPacket, look}
-use Rattle.nk_algebra.proofs.Members.{Has, has_contains, contains_has}
+use Rattle.nk_apply.proofs.Members.{Has, has_contains, contains_has}
 use Rattle.nk_determ.specs.Exact.{Sends}
 use Rattle.nk_determ.specs.Sets.{place_in}
 use Rattle.nk_determ.specs.States.{SomeLeads, AreLedTo}

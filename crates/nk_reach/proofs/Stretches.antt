@@ -7,8 +7,8 @@ use Rattle.std.specs.List.Sorted.{IsPermutation}
 use Rattle.nk_store.specs.declared.node.Out.{Out}
 use Rattle.nk_store.specs.Leaves.{Suits}
 use Rattle.nk_store.specs.Held.{Held, Grows}
-use Rattle.nk_algebra.specs.Seqs.{no_out}
-use Rattle.nk_algebra.proofs.Built.{child_grows}
+use Rattle.nk_apply.specs.Seqs.{no_out}
+use Rattle.nk_apply.proofs.Built.{child_grows}
 use Rattle.nk_sets.proofs.SetLemmas.{predicate_grows}
 use Rattle.nk_reach.specs.declared.groups.Stretch.{Stretch}
 use Rattle.nk_reach.specs.declared.outs.Given.{Given}

@@ -4,7 +4,7 @@ use Rattle.nk_field.specs.Act.{applied}
 use Rattle.nk_field.specs.Order.{Precedes}
 use Rattle.nk_store.specs.declared.node.Out.{Out}
 use Rattle.nk_store.specs.Held.{Held}
-use Rattle.nk_algebra.specs.Seqs.{no_out}
+use Rattle.nk_apply.specs.Seqs.{no_out}
 use Rattle.nk_reach.specs.Pairs.{Under}
 use Rattle.nk_reach.specs.declared.choice.Choice.{Choice}
 

@@ -5,8 +5,8 @@ use Rattle.nk_store.specs.declared.node.Out.{Out}
 use Rattle.nk_store.specs.Leaves.{Suits}
 use Rattle.nk_store.specs.Nodes.{child_at, Each}
 use Rattle.nk_store.specs.Held.{Held, IsId, IsWhole, IsPacket, IsChild, HasLeaves, AreParts, look, top}
-use Rattle.nk_algebra.specs.Seqs.{no_out}
-use Rattle.nk_algebra.specs.Predicates.{IsPredicate}
+use Rattle.nk_apply.specs.Seqs.{no_out}
+use Rattle.nk_apply.specs.Predicates.{IsPredicate}
 use Rattle.nk_sets.specs.PacketSets.{is_in, IsSet}
 use Rattle.nk_reach.specs.declared.groups.Stretch.{Stretch}
 use Rattle.nk_reach.specs.declared.outs.Given.{Given}

@@ -10,9 +10,9 @@ use Rattle.std.proofs.lemmas.List.Elements.{All-head, All-tail}
 use Rattle.nk_store.specs.declared.node.Out.{Out}
 use Rattle.nk_store.specs.contracts.node.OutPartialEq.TheImpl.{ghosts}
 use Rattle.nk_store.specs.Held.{Held, IsId, look, Grows, HasLeaves}
-use Rattle.nk_algebra.specs.Leaves.{merged, gathered}
-use Rattle.nk_algebra.specs.Unions.{AreIds}
-use Rattle.nk_algebra.proofs.Members.{Has, contains_has, has_gathered}
+use Rattle.nk_apply.specs.Leaves.{merged, gathered}
+use Rattle.nk_apply.specs.Unions.{AreIds}
+use Rattle.nk_apply.proofs.Members.{Has, contains_has, has_gathered}
 use Rattle.nk_determ.specs.Exact.{split_leaf, Sends}
 use Rattle.nk_determ.specs.Targets.{retargeted}
 use Rattle.nk_reach.specs.Pairs.{HavePlaces}

@@ -5,7 +5,7 @@ use Rattle.nk_store.specs.declared.node.Out.{Out}
 use Rattle.nk_store.specs.Leaves.{Strict, Every, Suits}
 use Rattle.nk_store.specs.Nodes.{child_at}
 use Rattle.nk_store.specs.Held.{Held, IsId, IsWhole, look, top, HasLeaves, AreParts}
-use Rattle.nk_algebra.specs.Subs.{sub}
+use Rattle.nk_apply.specs.Subs.{sub}
 use Rattle.nk_determ.specs.Sets.{SetsGrow, holds, place_in}
 
 -- the out to that target, unless it is a final

@@ -7,7 +7,7 @@ ghost use Rattle.nk_reach.specs.Pairs.{Once};
 ghost use Rattle.nk_reach.specs.Rounds.{HaveSets, IsJoined, IsAdded, IsRest, IsMerged};
 
 use indexmap::IndexMap;
-use nk_algebra::union;
+use nk_apply::union;
 use nk_determ::SetId;
 use nk_field::List;
 use nk_sets::minus;

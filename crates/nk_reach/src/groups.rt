@@ -4,7 +4,7 @@ ghost use Rattle.nk_store.specs.Held.{Grows};
 ghost use Rattle.nk_reach.specs.Outs.{IsByOut, AreStretches, AreOfDiagram, AreUnited, IsRunOf, HaveRun, IsNone, piece, with_stretch};
 
 use crate::outs::Given;
-use nk_algebra::empty;
+use nk_apply::empty;
 use nk_field::{Fid, List};
 use nk_store::{Id, Out, Store};
 use std::alloc::AllocError;

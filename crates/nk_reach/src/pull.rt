@@ -13,7 +13,7 @@ use crate::local::state_at;
 use crate::outs::{Given, by_out};
 use crate::standing::Entries;
 use indexmap::IndexMap;
-use nk_algebra::{both, empty, union};
+use nk_apply::{both, empty, union};
 use nk_determ::{SetId, Sets};
 use nk_field::List;
 use nk_sets::preimage;

@@ -4,13 +4,13 @@ ghost use Rattle.std.specs.List.Sorted.{IsStrictlyIncreasing};
 ghost use Rattle.std.specs.Map.{lookup};
 ghost use Rattle.std.proofs.Common.{ap};
 ghost use Rattle.nk_store.specs.Held.{IsId, IsPacket, look, Grows, HasLeaves};
-ghost use Rattle.nk_algebra.specs.Unions.{AreIds};
-ghost use Rattle.nk_algebra.specs.Leaves.{merged};
+ghost use Rattle.nk_apply.specs.Unions.{AreIds};
+ghost use Rattle.nk_apply.specs.Leaves.{merged};
 ghost use Rattle.nk_reach.specs.Pairs.{HavePlaces};
 ghost use Rattle.nk_reach.specs.Sides.{alone_out, alone, ends_of, ends_same, alone_sided, twin, marked, mark_of, AreMarked, AreMarkedOf, AreAloneOf, IsGoalOf, goal_on, AreOneSided};
 
 use crate::goal::Goal;
-use nk_algebra::{LeafMap, map_leaves, union, union_all};
+use nk_apply::{LeafMap, map_leaves, union, union_all};
 use nk_determ::{SetId, Sets, retarget, split};
 use nk_field::List;
 use nk_store::{Id, Out, Store};

@@ -2,13 +2,13 @@
 ghost use Rattle.std.specs.Prelude.{◌≡◌, ℕ, ◌+◌, ◌<◌, ◌≤◌, ◌++◌, ◌||◌, true, eqb, [], ◌∷◌, List as Items, IfOk, IfSome, OnOk};
 ghost use Rattle.std.specs.List.{flat_map, list_all};
 ghost use Rattle.nk_store.specs.Held.{IsId, IsPacket, top, Grows};
-ghost use Rattle.nk_algebra.specs.Subs.{IsSplit};
+ghost use Rattle.nk_apply.specs.Subs.{IsSplit};
 ghost use Rattle.nk_determ.specs.Exact.{Sends};
 ghost use Rattle.nk_determ.specs.Sets.{SetsGrow, holds, place_in};
 ghost use Rattle.nk_determ.specs.States.{SomeLeads, AreLedTo};
 ghost use Rattle.nk_reach.specs.Single.{step_to, first_label, AreSteps, AreLeafSteps, IsSingle, AreSingle, AreSingleBy};
 
-use nk_algebra::{known, part_near, tested};
+use nk_apply::{known, part_near, tested};
 use nk_determ::Sets;
 use nk_field::{Fid, List};
 use nk_store::{Id, Node, Out, Store};

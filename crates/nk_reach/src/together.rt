@@ -1,7 +1,7 @@
 //! The steps of diagrams together.
 ghost use Rattle.std.specs.Prelude.{ℕ, ◌+◌, ◌<◌, List as Items, IfOk, IfSome};
 ghost use Rattle.nk_store.specs.Held.{IsId, IsPacket, Grows};
-ghost use Rattle.nk_algebra.specs.Unions.{AreIds};
+ghost use Rattle.nk_apply.specs.Unions.{AreIds};
 ghost use Rattle.nk_determ.specs.Exact.{Sends};
 ghost use Rattle.nk_determ.specs.Sets.{SetsGrow};
 ghost use Rattle.nk_determ.specs.States.{SomeLeads, AreLedTo};

@@ -4,7 +4,7 @@ use Rattle.nk_field.specs.declared.packet.Packet.{Packet}
 use Rattle.nk_policy.specs.Policy.{Policy}
 use Rattle.nk_policy.specs.Labels.{IsLabelSet}
 use Rattle.nk_store.specs.Held.{Held, IsPacket}
-use Rattle.nk_algebra.specs.PacketSets.{is_in}
+use Rattle.nk_apply.specs.PacketSets.{is_in}
 use Rattle.nk_determ.specs.Pairs.{Node}
 
 -- a packet of the fields, in the set

@@ -5,8 +5,8 @@ use Rattle.nk_store.specs.Nodes.{child_at, Each}
 use Rattle.nk_store.specs.Held.{Held, IsId, look, top, IsWhole, IsChild, IsCase, IsStill, IsReduced}
 use Rattle.nk_store.proofs.Children.{each_value}
 use Rattle.nk_store.proofs.Looks.{each_child, joined_some}
-use Rattle.nk_algebra.specs.Predicates.{IsPass}
-use Rattle.nk_algebra.proofs.Predicates.{whole_set}
+use Rattle.nk_apply.specs.Predicates.{IsPass}
+use Rattle.nk_apply.proofs.Predicates.{whole_set}
 use Rattle.std.proofs.lemmas.Bool.Decides.{nat_tests, leb_tells}
 use Rattle.nk_sets.specs.PacketSets.{IsSet}
 

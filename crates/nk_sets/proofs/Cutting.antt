@@ -1,10 +1,10 @@
 -- What a diagram does at the packets of a set, value by value of a field.
 use Rattle.std.proofs.Common.{◌≡◌, ℕ, ◌+◌, ◌≤◌, min, List, [], ◌∷◌, ◌++◌, inl, inr, sym, ◌∙◌, ap, arith, get_or}
 use Rattle.nk_store.specs.Held.{Held, IsId, look, top, Grows, HasLeaves}
-use Rattle.nk_algebra.specs.Leaves.{guarded}
-use Rattle.nk_algebra.specs.Subs.{sub, IsPart, IsFirst}
-use Rattle.nk_algebra.proofs.Built.{Built, built_push, part_old}
-use Rattle.nk_algebra.proofs.Merges.{pair_at, pair_push}
+use Rattle.nk_apply.specs.Leaves.{guarded}
+use Rattle.nk_apply.specs.Subs.{sub, IsPart, IsFirst}
+use Rattle.nk_apply.proofs.Built.{Built, built_push, part_old}
+use Rattle.nk_apply.proofs.Merges.{pair_at, pair_push}
 use Rattle.nk_sets.specs.Cuts.{IsEnd}
 
 -- one part more of what is cut

@@ -7,10 +7,10 @@ use Rattle.nk_store.specs.Nodes.{child_at, Rises, Each}
 use Rattle.nk_store.specs.Held.{Held, IsId, look, top, IsWhole, Grows, HasLeaves, IsChild, AreParts, IsCase, IsStill, IsReduced}
 use Rattle.nk_store.proofs.Looks.{each_child, joined_some}
 use Rattle.nk_store.proofs.Same.{child-first, child-rest}
-use Rattle.nk_algebra.specs.Seqs.{no_out}
-use Rattle.nk_algebra.specs.Leaves.{merged}
-use Rattle.nk_algebra.specs.Unions.{AreIds, unions}
-use Rattle.nk_algebra.proofs.Predicates.{whole_set, pass_all}
+use Rattle.nk_apply.specs.Seqs.{no_out}
+use Rattle.nk_apply.specs.Leaves.{merged}
+use Rattle.nk_apply.specs.Unions.{AreIds, unions}
+use Rattle.nk_apply.proofs.Predicates.{whole_set, pass_all}
 use Rattle.nk_sets.specs.PacketSets.{has_out, is_in, IsSet}
 use Rattle.nk_sets.specs.Forgets.{some_value, is_in_for_some, forgotten, IsForgotten, AreForgotten}
 use Rattle.nk_sets.proofs.Cases.{look_at, case_sets, later_by}

@@ -9,10 +9,10 @@ use Rattle.nk_store.specs.Leaves.{IsActFrom}
 use Rattle.nk_store.specs.Nodes.{InRange}
 use Rattle.nk_store.specs.Held.{Held, look, IsWhole, Grows, HasLeaves}
 use Rattle.nk_store.proofs.Same.{set_in_range}
-use Rattle.nk_algebra.specs.Leaves.{guarded}
-use Rattle.nk_algebra.specs.Seqs.{no_out}
-use Rattle.nk_algebra.specs.Predicates.{IsPass, IsPredicate}
-use Rattle.nk_algebra.proofs.Predicates.{predicate_by, pass_cond, whole_set, whole_applied}
+use Rattle.nk_apply.specs.Leaves.{guarded}
+use Rattle.nk_apply.specs.Seqs.{no_out}
+use Rattle.nk_apply.specs.Predicates.{IsPass, IsPredicate}
+use Rattle.nk_apply.proofs.Predicates.{predicate_by, pass_cond, whole_set, whole_applied}
 use Rattle.nk_sets.specs.PacketSets.{has_out, is_in, IsSet, IsPacketSetOf, IsImage}
 use Rattle.nk_sets.specs.Forgets.{is_in_for_some, forgotten, IsForgotten}
 use Rattle.nk_sets.specs.Images.{Omits, SameBeside, IsFree, are_assigned}

@@ -8,7 +8,7 @@ use Rattle.nk_store.specs.Nodes.{child_at, Rises}
 use Rattle.nk_store.specs.Held.{Held, IsId, look, top, IsWhole, IsChild, IsCase, IsLeaf, IsStill}
 use Rattle.nk_store.proofs.Looks.{each_child, joined_some}
 use Rattle.nk_store.proofs.Same.{child-first, child-rest, set_in_range, zero_in_range}
-use Rattle.nk_algebra.proofs.Parts.{child_past}
+use Rattle.nk_apply.proofs.Parts.{child_past}
 use Rattle.nk_sets.specs.PacketSets.{has_out, is_in, IsLeast}
 use Rattle.nk_sets.proofs.Cases.{look_at}
 

@@ -11,9 +11,9 @@ use Rattle.nk_store.specs.Held.{Held, IsId, node_of, look, IsPacket, Grows}
 use Rattle.nk_store.proofs.Looks.{look_leaf, fits_at}
 use Rattle.nk_store.proofs.Same.{child-first, child-rest, set_in_range, zero_in_range, look_child, node_once}
 use Rattle.nk_store.specs.Leaves.{out_cmp}
-use Rattle.nk_algebra.specs.Leaves.{weave, merged, guarded, absent, by_order}
-use Rattle.nk_algebra.specs.Seqs.{no_out}
-use Rattle.nk_algebra.specs.Predicates.{IsPass, IsPredicate}
+use Rattle.nk_apply.specs.Leaves.{weave, merged, guarded, absent, by_order}
+use Rattle.nk_apply.specs.Seqs.{no_out}
+use Rattle.nk_apply.specs.Predicates.{IsPass, IsPredicate}
 use Rattle.nk_sets.specs.PacketSets.{has_out, is_in, IsSet}
 
 -- the packets of a set that are in another

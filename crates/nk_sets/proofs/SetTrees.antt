@@ -12,7 +12,7 @@ use Rattle.nk_store.specs.Intervals.{same_tree, same_trees}
 use Rattle.nk_store.proofs.Looks.{fits_at}
 use Rattle.nk_store.proofs.Same.{same_number}
 use Rattle.nk_store.proofs.Children.{each_of}
-use Rattle.nk_algebra.specs.Seqs.{no_out}
+use Rattle.nk_apply.specs.Seqs.{no_out}
 use Rattle.nk_sets.specs.PacketSets.{has_out, IsSet}
 use Rattle.nk_sets.specs.Predicate.{SetTree, same_outs}
 use Rattle.nk_store.specs.Trees.{branches_of, tree_in}

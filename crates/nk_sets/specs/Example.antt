@@ -2,7 +2,7 @@
 use Rattle.std.specs.Prelude.{◌≡◌, [], ◌∷◌}
 use Rattle.nk_policy.specs.Policy.{test, range, sum_of, seq_of, not_of, no_part, part}
 use Rattle.nk_store.specs.Diagram.{leaf, case, no_branch, branch}
-use Rattle.nk_algebra.specs.Seqs.{no_out}
+use Rattle.nk_apply.specs.Seqs.{no_out}
 use Rattle.nk_sets.specs.Predicate.{SetTree, predicate_of}
 
 -- all packets

@@ -3,7 +3,7 @@ use Rattle.std.specs.Prelude.{◌≡◌, ℕ, zero, suc, ◌≤◌, ◌||◌, eq
 use Rattle.std.specs.Map.{lookup}
 use Rattle.nk_store.specs.declared.node.Out.{Out}
 use Rattle.nk_store.specs.Held.{Held, top, HasLeaves}
-use Rattle.nk_algebra.specs.Seqs.{no_out}
+use Rattle.nk_apply.specs.Seqs.{no_out}
 use Rattle.nk_sets.specs.PacketSets.{is_in, IsSet}
 
 -- whether a value up to the highest passes the test

@@ -1,5 +1,5 @@
 -- Sets of packets by a test, images of sets, and least packets.
-pub use Rattle.nk_algebra.specs.PacketSets.{has_out, is_in, IsSet}
+pub use Rattle.nk_apply.specs.PacketSets.{has_out, is_in, IsSet}
 use Rattle.std.specs.Prelude.{◌≡◌, ℕ, ◌⊎◌, Bool, true, List}
 use Rattle.nk_field.specs.Act.{applied}
 use Rattle.nk_field.specs.Order.{Precedes}

@@ -2,11 +2,11 @@
 ghost use Rattle.std.specs.Prelude.{◌≡◌, ℕ, ◌≤◌, min, IfOk, IfSome, List as Items};
 ghost use Rattle.nk_store.specs.Nodes.{child_at};
 ghost use Rattle.nk_store.specs.Held.{IsId, IsWhole, look, top, Grows, HasLeaves, AreParts};
-ghost use Rattle.nk_algebra.specs.Leaves.{guarded};
-ghost use Rattle.nk_algebra.specs.Subs.{sub, IsFirst};
+ghost use Rattle.nk_apply.specs.Leaves.{guarded};
+ghost use Rattle.nk_apply.specs.Subs.{sub, IsFirst};
 ghost use Rattle.nk_sets.specs.Cuts.{IsEnd};
 
-use nk_algebra::{first_field, part_near};
+use nk_apply::{first_field, part_near};
 use nk_field::{Fid, List};
 use nk_store::{Id, Node, Operation, Store};
 use std::alloc::AllocError;

@@ -3,7 +3,7 @@ ghost use Rattle.std.specs.Prelude.{◌&&◌, not, IfOk};
 ghost use Rattle.nk_store.specs.Held.{IsId, Grows};
 ghost use Rattle.nk_sets.specs.PacketSets.{is_in, IsSet, IsPacketSetOf};
 
-use nk_algebra::{both, negate};
+use nk_apply::{both, negate};
 use nk_store::{Id, Store};
 use std::alloc::AllocError;
 

@@ -4,7 +4,7 @@ ghost use Rattle.nk_store.specs.Held.{IsId, IsStill, IsCase, Grows, top};
 ghost use Rattle.nk_sets.specs.PacketSets.{IsSet};
 ghost use Rattle.nk_sets.specs.Forgets.{IsForgotten, AreForgotten};
 
-use nk_algebra::{known, union_all};
+use nk_apply::{known, union_all};
 use nk_field::{Fid, List};
 use nk_store::{Id, Node, Store};
 use std::alloc::{AllocError, Global};

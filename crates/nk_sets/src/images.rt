@@ -7,7 +7,7 @@ ghost use Rattle.nk_sets.specs.PacketSets.{is_in, IsSet, IsPacketSetOf, IsImage}
 ghost use Rattle.nk_sets.specs.Images.{IsFree, are_assigned};
 
 use crate::forgets::forget;
-use nk_algebra::{both, shift, test};
+use nk_apply::{both, shift, test};
 use nk_field::Act;
 use nk_store::{Id, Store};
 use std::alloc::AllocError;

@@ -6,14 +6,14 @@ use Rattle.nk_store.specs.declared.node.Out.{Out}
 use Rattle.nk_store.specs.Leaves.{Strict, Suits}
 use Rattle.nk_store.specs.Held.{Held, IsId, IsWhole, look, Grows, HasLeaves, AreTidy, Agree}
 use Rattle.nk_store.specs.Operations.{has_out, lacking}
-use Rattle.nk_algebra.specs.Leaves.{merged}
-use Rattle.nk_algebra.specs.Seqs.{seq_leaf}
-use Rattle.nk_algebra.specs.Predicates.{Ends}
-use Rattle.nk_algebra.specs.Unions.{AreIds, unions}
-use Rattle.nk_algebra.proofs.Sorted.{merged_strict}
-use Rattle.nk_algebra.proofs.Members.{Has, every_from, merged_left, merged_right, merged_has, strict_same}
-use Rattle.nk_algebra.proofs.Unite.{merged_assoc, unions_halves}
-use Rattle.nk_algebra.proofs.Weaves.{merged-nil}
+use Rattle.nk_apply.specs.Leaves.{merged}
+use Rattle.nk_apply.specs.Seqs.{seq_leaf}
+use Rattle.nk_apply.specs.Predicates.{Ends}
+use Rattle.nk_apply.specs.Unions.{AreIds, unions}
+use Rattle.nk_apply.proofs.Sorted.{merged_strict}
+use Rattle.nk_apply.proofs.Members.{Has, every_from, merged_left, merged_right, merged_has, strict_same}
+use Rattle.nk_apply.proofs.Unite.{merged_assoc, unions_halves}
+use Rattle.nk_apply.proofs.Weaves.{merged-nil}
 use Rattle.nk_star.specs.Steps.{rounds, IsLastRound, AreTogether}
 use Rattle.nk_star.proofs.Lacks.{found_has, has_found, lacking_has, has_lacking}
 use Rattle.nk_star.proofs.Room.{room, leaf_room}

@@ -11,8 +11,8 @@ use Rattle.nk_store.specs.Leaves.{out_cmp, Every, Strict}
 use Rattle.nk_store.specs.Held.{Held, IsId, look, HasLeaves}
 use Rattle.nk_store.proofs.NodeEq.{out_decides}
 use Rattle.nk_algebra.proofs.Acts.{every_at}
-use Rattle.nk_algebra.proofs.Sorted.{out_order}
-use Rattle.nk_algebra.proofs.Members.{Has, has_contains, contains_has, tied_same, not_before_itself}
+use Rattle.nk_apply.proofs.Sorted.{out_order}
+use Rattle.nk_apply.proofs.Members.{Has, has_contains, contains_has, tied_same, not_before_itself}
 use Rattle.nk_store.specs.Operations.{out_eq, has_out, lacking}
 
 -- an out that the test finds is one of the leaf's

@@ -7,9 +7,9 @@ use Rattle.nk_store.specs.Leaves.{Every, Suits, IsActFrom}
 use Rattle.nk_store.specs.Nodes.{InRange}
 use Rattle.nk_store.specs.Held.{Held, IsId, IsWhole, IsPacket, look, Grows, AreTidy}
 use Rattle.nk_store.proofs.Same.{set_in_range}
-use Rattle.nk_algebra.specs.Predicates.{Ends}
+use Rattle.nk_apply.specs.Predicates.{Ends}
 use Rattle.nk_algebra.proofs.Acts.{then_acts}
-use Rattle.nk_algebra.proofs.Members.{contains_has, every_has}
+use Rattle.nk_apply.proofs.Members.{contains_has, every_has}
 use Rattle.nk_star.specs.Steps.{Steps, IsLastRound}
 use Rattle.nk_star.specs.Leading.{Makes, Leads}
 use Rattle.nk_star.proofs.Rounds.{last_steps}

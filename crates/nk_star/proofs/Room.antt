@@ -4,7 +4,7 @@ use Rattle.std.proofs.lemmas.Bool.Decides.{eqb_tells}
 use Rattle.nk_store.specs.declared.node.Out.{Out}
 use Rattle.nk_store.specs.Leaves.{out_cmp, Every, Strict, Suits, IsActFrom}
 use Rattle.std.specs.declared.cmp.Ordering.TheVariants.{Less}
-use Rattle.nk_algebra.proofs.Members.{Has, every_has, not_before_itself}
+use Rattle.nk_apply.proofs.Members.{Has, every_has, not_before_itself}
 
 -- the list without that member
 abbrev without : {X : Type 0} (ys : List X) (x : X) → Has ys x → List X

@@ -8,12 +8,12 @@ use Rattle.nk_store.specs.declared.node.Node.{Node}
 use Rattle.nk_store.specs.declared.node.Node.TheVariants.{Leaf, Case}
 use Rattle.nk_store.specs.Leaves.{Every, Strict}
 use Rattle.nk_store.specs.Held.{Held, IsId, IsWhole, look, top, Grows, HasLeaves, IsNodeOf, IsStill, IsReduced}
-use Rattle.nk_algebra.specs.Leaves.{merged}
-use Rattle.nk_algebra.specs.Seqs.{no_out, out_after, prefixed, seq_leaf}
-use Rattle.nk_algebra.specs.Predicates.{IsPass, Ends}
-use Rattle.nk_algebra.proofs.Sorted.{merged_strict, prefixed_strict}
-use Rattle.nk_algebra.proofs.Members.{Has, has_contains, contains_has, every_has, merged_left, merged_right, merged_has, merged_grows, strict_same, gathered_strict, seq_leaf_is, seq_leaf_has, has_seq_leaf}
-use Rattle.nk_algebra.proofs.Predicates.{whole_applied, pass_seq, ends_merged, ends_seq}
+use Rattle.nk_apply.specs.Leaves.{merged}
+use Rattle.nk_apply.specs.Seqs.{no_out, out_after, prefixed, seq_leaf}
+use Rattle.nk_apply.specs.Predicates.{IsPass, Ends}
+use Rattle.nk_apply.proofs.Sorted.{merged_strict, prefixed_strict}
+use Rattle.nk_apply.proofs.Members.{Has, has_contains, contains_has, every_has, merged_left, merged_right, merged_has, merged_grows, strict_same, gathered_strict, seq_leaf_is, seq_leaf_has, has_seq_leaf}
+use Rattle.nk_apply.proofs.Predicates.{whole_applied, pass_seq, ends_merged, ends_seq}
 use Rattle.nk_star.specs.Steps.{Steps, rounds, IsLastRound}
 use Rattle.nk_store.specs.Operations.{has_out, lacking}
 use Rattle.nk_star.proofs.Lacks.{found_has, lacking_has, has_lacking}

@@ -3,9 +3,9 @@ use Rattle.std.specs.Prelude.{◌≡◌, ℕ, zero, suc, List, [], ◌∷◌, le
 use Rattle.nk_field.specs.Act.{applied, act_then}
 use Rattle.nk_store.specs.declared.node.Out.{Out}
 use Rattle.nk_store.specs.Held.{Held, IsWhole, HasLeaves}
-use Rattle.nk_algebra.specs.Leaves.{merged}
-use Rattle.nk_algebra.specs.Unions.{AreIds, unions}
-use Rattle.nk_algebra.specs.Seqs.{no_out, seq_leaf}
+use Rattle.nk_apply.specs.Leaves.{merged}
+use Rattle.nk_apply.specs.Unions.{AreIds, unions}
+use Rattle.nk_apply.specs.Seqs.{no_out, seq_leaf}
 
 -- n copies of the diagram, one after another, can make the act g at the packet; the last copy stands apart
 abbrev pub Steps : (List ℕ → List Out) → ℕ → List ℕ → List (ℕ × ℕ) → Type 0

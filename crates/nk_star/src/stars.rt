@@ -2,10 +2,10 @@
 ghost use Rattle.std.specs.Prelude.{ℕ, ◌≤◌, ◌↔◌, [], ◌∷◌, IfOk, List as Items, length, Contains};
 ghost use Rattle.nk_store.specs.Held.{IsId, IsWhole, IsPacket, look, top, Grows, HasLeaves};
 ghost use Rattle.nk_store.specs.Operations.{lacking};
-ghost use Rattle.nk_algebra.specs.Leaves.{merged};
-ghost use Rattle.nk_algebra.specs.Seqs.{no_out};
-ghost use Rattle.nk_algebra.specs.Unions.{AreIds, unions};
-ghost use Rattle.nk_algebra.specs.Predicates.{IsPredicate, Ends};
+ghost use Rattle.nk_apply.specs.Leaves.{merged};
+ghost use Rattle.nk_apply.specs.Seqs.{no_out};
+ghost use Rattle.nk_apply.specs.Unions.{AreIds, unions};
+ghost use Rattle.nk_apply.specs.Predicates.{IsPredicate, Ends};
 ghost use Rattle.nk_star.specs.Steps.{Steps, IsLastRound, AreTogether};
 ghost use Rattle.nk_star.specs.Leading.{Makes, Leads};
 

@@ -6,8 +6,8 @@ use Rattle.nk_field.proofs.Ascending.{all_from_members, members_from_all}
 use Rattle.nk_store.specs.Nodes.{InRange}
 use Rattle.nk_store.specs.Diagram.{IsReduced, leaf_at}
 use Rattle.nk_store.specs.Held.{Held, IsPacket, look, Grows, AreTidy}
-use Rattle.nk_algebra.specs.PacketSets.{has_out, is_in}
-use Rattle.nk_algebra.specs.Unions.{AreIds}
+use Rattle.nk_apply.specs.PacketSets.{has_out, is_in}
+use Rattle.nk_apply.specs.Unions.{AreIds}
 use Rattle.nk_determ.specs.Sets.{SetsGrow, HasEachSetOnce, HasAscendingSets}
 use Rattle.nk_table.specs.declared.Table.{Table}
 use Rattle.nk_extract.specs.Buckets.{AreBuckets}

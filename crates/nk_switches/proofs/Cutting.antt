@@ -6,7 +6,7 @@ use Rattle.std.proofs.lemmas.List.{set-get_or}
 use Rattle.nk_store.specs.declared.node.Out.{Out}
 use Rattle.nk_store.specs.Nodes.{InRange}
 use Rattle.nk_store.specs.Held.{Held, IsId, IsPacket, look, Grows, HasLeaves}
-use Rattle.nk_algebra.specs.Unions.{AreIds}
+use Rattle.nk_apply.specs.Unions.{AreIds}
 use Rattle.nk_determ.specs.Exact.{AreExact, Sends}
 use Rattle.nk_determ.specs.States.{SomeLeads, AreLedTo, StateLeads, HaveEach}
 use Rattle.nk_determ.proofs.StatesAt.{at_state, from_state, met_same}

@@ -6,10 +6,10 @@ use Rattle.std.proofs.lemmas.List.{take_more, drop_all}
 use Rattle.nk_store.proofs.Stores.{grows_on}
 use Rattle.nk_store.specs.declared.node.Out.{Out}
 use Rattle.nk_store.specs.Held.{Held, IsId, IsWhole, look, Grows, HasLeaves}
-use Rattle.nk_algebra.specs.Leaves.{merged, guarded, absent}
-use Rattle.nk_algebra.specs.PacketSets.{has_out, is_in}
-use Rattle.nk_algebra.specs.Unions.{AreIds}
-use Rattle.nk_algebra.proofs.Weaves.{merged-nil}
+use Rattle.nk_apply.specs.Leaves.{merged, guarded, absent}
+use Rattle.nk_apply.specs.PacketSets.{has_out, is_in}
+use Rattle.nk_apply.specs.Unions.{AreIds}
+use Rattle.nk_apply.proofs.Weaves.{merged-nil}
 use Rattle.nk_determ.specs.Sets.{SetsGrow}
 use Rattle.nk_switches.specs.declared.stop.ActingTag.{ActingTag}
 use Rattle.nk_switches.specs.declared.stop.ClassHere.{ClassHere}

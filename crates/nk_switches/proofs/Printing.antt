@@ -9,7 +9,7 @@ use Rattle.nk_store.specs.declared.node.Out.{Out}
 use Rattle.nk_store.specs.Leaves.{IsActFrom, Suits}
 use Rattle.nk_store.specs.Held.{Held, look, IsPacket, AreTidy}
 use Rattle.nk_store.proofs.Same.{set_in_range}
-use Rattle.nk_algebra.proofs.Members.{Has, contains_has, has_contains, every_has, strict_same}
+use Rattle.nk_apply.proofs.Members.{Has, contains_has, has_contains, every_has, strict_same}
 use Rattle.nk_determ.specs.Exact.{IsExact, Sends}
 use Rattle.nk_determ.specs.Sets.{HasEachSetOnce, HasAscendingSets}
 use Rattle.nk_determ.specs.States.{StateLeads, IsLedTo}

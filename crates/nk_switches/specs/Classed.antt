@@ -3,7 +3,7 @@
 use Rattle.std.specs.Prelude.{◌≡◌, ℕ, zero, suc, ◌≤◌, cond, Option, Some, None, List, [], ◌∷◌, length, take, slice_index, slice_set, All}
 use Rattle.nk_store.specs.Held.{Held, IsId, IsWhole, IsPacket, look}
 use Rattle.nk_store.specs.Diagram.{IsReduced, IsFreeOf, leaf_at}
-use Rattle.nk_algebra.specs.PacketSets.{is_in}
+use Rattle.nk_apply.specs.PacketSets.{is_in}
 use Rattle.nk_table.specs.declared.Table.{Table}
 use Rattle.nk_extract.specs.Buckets.{AreBuckets}
 use Rattle.nk_group.specs.Groups.{groups_of, rows_after}

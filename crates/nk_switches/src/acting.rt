@@ -1,8 +1,8 @@
 //! The diagrams of the classes of all switches.
 ghost use Rattle.std.specs.Prelude.{◌<◌, ℕ, cond, All, IfOk, length};
 ghost use Rattle.nk_store.specs.Held.{IsId, Grows, HasLeaves, look};
-ghost use Rattle.nk_algebra.specs.PacketSets.{is_in};
-ghost use Rattle.nk_algebra.specs.Unions.{AreIds};
+ghost use Rattle.nk_apply.specs.PacketSets.{is_in};
+ghost use Rattle.nk_apply.specs.Unions.{AreIds};
 ghost use Rattle.nk_determ.specs.Sets.{SetsGrow};
 ghost use Rattle.nk_switches.specs.Matched.{Matched};
 ghost use Rattle.nk_switches.specs.States.{IsStateAtSwitch};
@@ -11,7 +11,7 @@ ghost use Rattle.nk_switches.specs.Classed.{HaveActing, HaveClasses, IsActingTag
 
 use crate::stop::{ActingTag, ClassHere, ClassStop, SwitchStates, TagState};
 use crate::tag_states::tag_state;
-use nk_algebra::{both, negate, restrict, union};
+use nk_apply::{both, negate, restrict, union};
 use nk_determ::{SetId, Sets};
 use nk_field::{Fid, List};
 use nk_store::{Id, Store};

@@ -1,12 +1,12 @@
 //! States cut to one switch.
 ghost use Rattle.std.specs.Prelude.{◌≡◌, ◌<◌, All, IfOk, length, slice_index, slice_set};
 ghost use Rattle.nk_store.specs.Held.{Grows, look};
-ghost use Rattle.nk_algebra.specs.Unions.{AreIds};
+ghost use Rattle.nk_apply.specs.Unions.{AreIds};
 ghost use Rattle.nk_determ.specs.Sets.{SetsGrow};
 ghost use Rattle.nk_determ.specs.States.{HaveEach};
 ghost use Rattle.nk_switches.specs.States.{IsStateAtSwitch};
 
-use nk_algebra::restrict;
+use nk_apply::restrict;
 use nk_determ::{Sets, state_of};
 use nk_field::{Fid, List};
 use nk_store::{Id, Store};

@@ -1,6 +1,6 @@
 //! The tables of all switches, where tags share the numbers of their classes.
 ghost use Rattle.std.specs.Prelude.{◌≡◌, ℕ, ◌<◌, Some, All, IfOk, length};
-ghost use Rattle.nk_algebra.specs.Unions.{AreIds};
+ghost use Rattle.nk_apply.specs.Unions.{AreIds};
 ghost use Rattle.nk_extract.specs.RowsOf.{IsFrame};
 ghost use Rattle.nk_switches.specs.Matched.{Matched};
 ghost use Rattle.nk_switches.specs.Tagged.{AreOnce};

@@ -1,7 +1,7 @@
 //! The tables of all switches.
 ghost use Rattle.std.specs.Prelude.{◌≡◌, ℕ, ◌<◌, Some, All, List as Items, OnOk, length};
 ghost use Rattle.nk_table.specs.declared.Table.{Table};
-ghost use Rattle.nk_algebra.specs.Unions.{AreIds};
+ghost use Rattle.nk_apply.specs.Unions.{AreIds};
 ghost use Rattle.nk_extract.specs.RowsOf.{IsFrame};
 ghost use Rattle.nk_switches.specs.Matched.{Matched};
 ghost use Rattle.nk_switches.specs.Made.{IsStop, IsTableAt};

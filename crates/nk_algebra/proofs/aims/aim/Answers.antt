@@ -1,6 +1,6 @@
 use Rattle.nk_store.specs.Held.{look}
 use Rattle.std.proofs.lemmas.Result.{IfOk-weaker}
-use Rattle.nk_algebra.proofs.Predicates.{ends_by, ends_aimed}
+use Rattle.nk_apply.proofs.Predicates.{ends_by, ends_aimed}
 use Rattle.nk_algebra.proofs.aims.aim.Goals as goal
 
 pub returns-clause-ends : goal.returns-clause-ends

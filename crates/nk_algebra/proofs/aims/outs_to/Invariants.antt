@@ -1,5 +1,5 @@
 use Rattle.std.proofs.Common.{◌≡◌, map, take}
-use Rattle.nk_algebra.specs.Leaves.{out_to}
+use Rattle.nk_apply.specs.Leaves.{out_to}
 use Rattle.nk_algebra.proofs.aims.outs_to.Given as goal
 
 abbrev pub invariant-loop-o : goal.invariant-loop-o

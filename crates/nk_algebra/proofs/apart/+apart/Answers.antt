@@ -4,11 +4,11 @@ use Rattle.nk_store.specs.Nodes.{child_at}
 use Rattle.nk_store.specs.Held.{look}
 use Rattle.nk_store.proofs.Stores.{grows_on}
 use Rattle.nk_algebra.specs.Choices.{AreChoices}
-use Rattle.nk_algebra.proofs.Built.{end_within}
+use Rattle.nk_apply.proofs.Built.{end_within}
 use Rattle.nk_algebra.proofs.Chosen.{Serving, value_choices, value_leaf, value_push, value_all, value_made}
-use Rattle.nk_algebra.specs.Seqs.{seq_leaf}
-use Rattle.nk_algebra.proofs.Sequences.{seq_made}
-use Rattle.nk_algebra.proofs.Turned.{set_within}
+use Rattle.nk_apply.specs.Seqs.{seq_leaf}
+use Rattle.nk_apply.proofs.Sequences.{seq_made}
+use Rattle.nk_apply.proofs.Turned.{set_within}
 use Rattle.nk_algebra.proofs.Reaches.{ending_made}
 use Rattle.nk_algebra.proofs.Splits.{kept_leaf, kept_push, kept_all, kept_made, apart_made, moved_made, split_first}
 use Rattle.nk_algebra.proofs.apart.+apart.Goals as goal

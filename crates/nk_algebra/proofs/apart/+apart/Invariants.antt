@@ -1,7 +1,7 @@
 use Rattle.std.proofs.Common.{◌+◌, ◌*◌, ◌-◌, ◌≤◌}
 use Rattle.std.specs.Prelude.{min}
 use Rattle.nk_store.specs.Held.{Grows, top, look}
-use Rattle.nk_algebra.specs.Seqs.{seq_leaf}
+use Rattle.nk_apply.specs.Seqs.{seq_leaf}
 use Rattle.nk_algebra.proofs.Splits.{kept_leaf}
 use Rattle.nk_algebra.proofs.Chosen.{Serving, value_leaf}
 use Rattle.nk_algebra.proofs.apart.+apart.Given as goal

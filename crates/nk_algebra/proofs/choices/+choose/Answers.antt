@@ -6,9 +6,9 @@ use Rattle.nk_store.specs.Held.{IsId, look, AreParts}
 use Rattle.nk_store.proofs.Looks.{each_weaker}
 use Rattle.nk_store.proofs.Stores.{grows_on}
 use Rattle.nk_algebra.specs.Choices.{first_of}
-use Rattle.nk_algebra.proofs.Built.{Built, built_parts, built_leaf}
+use Rattle.nk_apply.proofs.Built.{Built, built_parts, built_leaf}
 use Rattle.nk_algebra.proofs.Chosen.{choices_grown}
-use Rattle.nk_algebra.proofs.MadeOf.{on_any}
+use Rattle.nk_apply.proofs.MadeOf.{on_any}
 use Rattle.nk_algebra.proofs.Cuts.{first_most, first_each, kept_later, kept_choices, first_grown, cut_choices, split_child, cut_leaf, cuts_push, cuts_past, cuts_all, chosen_stay, chosen_now, chosen_put}
 use Rattle.nk_algebra.proofs.choices.+choose.Goals as goal
 

@@ -1,7 +1,7 @@
 use Rattle.std.proofs.Common.{◌≤◌, ◌+◌, ◌∙◌, ap, sym, subst, arith}
 use Rattle.nk_store.specs.Nodes.{child_at}
 use Rattle.nk_store.specs.Held.{IsId, look, top, AreParts}
-use Rattle.nk_algebra.proofs.Built.{Built, built_parts, built_leaf}
+use Rattle.nk_apply.proofs.Built.{Built, built_parts, built_leaf}
 use Rattle.nk_algebra.proofs.Cuts.{found_piece, served, piece_leaf, piece_push, piece_past, split_child}
 use Rattle.nk_algebra.proofs.choices.finer.Goals as goal
 

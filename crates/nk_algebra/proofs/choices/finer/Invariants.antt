@@ -1,5 +1,5 @@
 use Rattle.std.proofs.Common.{◌-◌, ◌≤◌}
-use Rattle.nk_algebra.proofs.Built.{Built}
+use Rattle.nk_apply.proofs.Built.{Built}
 use Rattle.nk_algebra.proofs.Cuts.{piece_leaf}
 use Rattle.nk_algebra.proofs.choices.finer.Given as goal
 

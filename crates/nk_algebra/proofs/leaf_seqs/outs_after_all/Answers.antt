@@ -1,8 +1,8 @@
 use Rattle.std.proofs.Common.{◌∙◌, ◌++◌, ◌-◌, ap, map, arith}
 use Rattle.std.proofs.lemmas.List.{get_or_default}
 use Rattle.nk_store.specs.declared.node.Out.{Out}
-use Rattle.nk_algebra.specs.Seqs.{no_out, out_after, outs_made}
-use Rattle.nk_algebra.specs.Unions.{in_turn}
+use Rattle.nk_apply.specs.Seqs.{no_out, out_after, outs_made}
+use Rattle.nk_apply.specs.Unions.{in_turn}
 use Rattle.nk_algebra.proofs.LeavesAtOnce.{turn_more}
 use Rattle.nk_algebra.proofs.leaf_seqs.outs_after_all.Goals as goal
 

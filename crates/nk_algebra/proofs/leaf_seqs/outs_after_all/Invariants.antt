@@ -1,6 +1,6 @@
 use Rattle.std.proofs.Common.{◌≡◌, ◌++◌, ◌-◌}
-use Rattle.nk_algebra.specs.Seqs.{outs_made}
-use Rattle.nk_algebra.specs.Unions.{in_turn}
+use Rattle.nk_apply.specs.Seqs.{outs_made}
+use Rattle.nk_apply.specs.Unions.{in_turn}
 use Rattle.nk_algebra.proofs.leaf_seqs.outs_after_all.Given as goal
 
 abbrev pub invariant-loop-i : goal.invariant-loop-i

@@ -1,5 +1,5 @@
 use Rattle.std.proofs.Common.{◌∙◌, sym}
-use Rattle.nk_algebra.proofs.Sequences.{outs_leaf, outs_case}
+use Rattle.nk_apply.proofs.Sequences.{outs_leaf, outs_case}
 use Rattle.nk_algebra.proofs.leaf_seqs.outs_at.Goals as goal
 
 pub returns-in-Leaf : goal.returns-in-Leaf

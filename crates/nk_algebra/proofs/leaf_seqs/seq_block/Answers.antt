@@ -1,6 +1,6 @@
 use Rattle.std.proofs.Common.{◌-◌}
 use Rattle.std.proofs.lemmas.Result.{IfOk-weaker}
-use Rattle.nk_algebra.specs.Seqs.{outs_of}
+use Rattle.nk_apply.specs.Seqs.{outs_of}
 use Rattle.nk_algebra.proofs.LeavesAtOnce.{both_suit, both_leaf, made_of_leaves}
 use Rattle.nk_algebra.proofs.leaf_seqs.seq_block.Goals as goal
 

@@ -1,6 +1,6 @@
 use Rattle.std.proofs.Common.{◌-◌, arith}
 use Rattle.std.proofs.lemmas.Result.{IfOk-weaker}
-use Rattle.nk_algebra.proofs.OverPlaces.{outs_made_all}
+use Rattle.nk_apply.proofs.OverPlaces.{outs_made_all}
 use Rattle.nk_algebra.proofs.leaf_seqs.seq_two_leaves.Goals as goal
 
 pub returns-clause-ok : goal.returns-clause-ok

@@ -4,10 +4,10 @@ use Rattle.nk_store.proofs.Stores.{grows_on}
 use Rattle.nk_store.specs.Nodes.{child_at}
 use Rattle.nk_store.specs.Held.{look}
 use Rattle.nk_algebra.specs.Choices.{AreChoices}
-use Rattle.nk_algebra.specs.Seqs.{seq_leaf}
-use Rattle.nk_algebra.proofs.Turned.{set_within}
+use Rattle.nk_apply.specs.Seqs.{seq_leaf}
+use Rattle.nk_apply.proofs.Turned.{set_within}
 use Rattle.nk_algebra.proofs.Chosen.{Serving, value_leaf, value_push, value_choices, value_all, value_made}
-use Rattle.nk_algebra.proofs.Sequences.{seq_made}
+use Rattle.nk_apply.proofs.Sequences.{seq_made}
 use Rattle.nk_algebra.proofs.seqs.+seq.Goals as goal
 
 pub seq_case-returns-clause-ok : goal.seq_case-returns-clause-ok

@@ -5,8 +5,8 @@ use Rattle.nk_store.specs.declared.node.Node.TheVariants.{Leaf}
 use Rattle.nk_store.specs.Leaves.{Suits, IsActFrom}
 use Rattle.nk_store.specs.Held.{IsNodeOf}
 use Rattle.nk_algebra.proofs.Acts.{every_at}
-use Rattle.nk_algebra.proofs.Sequences.{outs_leaf, not_case, out_read}
-use Rattle.nk_algebra.specs.Seqs.{no_out}
+use Rattle.nk_apply.proofs.Sequences.{outs_leaf, not_case, out_read}
+use Rattle.nk_apply.specs.Seqs.{no_out}
 use Rattle.nk_algebra.proofs.seqs.act_at.Goals as goal
 
 pub at-requires : goal.at-requires

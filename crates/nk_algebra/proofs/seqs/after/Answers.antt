@@ -1,6 +1,6 @@
 use Rattle.std.proofs.Common.{◌≡◌, ◌∙◌, sym, arith, length}
 use Rattle.std.proofs.lemmas.Bool.Decides.{nat_tests}
-use Rattle.nk_algebra.proofs.Shorts.{after_nothing, no_items}
+use Rattle.nk_apply.proofs.Shorts.{after_nothing, no_items}
 use Rattle.nk_algebra.proofs.seqs.after.Goals as goal
 
 pub returns-then-is_empty-clause-ok : goal.returns-then-is_empty-clause-ok

@@ -1,5 +1,5 @@
 use Rattle.std.proofs.Common.{◌≡◌, ◌++◌, map, take}
-use Rattle.nk_algebra.specs.Seqs.{out_after}
+use Rattle.nk_apply.specs.Seqs.{out_after}
 use Rattle.nk_algebra.proofs.seqs.push_after.Given as goal
 
 abbrev pub invariant-loop-o : goal.invariant-loop-o

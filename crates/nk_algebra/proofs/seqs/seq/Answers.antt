@@ -1,5 +1,5 @@
 use Rattle.std.proofs.lemmas.Result.{IfOk-weaker}
-use Rattle.nk_algebra.proofs.Predicates.{predicate_by, ends_by, pass_seq, ends_seq}
+use Rattle.nk_apply.proofs.Predicates.{predicate_by, ends_by, pass_seq, ends_seq}
 use Rattle.nk_algebra.proofs.seqs.seq.Goals as goal
 
 pub returns-clause-predicate : goal.returns-clause-predicate

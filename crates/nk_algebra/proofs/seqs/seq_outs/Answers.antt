@@ -1,6 +1,6 @@
 use Rattle.std.proofs.Common.{◌-◌, ◌∙◌, sym, arith}
 use Rattle.std.proofs.lemmas.Result.{IfOk-weaker}
-use Rattle.nk_algebra.proofs.OverPlaces.{outs_made_all, no_outs_made}
+use Rattle.nk_apply.proofs.OverPlaces.{outs_made_all, no_outs_made}
 use Rattle.nk_algebra.proofs.seqs.seq_outs.Goals as goal
 
 pub returns-then-n-eq0-clause-ok : goal.returns-then-n-eq0-clause-ok

@@ -6,7 +6,7 @@ use Rattle.nk_policy.specs.Policy.{seq_of, star_of, no_part, part}
 use Rattle.nk_policy.specs.Tree.{tree_of, trees_of}
 use Rattle.nk_store.specs.Held.{IsId}
 use Rattle.nk_store.proofs.Stores.{grows_on}
-use Rattle.nk_algebra.specs.Predicates.{IsPredicate}
+use Rattle.nk_apply.specs.Predicates.{IsPredicate}
 use Rattle.nk_auto.specs.Continued.{IsSilent, IsContinued}
 use Rattle.nk_auto.specs.Guarded.{NeverRecords, IsGuarded}
 use Rattle.nk_auto.specs.TwoWays.{AreWays}

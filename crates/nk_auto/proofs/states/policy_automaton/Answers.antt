@@ -1,7 +1,7 @@
 use Rattle.std.proofs.Common.{◌≡◌, subst, sym, ◌+◌, [], ◌∷◌, arith, length}
 use Rattle.nk_policy.specs.Policy.{dups_of}
 use Rattle.nk_policy.specs.Tree.{tree_of}
-use Rattle.nk_algebra.specs.Seqs.{no_out}
+use Rattle.nk_apply.specs.Seqs.{no_out}
 use Rattle.nk_auto.specs.Continued.{IsFit}
 use Rattle.nk_auto.proofs.Grown.{leaves_grow}
 use Rattle.nk_auto.proofs.Stating.{automaton_is}

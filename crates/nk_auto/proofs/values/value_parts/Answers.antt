@@ -1,6 +1,6 @@
 use Rattle.std.proofs.Common.{◌≡◌, ◌+◌, ◌≤◌, [], refl, sym, subst, arith, take, get_or}
 use Rattle.std.proofs.lemmas.List.{take_all}
-use Rattle.nk_algebra.proofs.Built.{Built, built_none}
+use Rattle.nk_apply.proofs.Built.{Built, built_none}
 use Rattle.nk_auto.proofs.Tested.{by_value, value_step, below_step, rest_built, values_parts}
 use Rattle.nk_auto.proofs.values.value_parts.Goals as goal
 

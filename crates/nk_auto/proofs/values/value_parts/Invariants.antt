@@ -1,5 +1,5 @@
 use Rattle.std.proofs.Common.{◌≤◌, take}
-use Rattle.nk_algebra.proofs.Built.{Built}
+use Rattle.nk_apply.proofs.Built.{Built}
 use Rattle.nk_auto.proofs.Tested.{AreBelow, by_value}
 use Rattle.nk_auto.proofs.values.value_parts.Given as goal
 

@@ -1,7 +1,7 @@
 use Rattle.std.proofs.Common.{ℕ, List, [], Option, min, subst}
 use Rattle.std.specs.Prelude.{slice_index, IfSome}
 use Rattle.nk_store.proofs.Stores.{grows_on}
-use Rattle.nk_algebra.specs.Unions.{HaveParts}
+use Rattle.nk_apply.specs.Unions.{HaveParts}
 use Rattle.nk_auto.specs.Values.{value_leaf}
 use Rattle.nk_auto.proofs.Tested.{constant_grow, values_case}
 use Rattle.nk_auto.proofs.values.values_where.Goals as goal

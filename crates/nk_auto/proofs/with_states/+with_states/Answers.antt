@@ -6,12 +6,12 @@ use Rattle.nk_policy.specs.Policy.{sum_of, seq_of, star_of, no_part, part}
 use Rattle.nk_policy.specs.Tree.{tree_of, trees_of}
 use Rattle.nk_store.specs.Held.{IsId}
 use Rattle.nk_store.proofs.Stores.{grows_on, grows_same}
-use Rattle.nk_algebra.specs.Predicates.{IsPredicate}
+use Rattle.nk_apply.specs.Predicates.{IsPredicate}
 use Rattle.nk_auto.specs.Continued.{IsSilent, IsContinued, AreWritten}
 use Rattle.nk_auto.specs.Guarded.{NeverRecords, IsGuarded}
 use Rattle.nk_auto.proofs.Parts.{trees_before}
 use Rattle.nk_auto.proofs.Going.{continued_grow, unit_continued, cons_continued}
-use Rattle.nk_algebra.proofs.MadeOf.{on_any}
+use Rattle.nk_apply.proofs.MadeOf.{on_any}
 use Rattle.nk_auto.proofs.Writing.{unit_written, seq_written, sum_written, star_written, not_written, predicate_written, dupless_written, written_grow}
 use Rattle.nk_auto.proofs.Guarding.{guarded_grow, behind_written, counted_none}
 use Rattle.nk_auto.proofs.Sums.{AreOf, IsOnward, one_more_of, ids_of, sum_continued}

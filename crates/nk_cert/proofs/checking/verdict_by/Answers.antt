@@ -1,7 +1,7 @@
 use Rattle.std.proofs.Common.{ℕ, List, length, sym, subst, arith}
 use Rattle.std.proofs.lemmas.Result.{IfOk-weaker}
 use Rattle.nk_policy.specs.Tree.{tree_of}
-use Rattle.nk_algebra.specs.Unions.{AreIds}
+use Rattle.nk_apply.specs.Unions.{AreIds}
 use Rattle.nk_reach.specs.Pairs.{HavePlaces}
 use Rattle.nk_store.specs.Held.{IsPacket}
 use Rattle.nk_reach.specs.Sides.{alone, ends_of, AreMarked, AreOneSided}

@@ -1,5 +1,5 @@
 use Rattle.std.proofs.Common.{take, subst}
-use Rattle.nk_algebra.specs.Unions.{outs_in_turn}
+use Rattle.nk_apply.specs.Unions.{outs_in_turn}
 use Rattle.nk_determ.specs.ByAct.{AreActsOf}
 use Rattle.nk_determ.proofs.ByActs.{leaves_more, turn_on}
 use Rattle.nk_determ.proofs.by_act.acts_of.Goals as goal

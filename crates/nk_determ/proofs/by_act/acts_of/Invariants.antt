@@ -1,6 +1,6 @@
 use Rattle.std.proofs.Common.{ℕ, ◌<◌, ◌≤◌, get_or, take}
 use Rattle.nk_store.specs.Held.{top}
-use Rattle.nk_algebra.specs.Unions.{outs_in_turn}
+use Rattle.nk_apply.specs.Unions.{outs_in_turn}
 use Rattle.nk_determ.specs.ByAct.{AreActsOf}
 use Rattle.nk_determ.proofs.by_act.acts_of.Given as goal
 

@@ -1,6 +1,6 @@
 use Rattle.std.proofs.Common.{◌++◌, ◌∙◌, sym, subst}
 use Rattle.std.proofs.lemmas.Result.{IfOk-weaker}
-use Rattle.nk_algebra.proofs.Sequences.{outs_leaf}
+use Rattle.nk_apply.proofs.Sequences.{outs_leaf}
 use Rattle.nk_determ.specs.ByAct.{AreActsOf}
 use Rattle.nk_determ.proofs.by_act.add_acts_of.Goals as goal
 

@@ -1,6 +1,6 @@
 use Rattle.std.proofs.Common.{◌++◌, ◌∙◌, sym, ap, take}
-use Rattle.nk_algebra.specs.Seqs.{outs_of}
-use Rattle.nk_algebra.specs.Unions.{outs_in_turn}
+use Rattle.nk_apply.specs.Seqs.{outs_of}
+use Rattle.nk_apply.specs.Unions.{outs_in_turn}
 use Rattle.nk_determ.specs.Branches.{labels_of}
 use Rattle.nk_determ.proofs.ByActs.{turn_on, labels_append}
 use Rattle.nk_determ.proofs.by_act.labels_by.Goals as goal

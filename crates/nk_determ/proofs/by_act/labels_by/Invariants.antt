@@ -1,5 +1,5 @@
 use Rattle.std.proofs.Common.{◌≡◌, take}
-use Rattle.nk_algebra.specs.Unions.{outs_in_turn}
+use Rattle.nk_apply.specs.Unions.{outs_in_turn}
 use Rattle.nk_determ.specs.Branches.{labels_of}
 use Rattle.nk_determ.proofs.by_act.labels_by.Given as goal
 

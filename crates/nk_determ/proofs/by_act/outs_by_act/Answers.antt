@@ -1,5 +1,5 @@
 use Rattle.std.proofs.Common.{[], ◌∷◌, ◌++◌, sym, subst}
-use Rattle.nk_algebra.specs.Unions.{outs_in_turn}
+use Rattle.nk_apply.specs.Unions.{outs_in_turn}
 use Rattle.nk_determ.specs.ByAct.{AreOutsByAct}
 use Rattle.nk_determ.proofs.Interned.{sets_on}
 use Rattle.nk_determ.proofs.ByActs.{outs_more}

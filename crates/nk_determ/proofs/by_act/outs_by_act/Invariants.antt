@@ -1,4 +1,4 @@
-use Rattle.nk_algebra.specs.Unions.{outs_in_turn}
+use Rattle.nk_apply.specs.Unions.{outs_in_turn}
 use Rattle.nk_determ.specs.Sets.{SetsGrow}
 use Rattle.nk_determ.specs.ByAct.{AreOutsByAct}
 use Rattle.nk_determ.proofs.by_act.outs_by_act.Given as goal

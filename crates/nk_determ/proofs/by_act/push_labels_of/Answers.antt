@@ -1,7 +1,7 @@
 use Rattle.std.proofs.Common.{◌++◌, ◌∙◌, sym, ap}
 use Rattle.std.proofs.lemmas.List.{append-nil}
 use Rattle.std.proofs.lemmas.Result.{on_ok_weaker}
-use Rattle.nk_algebra.proofs.Sequences.{outs_leaf, outs_case}
+use Rattle.nk_apply.proofs.Sequences.{outs_leaf, outs_case}
 use Rattle.nk_determ.specs.Branches.{labels_of}
 use Rattle.nk_determ.proofs.by_act.push_labels_of.Goals as goal
 

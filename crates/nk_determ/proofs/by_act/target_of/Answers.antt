@@ -1,4 +1,4 @@
-use Rattle.nk_algebra.specs.Unions.{outs_in_turn}
+use Rattle.nk_apply.specs.Unions.{outs_in_turn}
 use Rattle.nk_determ.proofs.Interned.{sets_same}
 use Rattle.nk_determ.proofs.ByActs.{target_is, met_in_order}
 use Rattle.nk_determ.proofs.by_act.target_of.Goals as goal

@@ -2,8 +2,8 @@ use Rattle.std.proofs.Common.{◌+◌, ◌∙◌, refl, sym, subst, ap, arith, g
 use Rattle.nk_store.proofs.Stores.{grows_on}
 use Rattle.nk_store.specs.Nodes.{child_at}
 use Rattle.nk_store.specs.Held.{look, AreParts, node_of}
-use Rattle.nk_algebra.proofs.Built.{Built, built_parts, built_leaf}
-use Rattle.nk_algebra.proofs.Parts.{split_at}
+use Rattle.nk_apply.proofs.Built.{Built, built_parts, built_leaf}
+use Rattle.nk_apply.proofs.Parts.{split_at}
 use Rattle.nk_determ.proofs.Pieces.{piece_leaf, IsCutBy, piece_push, piece_past}
 use Rattle.nk_determ.proofs.changing.pieces_of.Goals as goal
 

@@ -3,9 +3,9 @@ use Rattle.std.proofs.lemmas.Result.{IfOk-weaker}
 use Rattle.nk_store.proofs.Stores.{grows_on}
 use Rattle.nk_store.specs.Nodes.{child_at}
 use Rattle.nk_store.specs.Held.{look, AreParts}
-use Rattle.nk_algebra.proofs.Built.{built_parts, built_leaf}
-use Rattle.nk_algebra.proofs.MadeOf.{on_any}
-use Rattle.nk_algebra.proofs.Turned.{turned, turned_past, set_within}
+use Rattle.nk_apply.proofs.Built.{built_parts, built_leaf}
+use Rattle.nk_apply.proofs.MadeOf.{on_any}
+use Rattle.nk_apply.proofs.Turned.{turned, turned_past, set_within}
 use Rattle.nk_determ.specs.States.{regrouped}
 use Rattle.nk_determ.proofs.Interned.{sets_on, sets_same}
 use Rattle.nk_determ.proofs.Regroupings.{AreBuilt, table_grow, table_put, built_more, held_more, held_whole, node_regrouped}

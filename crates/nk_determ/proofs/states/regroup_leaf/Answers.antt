@@ -4,7 +4,7 @@ use Rattle.std.proofs.lemmas.Result.{IfOk-weaker}
 use Rattle.nk_store.specs.Leaves.{Strict, Every, Suits}
 use Rattle.nk_store.specs.Held.{IsNodeOf, IsLeaf}
 use Rattle.nk_determ.specs.States.{HasAll, regrouped}
-use Rattle.nk_algebra.proofs.MadeOf.{leaf_made}
+use Rattle.nk_apply.proofs.MadeOf.{leaf_made}
 use Rattle.nk_determ.proofs.Interned.{sets_same}
 use Rattle.nk_determ.proofs.Finals.{final_leaf}
 use Rattle.nk_determ.proofs.Regrouped.{regrouped_ordered, regrouped_suits}

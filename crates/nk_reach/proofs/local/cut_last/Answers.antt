@@ -1,6 +1,6 @@
 use Rattle.std.proofs.Common.{[], ◌<◌, ◌↔◌, ◌∙◌, ℕ, List, length, get_or, sym, subst, ap, Contains}
 use Rattle.std.specs.Prelude.{All, map}
-use Rattle.nk_algebra.specs.Unions.{AreIds}
+use Rattle.nk_apply.specs.Unions.{AreIds}
 use Rattle.nk_determ.proofs.StatesAt.{states_ids}
 use Rattle.nk_reach.proofs.Alike.{ids_alike}
 use Rattle.nk_reach.proofs.Locals.{state_cut_of}

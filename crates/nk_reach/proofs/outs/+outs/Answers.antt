@@ -1,7 +1,7 @@
 use Rattle.std.proofs.Common.{◌≡◌, ◌+◌, ◌∙◌, sym, subst, arith, get_or}
 use Rattle.nk_store.proofs.Stores.{grows_on}
-use Rattle.nk_algebra.proofs.MadeOf.{on_any}
-use Rattle.nk_algebra.proofs.Turned.{set_within}
+use Rattle.nk_apply.proofs.MadeOf.{on_any}
+use Rattle.nk_apply.proofs.Turned.{set_within}
 use Rattle.nk_reach.specs.Outs.{IsUpTo}
 use Rattle.nk_reach.proofs.ByOut.{kept_on, kept_put, up_to_push, up_to_all}
 use Rattle.nk_reach.proofs.outs.+outs.Goals as goal

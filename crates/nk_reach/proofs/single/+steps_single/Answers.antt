@@ -3,8 +3,8 @@ use Rattle.std.specs.Prelude.{IfSome}
 use Rattle.nk_store.proofs.Stores.{grows_on}
 use Rattle.nk_store.specs.Held.{top}
 use Rattle.nk_reach.specs.Single.{IsSingle, AreSingleBy}
-use Rattle.nk_algebra.proofs.MadeOf.{on_any}
-use Rattle.nk_algebra.proofs.Turned.{set_within}
+use Rattle.nk_apply.proofs.MadeOf.{on_any}
+use Rattle.nk_apply.proofs.Turned.{set_within}
 use Rattle.nk_determ.proofs.Interned.{sets_on, sets_same}
 use Rattle.nk_reach.proofs.SingleParts.{AreBuiltSingle, single_table_grow, single_table_put, single_built_more, single_more, node_single, parts_single}
 use Rattle.nk_reach.proofs.single.+steps_single.Goals as goal

@@ -1,8 +1,8 @@
 use Rattle.std.proofs.Common.{◌+◌, ◌*◌, ◌-◌, ◌≤◌}
 use Rattle.nk_store.specs.Held.{Grows}
-use Rattle.nk_algebra.specs.Leaves.{guarded}
-use Rattle.nk_algebra.proofs.Built.{Built}
-use Rattle.nk_algebra.proofs.Merges.{pair_at}
+use Rattle.nk_apply.specs.Leaves.{guarded}
+use Rattle.nk_apply.proofs.Built.{Built}
+use Rattle.nk_apply.proofs.Merges.{pair_at}
 use Rattle.nk_sets.proofs.at_sets.+at_packets.Given as goal
 
 abbrev pub decreases-at_packets : goal.decreases-at_packets

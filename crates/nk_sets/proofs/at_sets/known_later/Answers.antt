@@ -1,5 +1,5 @@
-use Rattle.nk_algebra.specs.Leaves.{guarded}
-use Rattle.nk_algebra.proofs.Laters as laters
+use Rattle.nk_apply.specs.Leaves.{guarded}
+use Rattle.nk_apply.proofs.Laters as laters
 use Rattle.nk_sets.proofs.at_sets.known_later.Goals as goal
 
 pub returns-clause-later : goal.returns-clause-later

@@ -1,5 +1,5 @@
 use Rattle.std.proofs.Common.{◌∙◌, subst, sym}
-use Rattle.nk_algebra.specs.Unions.{AreIds}
+use Rattle.nk_apply.specs.Unions.{AreIds}
 use Rattle.nk_sets.proofs.Forgetting.{kid_ids, here_forgotten}
 use Rattle.nk_sets.proofs.forgets.forget_here.Goals as goal
 

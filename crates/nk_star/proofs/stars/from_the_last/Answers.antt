@@ -2,8 +2,8 @@ use Rattle.std.proofs.Common.{◌-◌, ◌+◌, ◌<◌, ◌≡◌, ◌∙◌, l
 use Rattle.std.proofs.lemmas.List.{get_or_default}
 use Rattle.nk_store.specs.Held.{HasLeaves, look}
 use Rattle.nk_store.proofs.Stores.{grows_on}
-use Rattle.nk_algebra.specs.Leaves.{merged}
-use Rattle.nk_algebra.specs.Unions.{unions}
+use Rattle.nk_apply.specs.Leaves.{merged}
+use Rattle.nk_apply.specs.Unions.{unions}
 use Rattle.nk_star.proofs.Blocks.{one_before}
 use Rattle.nk_star.proofs.stars.from_the_last.Goals as goal
 

@@ -1,9 +1,9 @@
 use Rattle.std.proofs.Common.{◌≡◌, ◌+◌, suc, true, false, ◌∷◌, [], ◌++◌, ◌∙◌, sym, ap, subst, arith, length, length-append, ◌<◌}
 use Rattle.nk_store.specs.Held.{look}
 use Rattle.nk_store.proofs.Stores.{grows_on}
-use Rattle.nk_algebra.specs.Leaves.{merged}
-use Rattle.nk_algebra.specs.Seqs.{seq_leaf}
-use Rattle.nk_algebra.specs.Unions.{AreIds, unions}
+use Rattle.nk_apply.specs.Leaves.{merged}
+use Rattle.nk_apply.specs.Seqs.{seq_leaf}
+use Rattle.nk_apply.specs.Unions.{AreIds, unions}
 use Rattle.nk_star.specs.Steps.{rounds, AreTogether}
 use Rattle.nk_star.proofs.Room.{room}
 use Rattle.nk_star.proofs.Rounds.{IsFresh, leaves_on, room_falls}

@@ -3,7 +3,7 @@ use Rattle.std.proofs.lemmas.List.{get_or_default}
 use Rattle.nk_store.specs.Held.{IsId, HasLeaves, look}
 use Rattle.nk_store.specs.Operations.{lacking}
 use Rattle.nk_store.proofs.Stores.{grows_same, grows_on}
-use Rattle.nk_algebra.specs.Unions.{unions}
+use Rattle.nk_apply.specs.Unions.{unions}
 use Rattle.nk_star.proofs.Lacks.{lacking_none}
 use Rattle.nk_star.proofs.Blocks.{less_more}
 use Rattle.nk_star.proofs.stars.missing_all.Goals as goal

@@ -1,6 +1,6 @@
 use Rattle.nk_store.specs.Held.{Grows, HasLeaves, look}
 use Rattle.nk_store.specs.Operations.{lacking}
-use Rattle.nk_algebra.specs.Unions.{unions}
+use Rattle.nk_apply.specs.Unions.{unions}
 use Rattle.nk_star.proofs.stars.missing_all.Given as goal
 
 abbrev pub invariant-loop-k : goal.invariant-loop-k

@@ -1,7 +1,7 @@
 use Rattle.std.proofs.Common.{◌≤◌, ◌∷◌, [], ◌++◌, length, ◌∙◌, ap, subst, arith}
 use Rattle.nk_store.specs.Held.{HasLeaves, look}
-use Rattle.nk_algebra.specs.Leaves.{merged}
-use Rattle.nk_algebra.specs.Unions.{unions}
+use Rattle.nk_apply.specs.Leaves.{merged}
+use Rattle.nk_apply.specs.Unions.{unions}
 use Rattle.nk_star.proofs.Blocks.{put_together}
 use Rattle.nk_star.proofs.stars.put_to.Goals as goal
 

@@ -1,5 +1,5 @@
 use Rattle.std.proofs.Common.{◌∙◌, refl, sym, subst, ap, length}
-use Rattle.nk_algebra.specs.Unions.{AreIds}
+use Rattle.nk_apply.specs.Unions.{AreIds}
 use Rattle.nk_determ.specs.States.{HaveEach}
 use Rattle.nk_determ.proofs.Together.{each_ids}
 use Rattle.nk_switches.proofs.Cutting.{cut_each, state_cut}

@@ -1,8 +1,8 @@
 use Rattle.std.proofs.lemmas.Result.{IfOk-weaker}
 use Rattle.nk_store.specs.Leaves.{Suits}
-use Rattle.nk_algebra.specs.Leaves.{aimed}
-use Rattle.nk_algebra.proofs.Members.{aimed_suits}
-use Rattle.nk_algebra.proofs.Gathers.{aimed_ordered, every_unordered}
+use Rattle.nk_apply.specs.Leaves.{aimed}
+use Rattle.nk_apply.proofs.Members.{aimed_suits}
+use Rattle.nk_apply.proofs.Gathers.{aimed_ordered, every_unordered}
 use Rattle.nk_algebra.proofs.aims.ToTargetLeafMap.map.Goals as goal
 
 pub returns-clause-is : goal.returns-clause-is

@@ -3,7 +3,7 @@ use Rattle.nk_store.specs.Leaves.{Suits}
 use Rattle.nk_algebra.specs.Apart.{parted}
 use Rattle.nk_algebra.specs.Kinds.{is_of}
 use Rattle.nk_algebra.proofs.Splits.{parted_ordered, parted_suits}
-use Rattle.nk_algebra.proofs.Gathers.{every_unordered}
+use Rattle.nk_apply.proofs.Gathers.{every_unordered}
 use Rattle.nk_algebra.proofs.apart.ApartLeafMap.map.Goals as goal
 
 pub returns-clause-is : goal.returns-clause-is

@@ -1,8 +1,8 @@
 use Rattle.std.proofs.lemmas.Result.{IfOk-weaker}
 use Rattle.nk_store.specs.Leaves.{Suits}
-use Rattle.nk_algebra.specs.Seqs.{prefixed}
+use Rattle.nk_apply.specs.Seqs.{prefixed}
 use Rattle.nk_algebra.proofs.Acts.{prefixed_suits}
-use Rattle.nk_algebra.proofs.Gathers.{prefixed_ordered, every_unordered}
+use Rattle.nk_apply.proofs.Gathers.{prefixed_ordered, every_unordered}
 use Rattle.nk_algebra.proofs.seqs.PrefixLeafMap.map.Goals as goal
 
 pub returns-clause-is : goal.returns-clause-is

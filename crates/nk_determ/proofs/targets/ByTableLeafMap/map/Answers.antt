@@ -1,6 +1,6 @@
 use Rattle.std.proofs.lemmas.Result.{IfOk-weaker}
 use Rattle.nk_store.specs.Leaves.{Suits}
-use Rattle.nk_algebra.proofs.Gathers.{every_unordered}
+use Rattle.nk_apply.proofs.Gathers.{every_unordered}
 use Rattle.nk_determ.specs.Targets.{retargeted}
 use Rattle.nk_determ.proofs.Tables.{retargeted_ordered, retargeted_suits}
 use Rattle.nk_determ.proofs.targets.ByTableLeafMap.map.Goals as goal

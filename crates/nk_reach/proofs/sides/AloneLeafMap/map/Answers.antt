@@ -1,6 +1,6 @@
 use Rattle.std.proofs.lemmas.Result.{IfOk-weaker}
 use Rattle.nk_store.specs.Leaves.{Suits}
-use Rattle.nk_algebra.proofs.Gathers.{every_unordered}
+use Rattle.nk_apply.proofs.Gathers.{every_unordered}
 use Rattle.nk_reach.specs.Sides.{alone}
 use Rattle.nk_reach.proofs.OneSided.{alone_ordered, alone_suits}
 use Rattle.nk_reach.proofs.sides.AloneLeafMap.map.Goals as goal

@@ -1,5 +1,0 @@
-use Rattle.std.proofs.Common.{◌-◌}
-use Rattle.nk_algebra.proofs.sums.+sum_parts.Given as goal
-
-abbrev pub decreases-sum_parts : goal.decreases-sum_parts
-decreases-sum_parts l = l.to - l.from

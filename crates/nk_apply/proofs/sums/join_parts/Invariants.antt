@@ -1,0 +1,16 @@
+use Rattle.std.proofs.Common.{◌-◌, ◌≤◌, []}
+use Rattle.nk_store.specs.Held.{Grows, HasLeaves}
+use Rattle.nk_apply.proofs.Built.{Built}
+use Rattle.nk_apply.proofs.PartSums.{both_at}
+use Rattle.nk_apply.proofs.sums.join_parts.Given as goal
+
+abbrev pub invariant-loop-parts : goal.invariant-loop-parts
+invariant-loop-parts l = record {
+  grows : Grows l.fn.st l.st;
+  within : l.from ≤ l.max;
+  none : HasLeaves l.st l.none (λ pk. []);
+  built : Built (both_at l.fn.st l.fn.xs l.fn.ys) l.st l.fn.f l.from l.parts;
+}
+
+abbrev pub decreases-loop-parts : goal.decreases-loop-parts
+decreases-loop-parts l = l.max - l.from

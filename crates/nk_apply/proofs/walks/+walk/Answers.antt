@@ -1,0 +1,63 @@
+use Rattle.std.proofs.Common.{◌+◌, ◌∙◌, sym, subst, ap, arith, get_or}
+use Rattle.std.proofs.lemmas.Result.{IfOk-weaker}
+use Rattle.nk_store.proofs.Stores.{grows_on}
+use Rattle.nk_store.specs.Nodes.{child_at}
+use Rattle.nk_store.specs.Held.{look, top, AreParts}
+use Rattle.nk_apply.proofs.Built.{Built, built_parts, built_leaf}
+use Rattle.nk_apply.proofs.MadeOf.{entries_grow, entries_put, made_now, on_any}
+use Rattle.nk_apply.proofs.Turned.{turned, turned_push, turned_past, turned_made, set_within}
+use Rattle.nk_apply.proofs.walks.+walk.Goals as goal
+
+pub walk_case-returns-in-Some-clause-ok : goal.walk_case-returns-in-Some-clause-ok
+walk_case-returns-in-Some-clause-ok g t c = (c.requires.seen c.args.d c.in-Some.r (sym c.known.ensures ∙ c.in-Some.is)).leaves
+
+pub walk_case-returns-in-Some-clause-later : goal.walk_case-returns-in-Some-clause-later
+walk_case-returns-in-Some-clause-later g t c = (c.requires.seen c.args.d c.in-Some.r (sym c.known.ensures ∙ c.in-Some.is)).later
+
+pub walk_case-returns-clause-seen : goal.walk_case-returns-clause-seen
+walk_case-returns-clause-seen g t c =
+    entries_put (g.M.NodeMap.taken c.args.m.now) (g.M.NodeMap.made c.args.m.now) (g.M.NodeMap.first c.args.m.now) c.walk_node.new.st c.args.d c.in_ok-r.r c.walk_node.new.seen.entries c.insert.new.self.entries c.in_ok-r.ensures.seen
+    (made_now (g.M.NodeMap.taken c.args.m.now) (g.M.NodeMap.made c.args.m.now) (g.M.NodeMap.first c.args.m.now) c.args.st.now c.walk_node.new.st c.args.d c.in_ok-r.r c.walk_node.ensures.grows c.requires.id c.in_ok-r.ensures.ok c.in_ok-r.ensures.later)
+    (λ q. c.in_ok-insert.ensures.updates.0 q)
+
+pub walk_node-returns-clause-ok : goal.walk_node-returns-clause-ok
+walk_node-returns-clause-ok g t c =
+    IfOk-weaker c.case.result _ _
+    (λ r h. turned_made (g.M.NodeMap.taken c.args.m.now) (g.M.NodeMap.made c.args.m.now c.args.st.now.maxes) c.args.st.now c.walk_parts.new.st c.case.new.self c.args.g c.args.d r c.in_ok-parts.parts c.requires.split
+    (λ pk. c.laws.ensures.same c.args.g pk c.requires.before) c.in_ok-parts.ensures.ok h) c.case.ensures.ok
+
+pub walk_node-returns-clause-later : goal.walk_node-returns-clause-later
+walk_node-returns-clause-later g t c =
+    let least = c.laws.ensures.least (top c.args.st.now c.args.d) in
+    IfOk-weaker c.case.result _ _ (λ r h. omega (arith, least, c.requires.first, h)) c.case.ensures.later
+
+pub walk_node-returns-clause-seen : goal.walk_node-returns-clause-seen
+walk_node-returns-clause-seen g t c =
+    on_any c.case.result _ (entries_grow (g.M.NodeMap.taken c.args.m.now) (g.M.NodeMap.made c.args.m.now) (g.M.NodeMap.first c.args.m.now) c.walk_parts.new.st c.case.new.self c.walk_parts.new.seen.entries c.case.ensures.grows c.in_ok-parts.ensures.seen)
+
+pub walk_parts-returns-then-end-max-clause-parts : goal.walk_parts-returns-then-end-max-clause-parts
+walk_parts-returns-then-end-max-clause-parts g t c =
+    let beyond = c.laws.ensures.behind c.args.g (top c.loop-parts.st c.part_near-end.result.1) c.requires.before c.part_near-end.ensures.child.later in
+    let all = turned_push (g.M.NodeMap.taken c.args.m.now) (g.M.NodeMap.made c.args.m.now) c.args.st.now c.loop-parts.st c.walk_once.new.st c.args.g c.args.d c.loop-parts.from c.loop-parts.parts c.part_near-end.result c.in_ok-to.to c.loop-parts.invariant.built c.loop-parts.invariant.grows c.walk_once.ensures.grows c.requires.id c.requires.split c.part_near-end.ensures c.in_ok-to.ensures.ok (omega (arith, beyond, c.in_ok-to.ensures.later)) in
+    subst (AreParts c.walk_once.new.st c.args.g) (sym c.in_ok-push.ensures.ok)
+    (built_parts (turned (g.M.NodeMap.taken c.args.m.now) (g.M.NodeMap.made c.args.m.now c.args.st.now.maxes) c.args.st.now c.args.g c.args.d) c.walk_once.new.st c.args.g c.part_near-end.result.0 _ all c.requires.field
+    (c.if-end-max.true ∙ c.max-max.ensures ∙ ap (λ ms. get_or ms c.args.g 0) (sym (grows_on _ _ _ c.loop-parts.invariant.grows c.walk_once.ensures.grows).maxes)))
+
+pub walk_parts-returns-then-end-max-clause-ok : goal.walk_parts-returns-then-end-max-clause-ok
+walk_parts-returns-then-end-max-clause-ok g t c = λ v pk w.
+    let beyond = c.laws.ensures.behind c.args.g (top c.loop-parts.st c.part_near-end.result.1) c.requires.before c.part_near-end.ensures.child.later in
+    let all = turned_push (g.M.NodeMap.taken c.args.m.now) (g.M.NodeMap.made c.args.m.now) c.args.st.now c.loop-parts.st c.walk_once.new.st c.args.g c.args.d c.loop-parts.from c.loop-parts.parts c.part_near-end.result c.in_ok-to.to c.loop-parts.invariant.built c.loop-parts.invariant.grows c.walk_once.ensures.grows c.requires.id c.requires.split c.part_near-end.ensures c.in_ok-to.ensures.ok (omega (arith, beyond, c.in_ok-to.ensures.later)) in
+    ap (λ ps. look c.walk_once.new.st (child_at 0 ps v) pk) c.in_ok-push.ensures.ok
+    ∙ built_leaf (turned (g.M.NodeMap.taken c.args.m.now) (g.M.NodeMap.made c.args.m.now c.args.st.now.maxes) c.args.st.now c.args.g c.args.d) c.walk_once.new.st c.args.g c.part_near-end.result.0 _ all
+    (turned_past (g.M.NodeMap.taken c.args.m.now) (g.M.NodeMap.made c.args.m.now c.args.st.now.maxes) c.args.st.now c.args.g c.args.d c.part_near-end.result.0 c.requires.split (c.if-end-max.true ∙ c.max-max.ensures)) v pk w
+
+pub walk_parts-loop-parts-preserved : goal.walk_parts-loop-parts-preserved
+walk_parts-loop-parts-preserved g t c =
+    let beyond = c.laws.ensures.behind c.args.g (top c.loop-parts.st c.part_near-end.result.1) c.requires.before c.part_near-end.ensures.child.later in
+    let all = turned_push (g.M.NodeMap.taken c.args.m.now) (g.M.NodeMap.made c.args.m.now) c.args.st.now c.loop-parts.st c.walk_once.new.st c.args.g c.args.d c.loop-parts.from c.loop-parts.parts c.part_near-end.result c.in_ok-to.to c.loop-parts.invariant.built c.loop-parts.invariant.grows c.walk_once.ensures.grows c.requires.id c.requires.split c.part_near-end.ensures c.in_ok-to.ensures.ok (omega (arith, beyond, c.in_ok-to.ensures.later)) in
+    record {
+      grows = grows_on _ _ _ c.loop-parts.invariant.grows c.walk_once.ensures.grows;
+      seen = c.in_ok-to.ensures.seen;
+      within = set_within c.args.st.now c.loop-parts.st c.args.g c.args.d c.loop-parts.from c.max-max.result c.part_near-end.result c.part_near-end.ensures c.loop-parts.invariant.grows c.max-max.ensures c.if-end-max.false;
+      built = subst (Built (turned (g.M.NodeMap.taken c.args.m.now) (g.M.NodeMap.made c.args.m.now c.args.st.now.maxes) c.args.st.now c.args.g c.args.d) c.walk_once.new.st c.args.g (c.part_near-end.result.0 + 1)) (sym c.in_ok-push.ensures.ok) all;
+    }

@@ -1,0 +1,8 @@
+pub mod Subs
+pub mod MadeOf
+pub mod Leaves
+pub mod Spans
+pub mod Seqs
+pub mod Unions
+pub mod Predicates
+pub mod PacketSets
