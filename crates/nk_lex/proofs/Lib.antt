@@ -14,4 +14,3 @@ pub mod Digits
 pub mod Cutting
 pub mod Named
 pub mod Joining
-pub mod Keywords

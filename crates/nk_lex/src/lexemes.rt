@@ -129,9 +129,10 @@ fn put_word(
     ensures err { IfErr result (λ e. e ≡ LexError.NoMemory) }
     ensures kept { OnErr result (tokens.new.items ≡ tokens.old.items) }
 {
-    let text = Bytes::of_text(alloc, text_of(name))?;
+    let spelled = text_of(name);
+    let text = Bytes::of_text(alloc, spelled)?;
     let token = Token {
-        kind: kind_of_name(name),
+        kind: kind_of_name(spelled),
         start: at,
         end: at + name.len(),
         line,

@@ -1,9 +1,10 @@
 -- The arguments of a command, one after another.
-use Rattle.std.proofs.Common.{◌≡◌, ◌<◌, ◌+◌, ℕ, List, [], ◌∷◌, length, map, take, get_or, refl, Bor}
+use Rattle.std.proofs.Common.{◌≡◌, ◌<◌, ◌+◌, ℕ, List, [], ◌∷◌, length, map, take, get_or, refl, sym, fold, Bor}
 use Rattle.std.proofs.lemmas.List.{map_more, map-append}
+use Rattle.std.proofs.lemmas.List.Sums.{fold_more}
 use Rattle.clap.specs.Walk.{Text}
-use Rattle.clap.specs.Simple.{App, Shape, with_rule, with_subcommand}
-use Rattle.nk_words.specs.App.{leaf_app, wanted_argument}
+use Rattle.clap.specs.Simple.{App, with_rule, with_subcommand}
+use Rattle.nk_words.specs.App.{leaf_app, leaf_shape, wanted_argument, with_leaf}
 
 -- a command with one more of its arguments
 pub more_leaf : (name : Text) (arguments : List (Bor Text)) (i : ℕ) (d : Bor Text) (a : App)
@@ -17,15 +18,10 @@ more_leaf name arguments i d a h e =
       map-append wanted_argument (map (λ (t : Bor Text). t.now) (take i arguments)) ((get_or arguments i d).now ∷ []),
     ) refl
 
--- an application with four more commands, one after another
-pub four_more : (s t u v : Shape) (o a b c d e : App) → a ≡ o → b ≡ with_subcommand a s → c ≡ with_subcommand b t
-    → d ≡ with_subcommand c u → e ≡ with_subcommand d v
-    → e ≡ with_subcommand (with_subcommand (with_subcommand (with_subcommand o s) t) u) v
-four_more s t u v o a b c d e same second third fourth fifth = rw (fifth, fourth, third, second, same) refl
-
--- so it is with five more
-pub five_more : (s t u v w : Shape) (o a b c d e f : App) → a ≡ o → b ≡ with_subcommand a s → c ≡ with_subcommand b t
-    → d ≡ with_subcommand c u → e ≡ with_subcommand d v → f ≡ with_subcommand e w
-    → f ≡ with_subcommand (with_subcommand (with_subcommand (with_subcommand (with_subcommand o s) t) u) v) w
-five_more s t u v w o a b c d e f same second third fourth fifth sixth =
-    rw (sixth, four_more s t u v o a b c d e same second third fourth fifth) refl
+-- an application with one more of its subcommands
+pub more_leaves : (leaves : List (Bor Text × Bor (List (Bor Text)))) (i : ℕ) (d : Bor Text × Bor (List (Bor Text))) (o a : App)
+    → i < length leaves
+    → a ≡ fold with_leaf o (take i leaves)
+    → with_subcommand a (leaf_shape (get_or leaves i d).0.now (map (λ t. t.now) (get_or leaves i d).1.now))
+    ≡ fold with_leaf o (take (i + 1) leaves)
+more_leaves leaves i d o a h e = rw (e) (sym (fold_more with_leaf o leaves i d h))

@@ -1,5 +1,6 @@
 -- The commands, as `clap` sees them.
 use Rattle.std.specs.Prelude.{true, List, [], ◌∷◌, map, codes}
+use Rattle.std.specs.Borrow.{Bor}
 use Rattle.clap.specs.Walk.{Rule, Text}
 use Rattle.clap.specs.Simple.{App, Shape, new_rule, new_shape, with_subcommand}
 
@@ -14,6 +15,10 @@ leaf_shape name arguments = record (new_shape name) { rules = map wanted_argumen
 -- the same as a command of its own
 abbrev pub leaf_app : Text → List Text → App
 leaf_app name arguments = record { top = leaf_shape name arguments; subs = [] }
+
+-- an application with one more subcommand, from its name and the names of its arguments
+abbrev pub with_leaf : App → Bor Text × Bor (List (Bor Text)) → App
+with_leaf a l = with_subcommand a (leaf_shape l.0.now (map (λ t. t.now) l.1.now))
 
 -- the program without its commands: a command is wanted, and help and version are switched off
 abbrev pub nk_top : App

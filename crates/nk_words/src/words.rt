@@ -1,10 +1,11 @@
 //! The commands, read by `clap` with help and version switched off.
-ghost use Rattle.std.specs.Prelude.{◌≡◌, IfOk, option_map, map, false};
+ghost use Rattle.std.specs.Prelude.{◌≡◌, IfOk, None, codes, fold, if◌then◌else◌, option_map, map, false};
+ghost use Rattle.std.specs.Str.{bytes_eq};
 ghost use Rattle.clap.specs.declared.builder.command.Command.TheViews.{out-Command as fields_of};
 ghost use Rattle.clap.specs.Matches.{found_of};
-ghost use Rattle.clap.specs.Simple.{app_of, subcommand_rows_of, with_rule, with_subcommand};
+ghost use Rattle.clap.specs.Simple.{app_of, subcommand_rows_of, with_rule};
 ghost use Rattle.clap.specs.Walk.{first_of, rows_of};
-ghost use Rattle.nk_words.specs.App.{leaf_app, leaf_shape, nk_app, nk_top, nk_without_generation, nk_without_queries, wanted_argument};
+ghost use Rattle.nk_words.specs.App.{with_leaf, leaf_app, nk_app, nk_top, nk_without_generation, nk_without_queries, wanted_argument};
 ghost use Rattle.nk_words.specs.Words.{IsWithinLimits, Reads, command_found, command_of, command_with, compact_of, compile_of};
 ghost use Rattle.nk_words.specs.Words.{apart_of, check_apart_of, check_of, check_waypoint_of, equal_of, fly_of};
 ghost use Rattle.nk_words.specs.Words.{gen_of, job_of, network_numbers};
@@ -125,14 +126,27 @@ fn leaf<'a>(
 fn with_leaf<'a>(
     alloc: Global,
     command: clap::Command<'a>,
-    name: &'a str,
-    arguments: &[&'a str],
+    named: &(&'a str, &[&'a str]),
 ) -> Result<clap::Command<'a>, AllocError>
-    ensures { IfOk result (λ c. app_of c ≡ with_subcommand (app_of command.entry)
-        (leaf_shape name.entry.now (map (λ a. a.now) arguments.entry.now))) }
+    ensures { IfOk result (λ c. app_of c ≡ with_leaf (app_of command.entry) named.now) }
 {
-    let subcommand = leaf(alloc, name, arguments)?;
+    let subcommand = leaf(alloc, named.0, named.1)?;
     command.subcommand(subcommand)
+}
+
+/// The command with these subcommands more, each of its name and with its arguments.
+fn with_leaves<'a>(
+    alloc: Global,
+    command: clap::Command<'a>,
+    leaves: &[(&'a str, &[&'a str])],
+) -> Result<clap::Command<'a>, AllocError>
+    ensures { IfOk result (λ c. app_of c ≡ fold with_leaf (app_of command.entry) leaves.now) }
+{
+    let mut app = command;
+    for leaf in leaves {
+        app = with_leaf(alloc, app, leaf)?;
+    }
+    Ok(app)
 }
 
 /// The program without its commands.
@@ -149,42 +163,76 @@ fn top<'a>(alloc: Global) -> clap::Command<'a>
 
 /// The program with the commands about one policy's tables and about two policies.
 #[tactic(auto, unfolding(crate::specs::App::nk_without_queries))]
-fn without_queries<'a>(alloc: Global) -> Result<clap::Command<'a>, AllocError>
+fn with_policies<'a>(
+    alloc: Global,
+    command: clap::Command<'a>,
+) -> Result<clap::Command<'a>, AllocError>
+    requires { app_of command ≡ nk_top }
     ensures { IfOk result (λ c. app_of c ≡ nk_without_queries) }
 {
-    let app = with_leaf(alloc, top(alloc), "compile", &["NAME"])?;
-    let app = with_leaf(alloc, app, "trace", &["HOPS", "PACKET"])?;
-    let app = with_leaf(alloc, app, "equal", &["LEFT", "RIGHT"])?;
-    let app = with_leaf(alloc, app, "check", &["LEFT", "RIGHT"])?;
-    with_leaf(alloc, app, "fly", &["SEED", "STEPS", "PACKET"])
+    with_leaves(
+        alloc,
+        command,
+        &[
+            ("compile", &["NAME"]),
+            ("trace", &["HOPS", "PACKET"]),
+            ("equal", &["LEFT", "RIGHT"]),
+            ("check", &["LEFT", "RIGHT"]),
+            ("fly", &["SEED", "STEPS", "PACKET"]),
+        ],
+    )
 }
 
 /// The program with these and the commands about queries.
-fn without_generation<'a>(alloc: Global) -> Result<clap::Command<'a>, AllocError>
+#[tactic(auto, unfolding(crate::specs::App::nk_without_generation, crate::specs::App::nk_without_queries))]
+fn with_queries<'a>(
+    alloc: Global,
+    command: clap::Command<'a>,
+) -> Result<clap::Command<'a>, AllocError>
+    requires { app_of command ≡ nk_without_queries }
     ensures { IfOk result (λ c. app_of c ≡ nk_without_generation) }
 {
-    let app = without_queries(alloc)?;
-    let app = with_leaf(alloc, app, "apart", &["NAME", "A", "B"])?;
-    let app = with_leaf(alloc, app, "waypoint", &["NAME", "A", "W", "B"])?;
-    let app = with_leaf(alloc, app, "check_apart", &["NAME", "A", "B"])?;
-    with_leaf(alloc, app, "check_waypoint", &["NAME", "A", "W", "B"])
+    with_leaves(
+        alloc,
+        command,
+        &[
+            ("apart", &["NAME", "A", "B"]),
+            ("waypoint", &["NAME", "A", "W", "B"]),
+            ("check_apart", &["NAME", "A", "B"]),
+            ("check_waypoint", &["NAME", "A", "W", "B"]),
+        ],
+    )
+}
+
+/// The program with these and the commands about networks, updates, tags and fabrics.
+#[tactic(auto, unfolding(crate::specs::App::nk_app, crate::specs::App::nk_without_generation, crate::specs::App::nk_without_queries))]
+fn with_generation<'a>(
+    alloc: Global,
+    command: clap::Command<'a>,
+) -> Result<clap::Command<'a>, AllocError>
+    requires { app_of command ≡ nk_without_generation }
+    ensures { IfOk result (λ c. app_of c ≡ nk_app) }
+{
+    with_leaves(
+        alloc,
+        command,
+        &[
+            ("gen", &["SIZE", "SEED"]),
+            ("job", &["SIZE", "SEED"]),
+            ("update", &["OLD", "NEW", "SEED", "STEPS", "PACKET"]),
+            ("compact", &["NAME"]),
+            ("virtual", &["NAME"]),
+        ],
+    )
 }
 
 /// The program with all of its commands.
 fn application<'a>(alloc: Global) -> Result<clap::Command<'a>, AllocError>
     ensures { IfOk result (λ c. app_of c ≡ nk_app) }
 {
-    let app = without_generation(alloc)?;
-    let app = with_leaf(alloc, app, "gen", &["SIZE", "SEED"])?;
-    let app = with_leaf(alloc, app, "job", &["SIZE", "SEED"])?;
-    let app = with_leaf(
-        alloc,
-        app,
-        "update",
-        &["OLD", "NEW", "SEED", "STEPS", "PACKET"],
-    )?;
-    let app = with_leaf(alloc, app, "compact", &["NAME"])?;
-    with_leaf(alloc, app, "virtual", &["NAME"])
+    let app = with_policies(alloc, top(alloc))?;
+    let app = with_queries(alloc, app)?;
+    with_generation(alloc, app)
 }
 
 /// The command that the words give. `Usage` comes exactly where they give none.
@@ -226,7 +274,25 @@ fn command_named(alloc: Global, name: &str, found: &ArgMatches) -> Result<Comman
         check(alloc, found)
     } else if name == "fly" {
         fly(alloc, found)
-    } else if name == "apart" {
+    } else {
+        query_named(alloc, name, found)
+    }
+}
+
+/// The same for a name that is none of the commands about tables and about two policies.
+fn query_named(alloc: Global, name: &str, found: &ArgMatches) -> Result<Command, WordsError>
+    ensures { Reads (if bytes_eq name.now (codes "apart") then apart_of (rows_of (found_of found.now))
+        else if bytes_eq name.now (codes "waypoint") then waypoint_of (rows_of (found_of found.now))
+        else if bytes_eq name.now (codes "check_apart") then check_apart_of (rows_of (found_of found.now))
+        else if bytes_eq name.now (codes "check_waypoint") then check_waypoint_of (rows_of (found_of found.now))
+        else if bytes_eq name.now (codes "gen") then gen_of (rows_of (found_of found.now))
+        else if bytes_eq name.now (codes "job") then job_of (rows_of (found_of found.now))
+        else if bytes_eq name.now (codes "update") then update_of (rows_of (found_of found.now))
+        else if bytes_eq name.now (codes "compact") then compact_of (rows_of (found_of found.now))
+        else if bytes_eq name.now (codes "virtual") then virtual_of (rows_of (found_of found.now))
+        else None) result }
+{
+    if name == "apart" {
         apart(alloc, found)
     } else if name == "waypoint" {
         waypoint(alloc, found)
@@ -234,7 +300,21 @@ fn command_named(alloc: Global, name: &str, found: &ArgMatches) -> Result<Comman
         check_apart(alloc, found)
     } else if name == "check_waypoint" {
         check_waypoint(alloc, found)
-    } else if name == "gen" {
+    } else {
+        network_named(alloc, name, found)
+    }
+}
+
+/// The same for a name that is none of the commands about queries either.
+fn network_named(alloc: Global, name: &str, found: &ArgMatches) -> Result<Command, WordsError>
+    ensures { Reads (if bytes_eq name.now (codes "gen") then gen_of (rows_of (found_of found.now))
+        else if bytes_eq name.now (codes "job") then job_of (rows_of (found_of found.now))
+        else if bytes_eq name.now (codes "update") then update_of (rows_of (found_of found.now))
+        else if bytes_eq name.now (codes "compact") then compact_of (rows_of (found_of found.now))
+        else if bytes_eq name.now (codes "virtual") then virtual_of (rows_of (found_of found.now))
+        else None) result }
+{
+    if name == "gen" {
         generate(found)
     } else if name == "job" {
         job(found)
