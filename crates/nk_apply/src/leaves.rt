@@ -6,11 +6,11 @@ ghost use Rattle.nk_store.specs.declared.operation.Operation.TheVariants as oper
 ghost use Rattle.nk_apply.specs.Leaves.{merged, guarded, absent};
 ghost use Rattle.nk_apply.specs.Predicates.{IsPredicate, Ends};
 
+use crate::ascending::join_sorted;
 use crate::pairs::{Join, merge, merge_anew};
 use nk_field::{Act, List};
 use nk_store::{Id, Node, Operation, Out, Store};
 use std::alloc::{AllocError, Global};
-use std::cmp::Ordering;
 
 /// Both leaves together.
 struct Together;
@@ -51,35 +51,6 @@ pub(crate) fn united(st: &Store, a: Id, b: Id) -> Option<Id>
         return Some(a);
     }
     if st.drops(a) { Some(b) } else { None }
-}
-
-/// Two ascending lists as one.
-fn join_sorted(alloc: Global, a: &[Out], b: &[Out]) -> Result<List<Out>, AllocError>
-    ensures { IfOk result (λ r. r ≡ merged a.now b.now) }
-{
-    let mut all = List::with_capacity(alloc, a.len().saturating_add(b.len()))?;
-    let mut i = 0;
-    let mut k = 0;
-    while i < a.len() && k < b.len() {
-        match a[i].cmp(&b[k]) {
-            Ordering::Less => {
-                all.push(a[i].copy()?)?;
-                i += 1;
-            }
-            Ordering::Equal => {
-                all.push(a[i].copy()?)?;
-                i += 1;
-                k += 1;
-            }
-            Ordering::Greater => {
-                all.push(b[k].copy()?)?;
-                k += 1;
-            }
-        }
-    }
-    copy_from(&mut all, a, i)?;
-    copy_from(&mut all, b, k)?;
-    Ok(all)
 }
 
 impl Join for Guard {

@@ -2,6 +2,7 @@
 //! nodes it needs and changes none, also where it fails; its only error is that memory ran out.
 #![tactic(auto)]
 
+mod ascending;
 mod constants;
 mod few;
 mod leaves;

@@ -61,3 +61,15 @@ walk_parts-loop-parts-preserved g t c =
       within = set_within c.args.st.now c.loop-parts.st c.args.g c.args.d c.loop-parts.from c.max-max.result c.part_near-end.result c.part_near-end.ensures c.loop-parts.invariant.grows c.max-max.ensures c.if-end-max.false;
       built = subst (Built (turned (g.M.NodeMap.taken c.args.m.now) (g.M.NodeMap.made c.args.m.now c.args.st.now.maxes) c.args.st.now c.args.g c.args.d) c.walk_once.new.st c.args.g (c.part_near-end.result.0 + 1)) (sym c.in_ok-push.ensures.ok) all;
     }
+
+pub walk_node-returns-clause-grows : goal.walk_node-returns-clause-grows
+walk_node-returns-clause-grows g t c = grows_on _ _ _ c.walk_parts.ensures.grows c.case.ensures.grows
+
+pub walk_parts-returns-in_err-to-clause-grows : goal.walk_parts-returns-in_err-to-clause-grows
+walk_parts-returns-in_err-to-clause-grows g t c = grows_on _ _ _ c.loop-parts.invariant.grows c.walk_once.ensures.grows
+
+pub walk_parts-returns-in_err-push-clause-grows : goal.walk_parts-returns-in_err-push-clause-grows
+walk_parts-returns-in_err-push-clause-grows g t c = grows_on _ _ _ c.loop-parts.invariant.grows c.walk_once.ensures.grows
+
+pub walk_parts-returns-then-end-max-clause-grows : goal.walk_parts-returns-then-end-max-clause-grows
+walk_parts-returns-then-end-max-clause-grows g t c = grows_on _ _ _ c.loop-parts.invariant.grows c.walk_once.ensures.grows

@@ -1,8 +1,8 @@
 use Rattle.std.proofs.Common.{◌≤◌, ◌++◌, ◌⊎◌, inl, inr, ◌∙◌, ap, arith, drop, length}
 use Rattle.std.proofs.lemmas.List.{append_assoc}
 use Rattle.nk_apply.proofs.Weaves.{rests}
-use Rattle.nk_apply.proofs.leaves.join_sorted.Goals as goal
-use Rattle.nk_apply.proofs.leaves.join_sorted.Goals.{then-loop-i-test+else-k-b, else-loop-i-test}
+use Rattle.nk_apply.proofs.ascending.push_sorted.Goals as goal
+use Rattle.nk_apply.proofs.ascending.push_sorted.Goals.{then-loop-i-test+else-k-b, else-loop-i-test}
 
 pub returns : goal.returns
 returns c =
