@@ -1,4 +1,5 @@
-//! Diagrams of one store in sequence, choices between diagrams, targets and assignments; what nk_apply offers is offered here too.
+//! Diagrams of one store in sequence, choices between diagrams, targets and assignments; the operations of nk_apply are
+//! offered here too.
 //! Each operation adds what nodes it needs and changes none, also where it fails; its only error is that memory ran out.
 #![tactic(auto)]
 

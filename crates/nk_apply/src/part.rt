@@ -32,7 +32,7 @@ pub fn part_at(st: &Store, d: Id, f: Fid, v: u64) -> (u64, Id)
 }
 
 /// The same as `part_at`. The search begins at the place `near` and leaves there the place that it found, so values that
-/// rise are found in few steps.
+/// rise are found in few steps. No clause speaks of that place.
 pub fn part_near(st: &Store, d: Id, f: Fid, v: u64, near: &mut usize) -> (u64, Id)
     requires id { IsId st.now d }
     requires first { f ≤ top st.now d }
@@ -53,7 +53,8 @@ pub fn part_near(st: &Store, d: Id, f: Fid, v: u64, near: &mut usize) -> (u64, I
     }
 }
 
-/// The first part whose end is not below the value, looked for at a place first, which becomes the part's own.
+/// The first part whose end is not below the value, looked for at a place first, which becomes the part's own;
+/// no clause speaks of that place.
 pub fn found_near(parts: &[(u64, Id)], max: u64, v: u64, near: &mut usize) -> (u64, Id)
     requires rise { Rises max 0 parts.now }
     requires within { v ≤ max }

@@ -49,7 +49,7 @@ pub struct Compact {
     pub aparts: List<Apart>,
 }
 
-/// The tables of a named policy with as few tags as its histories need: tag sets whose states give the same histories share a tag.
+/// The tables of a named policy in which tag sets behind which the same histories are left share a tag.
 /// They carry the policy; and for each two tags there is a packet and a history that tell them apart.
 ///
 /// A policy is refused for the first reason in the order of `Refusal`, where too many tags are too many classes of tag sets; the

@@ -1,6 +1,6 @@
 -- What `compact NAME` answers to the bytes of a text: the first fault of the text, or the first reason to refuse the policy, or
--- the printed tables with as few tags as its histories need, and behind them a comment line for each two tags that says why they
--- are no single one.
+-- the printed tables in which tag sets behind which the same histories are left share a tag, and behind them a comment line for
+-- each two tags that says why they are no single one.
 use Rattle.std.specs.Prelude.{◌≡◌, ℕ, true, List, Ok, ◌++◌, codes, decimal}
 use Rattle.std.specs.List.{flat_map}
 use Rattle.nk_field.specs.Packet.{FieldTable}

@@ -67,7 +67,7 @@ pub fn kind_of_name(name: &str) -> Kind
     }
 }
 
-/// The kind of a text that is none of the words with which declarations begin.
+/// The kind of a text that is none of the first five keywords.
 fn kind_past_declarations(name: &str) -> Kind
     ensures { result ≡ (if bytes_eq name.now (codes "let") then kind.Let
         else if bytes_eq name.now (codes "certificate") then kind.Certificate
@@ -101,7 +101,7 @@ fn kind_past_declarations(name: &str) -> Kind
     }
 }
 
-/// The kind of a text that is none of these and none of the words of certificates.
+/// The kind of a text that is none of the first ten keywords.
 fn kind_past_certificates(name: &str) -> Kind
     ensures { result ≡ (if bytes_eq name.now (codes "drop") then kind.Drop
         else if bytes_eq name.now (codes "dup") then kind.Dup
@@ -130,7 +130,7 @@ fn kind_past_certificates(name: &str) -> Kind
     }
 }
 
-/// The kind of a text that is none of all these and none of the words of tables.
+/// The kind of a text that is none of the first fifteen keywords.
 fn kind_past_tables(name: &str) -> Kind
     ensures { result ≡ (if bytes_eq name.now (codes "out") then kind.Out
         else if bytes_eq name.now (codes "in") then kind.In

@@ -51,7 +51,8 @@ pub enum Command {
     /// new policy take the place of the old one's; what happens in each is drawn from the seed, 1 to 2147483646. The
     /// packet is a text such as `sw=1,pt=2,dst=3`.
     Update(Bytes, Bytes, u64, u64, Bytes),
-    /// `compact NAME`: the table of every switch for the policy of this name, with as few tags as its histories need.
+    /// `compact NAME`: the table of every switch for the policy of this name, with one tag for all tag sets
+    /// behind which the same histories are left.
     Compact(Bytes),
     /// `virtual NAME`: the table of every switch for the physical policy of the virtual one of this name, with each virtual
     /// link by its fabric.
