@@ -15,44 +15,43 @@ class Judge:
     """Judges the rows of a certificate for two policies."""
 
     def __init__(self, program, left, right, rows):
-        self.runs, self.rows = Runs(left, right), rows
+        self.runs, self.rows = Runs(left, right), {frozenset(positions): it for positions, it in rows.items()}
         self.everything = tuple((0, largest) for _, largest in program.fields)
-        self.predicates = {frozenset(row.positions): row.predicate for row in rows[1:]}
 
     def answer(self):
         """README: "It prints the first row that fails, the start row being row 1, and the first part in which it fails.\""""
-        for number, row in enumerate(self.rows, 1):
-            part = self.failing_part(row)
+        for number, (positions, predicate) in enumerate(self.rows.items(), 1):
+            part = self.failing_part(positions, predicate)
             if part != "valid":
                 return f"invalid row {number}: {part}"
         return "valid"
 
-    def failing_part(self, row):
+    def failing_part(self, positions, predicate):
         """The first part that the row fails. README: "Four things are asked of each row, in this order"."""
-        if not self.runs.rests.keys() >= set(row.positions):
+        if not self.runs.rests.keys() >= positions:
             return "position"  # README: "its numbers are dups of the policies"
         found, packets = {"valid"}, [self.everything]
         while packets and "start" not in found:
             x = packets.pop()
             self.runs.known.clear()
             try:
-                found.add(self.part_at(row, x))
+                found.add(self.part_at(positions, predicate, x))
             except Cut as cut:
                 low, high = x[cut.f]
                 packets += [put(x, cut.f, (low, cut.value - 1)), put(x, cut.f, (cut.value, high))]
         return min(found, key=PARTS.index)
 
-    def part_at(self, row, x):
-        """The first part that a row fails at a packet."""
-        if not keeps(row.predicate, x):
-            return "valid" if row.positions else "start"  # README: "the start row has all packets"
-        at = frozenset(row.positions) or START
+    def part_at(self, positions, predicate, x):
+        """The first part that the row fails at a packet."""
+        if not keeps(predicate, x):
+            return "valid" if positions else "start"  # README: "the start row has all packets"
+        at = positions or START
         left, right, nexts = self.runs.ends(at, x, 0), self.runs.ends(at, x, 1), self.runs.nexts(at, x)
         tell_apart(left | right)
         tell_apart(nexts)
         if left != right:
             return "finals"  # README: "from each packet of the row both policies end at the same packets without a record"
-        met = [numbers in self.predicates and keeps(self.predicates[numbers], y) for y, numbers in nexts.items()]
+        met = [numbers in self.rows and keeps(self.rows[numbers], y) for y, numbers in nexts.items()]
         return "valid" if all(met) else "hop"  # README: "some row has exactly the numbers of the dups that record it, .."
 
 

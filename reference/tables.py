@@ -3,7 +3,7 @@
 from typing import NamedTuple
 
 from policies import put
-from texts import Fault, Program, Reader, demand, in_range, tokens_of
+from texts import Fault, Program, Reader, declared, demand, in_range, tokens_of
 
 
 class Bucket(NamedTuple):
@@ -37,8 +37,7 @@ def parse_tables(text):
     tables = Tables(version)
     try:
         require(version in ("1", "2"), version)
-        for declaration in declarations:
-            tables.declare(declaration)
+        declared(tables, declarations)
         require(tables.tag is not None, tokens[-1])
     except Fault as fault:
         raise Fault(fault.line, "table fault") from None
