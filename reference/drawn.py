@@ -6,12 +6,13 @@ from meaning import TooLarge
 from texts import KEYWORDS
 from words import COMMANDS, answer
 
-# The ways to write each form, some with a weight; <x> is of the form x, or what the method of `Draw` of that name draws.
+# The ways to write each form, some with a weight; <x> is of the form x, or what the method `x` of `Draw` draws.
 FORMS = {
     "predicate": "20× <test> | 2× id | 2× drop | 4× ~<predicate> | 5× ~(<predicate>) | 3× (<predicate> + <predicate>) "
     "| 3× <predicate>;<predicate> | 3× (<predicate>;<predicate> + <predicate>)",
     "policy": "8× <test> | 8× <set> | 4× dup | 4× <link> | id | drop | 4× <let> | 5× (<predicate>) | 8× (<policy>)* "
-    "| 2× <chain> | 5× (<policy> + <policy>) | 3× <policy> + <policy> | 6× (<policy>;<policy>) | 6× <policy>;<policy>;<policy>",
+    "| 2× <chain> | 5× (<policy> + <policy>) | 3× <policy> + <policy> | 6× (<policy>;<policy>) "
+    "| 6× <policy>;<policy>;<policy>",
     "step": "<chain> | 5× <predicate> | 4× <set>",
     "hop": "6× <crossing> | 2× <step>;<crossing> | 2× <crossing>;<step>",
     "hops": "2× <hop> | 3× <hop> + <hop> | 2× <hop> + <hop> + <hop> | <hop> + <hop> + <hop> + <hop>",
@@ -21,31 +22,33 @@ FORMS = {
     "end": "14× ;<leaving> | ",
     "route": "7× (<begin><ways>)<end> | 3× <step> + (<begin><ways>)<end>",
     "compiled": "8× <route> | <policy> | <let>;<route>",
-    "compared": "9× <route> | 9× <policy> | 2× <walk>",
+    "compared": "9× <route> | 8× <policy> | 2× <walk> | 5× <branch>",
+    "branch": "(<set>;dup + dup) | (<set>;dup + <set>;dup);<set> | <set>;dup + dup;<test> + <set>;dup",
     # What does the same as @, or nearly, % being the same predicate wherever it stands.
-    "rewritten": "(@) + (@) | id;(@) | (@);id | (@) + drop | ~~id;(@) | (@) + drop;dup | (id + drop*)*;(@) | @ | ~(%)*;(@) "
-    "| (@);(%)* + (@) | (@) + (@);% | %;(@) + ~(%);(@) | (@) + %;(@) | %;(@)",
+    "rewritten": "(@) + (@) | id;(@) | (@);id | (@) + drop | ~~id;(@) | (@) + drop;dup | (id + drop*)*;(@) | @ "
+    "| ~(%)*;(@) | (@);(%)* + (@) | (@) + (@);% | %;(@) + ~(%);(@) | (@) + %;(@) | %;(@)",
     "name": "30× p | x",
     "row": "row <positions> : id | 2× row <positions> : <predicate>",
     "positions": "6× 1 | 3× 2 | 3× 1 3 | 3× 2 4 | 0 1 | 2× 1 2 3 | 3 1 | 2× 5",
     "match": " | <matched>",
-    "tablerow": "row <digit> : <match> <match> -> <bucket> | row <digit> : <matched> -> drop | row <digit> : -> <bucket> "
-    "| 2× row <digit> : <match> -> group 1 | row <digit> : <match> -> group 2",
+    "tablerow": "row <digit> : <match> <match> -> <bucket> | row <digit> : <matched> -> drop "
+    "| row <digit> : -> <bucket> | 2× row <digit> : <match> -> group 1 | row <digit> : <match> -> group 2",
     "group": "<bucket> | 3× <bucket> <bucket> | 2× <bucket> <bucket> <bucket>",
     "nested": "{255 ~}id | {256 ~}id | {128 ~(}id{128 )} | {128 ~(}~id{128 )} | {255 (}id{256 )} | {256 (}id{256 )} "
     "| {257 (}id{257 )}",
     "named": "3× @* | 3× ~@ | 3× @;id | 3× @ + id | 4× @;@ | 4× @ + @ | 4× @;@ + id",
     "digit": "0 | 1 | 1 | 2 | 3 | 4",
     "number": "0 | 1 | 2 | 8 | 65536 | 007 | 281474976710655 | 281474976710656 | {25 9}",
-    "piece": "6× <number> | 3× <keyword> | + | ; | * | ~ | ( | ) | = | := | => | -> | : | , | [ | ] | .. | / | - | x | p | sw | pt "
-    "| vlan | dst | é | \x00 | # | \n | ~~ | ((",
+    "piece": "6× <number> | 3× <keyword> | + | ; | * | ~ | ( | ) | = | := | => | -> | : | , | [ | ] | .. | / | - "
+    "| x | p | sw | pt | vlan | dst | é | \x00 | # | \n | ~~ | ((",
     "keyword": " | ".join(KEYWORDS),
-    "line": "field dst 1 | field vlan 3 | field sw 1 | tag vlan | tag dst | tag pt | switch 1 ports 1 | switch 4 ports 1,2,1 "
-    "| switch 6 ports 2,2,65536 | switch 7 ports 3,3,70000 | switch 1 ports 65536 | switch 65536 ports 1 "
-    "| switch 5 ports 65536 | link 1:1 -> 1:1 | link 1:1 -> 2:1 | link 7:1 -> 1:1 | link 1:2 -> 1:9 | let p = id "
-    "| let z = zz | 3× let z = p;~p | 3× let z = ~(dup + ~dup) | let z = nofield=1 | let z = 1:1=>1:65536 | fabric f = p "
-    "| fabric f = f | virtual 1:1 -> 1:2 by f | virtual 1:1 -> 1:1 by p | virtual 1:9 -> 9:9 by f | field f<digit> 3 "
-    "| 4× let d<digit> = <nested> | tables 1 | table 1 | row 0 : -> drop | certificate | row 1 : id | row 1 1 : id",
+    "line": "field dst 1 | field vlan 3 | field sw 1 | tag vlan | tag dst | tag pt | switch 1 ports 1 "
+    "| switch 4 ports 1,2,1 | switch 6 ports 2,2,65536 | switch 7 ports 3,3,70000 | switch 1 ports 65536 "
+    "| switch 65536 ports 1 | switch 5 ports 65536 | link 1:1 -> 1:1 | link 1:1 -> 2:1 | link 7:1 -> 1:1 "
+    "| link 1:2 -> 1:9 | let p = id | let z = zz | 3× let z = p;~p | 3× let z = ~(dup + ~dup) | let z = nofield=1 "
+    "| let z = 1:1=>1:65536 | fabric f = p | fabric f = f | virtual 1:1 -> 1:2 by f | virtual 1:1 -> 1:1 by p "
+    "| virtual 1:9 -> 9:9 by f | field f<digit> 3 | 4× let d<digit> = <nested> | tables 1 | table 1 "
+    "| row 0 : -> drop | certificate | row 1 : id | row 1 1 : id",
     "item": "x |  | sw=1 | vlan=0 | pt=3 | pt=65536 | sw=1,pt=1",
     "word": "6× p | 3× q | x | sw=1,pt=1 | -p | -- | - |  | --p | \udcff",
     "count": "1 | 0 | 7 | 00 | 65535 | 65536 | 2147483646 | 2147483647 | 1000000 | 1000001 | -1 | +1 | 1. |  | 1 ",
@@ -61,7 +64,8 @@ class Draw:
         self.random = random
         one = random.choice
         fields = random.sample(["dst", "src", "b"], one([0, 1, 1, 1, 2]))
-        largest = {name: one([0, 1, 2, 3, 3, 5, 9, 9, 200, 2**48 - 1]) for name in fields} | {"vlan": one([0, 1, 2, 3, 7, 7, 7])}
+        largest = {name: one([0, 1, 2, 3, 3, 5, 9, 9, 200, 2**48 - 1]) for name in fields}
+        largest["vlan"] = one([0, 1, 2, 3, 7, 7, 7])
         self.fields = dict(random.sample(list(largest.items()), len(largest)))
         switches = sorted(random.sample([1, 2, 3], one([1, 2, 2, 3]))) if self.chance(0.95) else [0, 65535]
         self.switches = {it: random.sample([1, 2, 3, 9], one([2, 3, 3, 4])) for it in switches}
@@ -183,7 +187,7 @@ class Draw:
         return text[: place.start()] + others.get(place[0], self.one(*"011239")) + text[place.end() :]
 
     def damaged(self, pieces, form, count=1):
-        """The pieces with some taken out, doubled or replaced, by others or ones of a form, or all behind one cut off."""
+        """The pieces with some taken out, doubled or replaced, by others or ones of a form, or the end cut off."""
         for _ in range(count if pieces else 0):
             place = self.random.randrange(len(pieces))
             other = self.one(*pieces) if self.chance(0.4) else self.text(form)
@@ -222,8 +226,8 @@ def asking(draw):
 
 
 def updating(draw):
-    words = ["update", "p", draw.one(*"qqqp"), str(draw.random.randrange(1, 99)), draw.one("0", "5", "14", "25", "40", "60")]
-    return [*words, draw.packet()], draw.program("route", "route")
+    seed, steps = draw.random.randrange(1, 99), draw.one(0, 5, 14, 25, 40, 60)
+    return ["update", "p", draw.one(*"qqqp"), str(seed), str(steps), draw.packet()], draw.program("route", "route")
 
 
 def faring(draw):
@@ -270,14 +274,16 @@ def checking(draw):
     if status == 0 and draw.chance(0.85):
         rows = out.decode().splitlines()
         place, more = draw.random.randrange(1, len(rows)), draw.text("predicate")
-        positions = rows[place].partition(" : ")[0]
-        rows[place] = draw.one(rows[place], draw.changed(rows[place]), f"{rows[place]} + {more}", f"{positions} : {more}")
-        rows[2:] = draw.one(rows[2:], rows[2:], rows[2:], draw.damaged(rows[2:], "row"))
+        heads = [row.partition(" : ")[0] for row in rows]
+        row = rows[place]
+        rows[place] = draw.one(row, row, draw.changed(row), f"{row} + {more}", f"{heads[place]} : {more}")
+        rows[2:] = [f"{it} : id" for it in heads[2:]] if draw.chance(0.2) else rows[2:]
+        rows[2:] = draw.one(rows[2:], draw.damaged(rows[2:], "row"))
     return ["check" if words[0] == "equal" else "check_" + words[0], *words[1:]], lines + rows
 
 
 def following(draw):
-    """The tables of a policy, rows that are drawn, or tables by which copies that differ in the tag spread over links."""
+    """The tables of a policy, drawn rows, or tables by which copies with tags of their own spread over links."""
     kind, lines = draw.random.random(), draw.program("compiled", tagged=1)
     status, out, _ = answer(["compile", "p"], "\n".join(lines).encode()) if kind < 0.25 else (1, b"", b"")
     lines = [f"tables {draw.one(1, 2, 2, 2, 2, 2, draw.one(1, 2, 3))}", *draw.declarations()]
@@ -326,7 +332,8 @@ def deep(draw):
     form = draw.text("named")
     count = draw.one(18, 19, 20, 20, 21) if form.count("@") > 1 else draw.one(254, 255, 256, 257)
     lines = ["let a0 = id", *(f"let a{it} = " + form.replace("@", f"a{it - 1}") for it in range(1, count + 1))]
-    return draw.one("compile x", "compile @", "apart @ a0 a0", "waypoint a0 a0 @ a0").replace("@", f"a{count}").split(), lines
+    words = draw.one("compile x", "compile @", "apart @ a0 a0", "waypoint a0 a0 @ a0").replace("@", f"a{count}")
+    return words.split(), lines
 
 
 KINDS = {compiling: 26, equating: 18, checking: 14, following: 14, damaged: 14, declared: 9, asking: 6, updating: 6}
