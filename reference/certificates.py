@@ -19,7 +19,7 @@ class Judge:
         self.everything = tuple((0, largest) for _, largest in program.fields)
 
     def answer(self):
-        """README: "It prints the first row that fails, the start row being row 1, and the first part in which it fails.\""""
+        """README: "the first row that fails, the start row being row 1, and the first part in which it fails"."""
         for number, (positions, predicate) in enumerate(self.rows.items(), 1):
             part = self.failing_part(positions, predicate)
             if part != "valid":
@@ -50,9 +50,9 @@ class Judge:
         tell_apart(left | right)
         tell_apart(nexts)
         if left != right:
-            return "finals"  # README: "from each packet of the row both policies end at the same packets without a record"
+            return "finals"  # README: "both policies end at the same packets without a record"
         met = [numbers in self.rows and keeps(self.rows[numbers], y) for y, numbers in nexts.items()]
-        return "valid" if all(met) else "hop"  # README: "some row has exactly the numbers of the dups that record it, .."
+        return "valid" if all(met) else "hop"  # README: "some row has exactly the numbers of the dups .."
 
 
 def tell_apart(packets):

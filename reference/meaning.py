@@ -1,7 +1,7 @@
 """What policies do from one record to the next, the sets of positions that their runs come to, and the least history.
 
-Packets that no policy tells apart are taken as one: a packet has for each field a range (low, high) of values, and what is
-said of it holds of all values in the range alike. Where it doesn't, `Cut` says where the range has to be cut in two.
+Packets that no policy tells apart are taken as one: a packet has for each field a range (low, high) of values, and what
+is said of it holds of all values in the range alike. Where it doesn't, `Cut` says where the range has to be cut in two.
 """
 
 from itertools import count, product
@@ -77,7 +77,7 @@ def inside(x, f, low, high):
 
 
 def keeps(predicate, x):
-    """Whether a predicate keeps a packet. GUIDE 2: `~p` "keeps the packet if p doesn't keep it"; between predicates + "is "or"."""
+    """Whether a predicate keeps a packet. GUIDE 2: `~p` "keeps the packet if p doesn't keep it"; `+` "is "or"."""
     kind, *rest = predicate
     if kind == "sum":
         return any(keeps(part, x) for part in predicate.parts)
@@ -87,8 +87,8 @@ def keeps(predicate, x):
 
 
 def walk(policy, x):
-    """Where the policy ends from x without a record, by the forms of GUIDE 2, "What it does with a packet"; and the packets that
-    it can record first, each with its dup's number. GLOSSARY, RecordsAt: "a run so far", nothing recorded before."""
+    """Where the policy ends from x without a record, by the forms of GUIDE 2, "What it does with a packet"; and the
+    packets that it can record first, each with its dup's number. GLOSSARY, RecordsAt: "a run so far"."""
     if policy.predicate:
         return {x} if keeps(policy, x) else set(), set()
     match policy:
@@ -147,7 +147,8 @@ class Runs:
 
     def __init__(self, *policies):
         numbers = count(1)
-        self.sides = [mapped(parted(it), lambda leaf: Policy("dup", next(numbers)) if leaf == DUP else leaf) for it in policies]
+        numbered = lambda leaf: Policy("dup", next(numbers)) if leaf == DUP else leaf
+        self.sides = [mapped(parted(it), numbered) for it in policies]
         self.split = len(rests(self.sides[0]))  # the last position of the left side
         self.rests = {number: rest for side in self.sides for number, rest in rests(side).items()}
         self.known = {}
@@ -178,8 +179,8 @@ class Runs:
         return found
 
     def levels(self, starts, first=START):
-        """Level by level, the pairs of a set of positions and a packet that no shorter list of records comes to, each with the
-        least start and records that come to it."""
+        """Level by level, the pairs of a set of positions and a packet that no shorter list of records comes to, each
+        with the least start and records that come to it."""
         level = {(first, x): (x,) for x in starts}
         seen = set(level)
         while level:
@@ -202,7 +203,7 @@ class Runs:
         return None
 
     def first_difference(self, starts, first=START):
-        """README, Done: "the least history that one of them alone has, with its start and its side", 0 or 1, behind the last."""
+        """README, Done: "the least history that one of them alone has, with its start and its side": 0 or 1."""
 
         def alone(at, x):
             left, right = self.ends(at, x, 0), self.ends(at, x, 1)
@@ -211,7 +212,7 @@ class Runs:
         return self.least(starts, alone, first)
 
     def position_sets(self, starts, every=1):
-        """The sets of positions of every so manieth level behind the start, in order: by level, then as ascending lists."""
+        """The sets of positions behind the start, of each or every second level: by level, then as ascending lists."""
         found = []
         for level in list(self.levels(starts))[1::every]:
             found += sorted({tuple(sorted(at)) for at, _ in level} - set(found))

@@ -24,7 +24,7 @@ def hop(tables, rows, records, packet):
 
 
 def trace(tables, hops, packet):
-    """README: "each history with which the packet leaves after at most HOPS link crossings", by length, and the copies that fly on."""
+    """README: "each history with which the packet leaves after at most HOPS link crossings"; the copies that fly on."""
     waiting, found, count = [((), packet)], [], 0
     for _ in range(hops + 1):
         went = [hop(tables, tables.rows.get(copy[0], []), records, copy) for records, copy in waiting]
@@ -46,7 +46,7 @@ def draws(seed):
 
 
 def fly(tables, seed, steps, packet):
-    """README, fly: "the copy is that draw modulo the number of copies in flight"; what crosses is appended in its buckets' order."""
+    """README, fly: "the copy is that draw modulo the number of copies in flight"; what crosses is appended."""
     flying, left = [((), packet)], []
     for _, drawn in zip(range(steps), draws(seed)):
         if not flying:
@@ -75,15 +75,15 @@ class Update:
         self.done = {switch: 0 for switch in sorted(self.old.switches)}
 
     def rows(self, switch):
-        """GUIDE 5: "the new rows for tagged packets are added; the rows for packets without a tag are replaced; the old rows for
-        tagged packets are removed"."""
+        """GUIDE 5: "the new rows for tagged packets are added; the rows for packets without a tag are replaced; the old
+        rows for tagged packets are removed". A printed row matches the tag first."""
         old, new = self.old.rows.get(switch, []), self.new.rows.get(switch, [])
-        old_tagged, new_tagged = ([row for row in it if (self.old.tag, 0) not in [its[:2] for its in row.matches]] for it in (old, new))
+        old_tagged, new_tagged = ([row for row in rows if row.matches[0][1]] for rows in (old, new))
         return [old, old + new_tagged, old_tagged + new, new][self.done[switch]]
 
     def may(self, switch):
-        """GUIDE 5: "its second step once all have done the first, and its third once all have done the second and no copy with an
-        old tag is on its way"."""
+        """GUIDE 5: "its second step once all have done the first, and its third once all have done the second and no
+        copy with an old tag is on its way"."""
         if self.done[switch] == 3 or min(self.done.values()) < self.done[switch]:
             return False
         return self.done[switch] < 2 or all(not 0 < copy[self.old.tag] <= self.old_tags for _, _, copy in self.flying)
@@ -101,7 +101,7 @@ class Update:
             self.done[steps[action - 1 - len(self.flying)]] += 1
 
     def handle(self, number, records, copy):
-        """GUIDE 5: a packet goes by the new policy if the switch of its first turn had done its second step, else by the old one."""
+        """A packet goes by the new policy if its first switch had done its second step, else by the old one."""
         self.versions.setdefault(number, "new" if self.done[copy[0]] >= 2 else "old")
         crossed, out = hop(self.old, self.rows(copy[0]), records, copy)
         self.flying += [(number, *it) for it in crossed]

@@ -1,6 +1,6 @@
 """Policies as trees.
 
-A policy is a tuple of its kind and what it is made of. A field is a number: 0 is `sw`, 1 is `pt`, then the declared ones.
+A policy is a tuple of its kind and its parts. A field is a number: 0 is `sw`, 1 is `pt`, then the declared ones.
     ("test", f, n)  ("range", f, low, high)  ("set", f, n)  ("dup",)  ("link", a, m, b, n)
     ("sum", parts)  ("seq", parts)  ("not", p)  ("star", p)          `id` is the empty seq, `drop` the empty sum
 Behind ("not", p) stands the line of its `~`, if it has one.
@@ -8,9 +8,9 @@ Behind ("not", p) stands the line of its `~`, if it has one.
 
 
 class Policy(tuple):
-    """A policy with its measures. GLOSSARY, Policies and their runs: "depth: 1 for a leaf, 1 more than the deepest part for the
-    rest"; "size: how many elements the tree has"; a predicate is made of tests, ranges, and sums, sequences and complements of
-    predicates. Its first fault is the line of the first `~` that stands over what is no predicate."""
+    """A policy with its measures. The depth of a leaf is 1, else 1 more than that of the deepest part; the size is how
+    many elements there are; a predicate is made of tests, ranges, and sums, sequences and complements of predicates.
+    The fault is the line of the first `~` that stands over what is no predicate."""
 
     def __new__(cls, kind, *rest):
         made = super().__new__(cls, (kind, *rest))
@@ -49,8 +49,8 @@ def mapped(policy, change):
 
 
 def parted(policy):
-    """The policy with each link as its six parts. GUIDE 2: `1:2=>2:2` "sends a packet that is at port 2 of switch 1 over the link to
-    port 2 of switch 2"; "each link records by itself"."""
+    """The policy with each link as its six parts. GUIDE 2: `1:2=>2:2` "sends a packet that is at port 2 of switch 1
+    over the link to port 2 of switch 2"; "each link records by itself"."""
     return mapped(policy, lambda leaf: link_parts(*leaf[1:]) if leaf[0] == "link" else leaf)
 
 

@@ -61,7 +61,7 @@ def predicate_text(fields, policy, outer=()):
 
 
 def certificate(space, runs):
-    """README, Certificates: "a row for each set of numbers that runs come to, with exactly the packets at which they do"."""
+    """README: "a row for each set of numbers that runs come to, with exactly the packets at which they do"."""
     met = {}
     for level in list(runs.levels(space.packets()))[1:]:
         for at, x in level:
@@ -77,12 +77,12 @@ def certificate(space, runs):
 
 
 def tag_sets(space, runs):
-    """GLOSSARY, IsTagSet, AreTags: "the last numbers after an odd number of records from a start packet; the tag sets in order"."""
+    """GLOSSARY, IsTagSet: "the last numbers after an odd number of records from a start packet"; in order."""
     return [frozenset(it) for it in runs.position_sets(space.located(), every=2)]
 
 
 def classes(space, policy, sets):
-    """README, compact: one class for all tag sets behind which the same histories are left; and what tells two apart."""
+    """README: "one tag for all tag sets behind which the same histories are left"; and what tells two tags apart."""
     runs = Runs(policy, policy)
     firsts, numbers, aparts = [], [], {}
     for at in sets:
@@ -141,7 +141,7 @@ class Compiled:
         return tuple(sorted((tuple((f, y[f][0]) for f in self.matched if y[f] != x[f]), tag) for y, tag in results))
 
     def rows(self, tree, matches, shown):
-        """A row for each way through the tree, by blocks ascending, the else-child last; a drop row only where it is needed."""
+        """A row for each way through the tree, by blocks ascending, the else-child last; drop rows where needed."""
         if tree[0] == "leaf":
             return [(matches, tree[1])] if tree[1] or shown else []
         _, f, parts = tree
@@ -160,7 +160,7 @@ class Compiled:
         for switch, rows in self.sections.items():
             groups = list(dict.fromkeys(buckets for _, _, buckets in rows if len(buckets) > 1))
             lines.append(f"table {switch}")
-            lines += [f"group {number} = {' '.join(map(self.bucket_text, group))}" for number, group in enumerate(groups, 1)]
+            lines += [f"group {it} = {' '.join(map(self.bucket_text, group))}" for it, group in enumerate(groups, 1)]
             lines += [self.row_text(groups, *row) for row in rows]
         return lines
 
@@ -200,5 +200,6 @@ def blocks(low, high, largest):
 def declaration_lines(program):
     lines = [f"field {name} {largest}" for name, largest in program.fields[2:]]
     lines.append(f"tag {program.fields[program.tag][0]}")
-    lines += [f"switch {it} ports {','.join(map(str, sorted(ports)))}" for it, ports in sorted(program.switches.items())]
+    for switch, ports in sorted(program.switches.items()):
+        lines.append(f"switch {switch} ports {','.join(map(str, sorted(ports)))}")
     return lines + [f"link {a}:{m} -> {b}:{n}" for (a, m), (b, n) in sorted(program.links.items())]

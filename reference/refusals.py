@@ -2,7 +2,7 @@
 
 import re
 
-from meaning import Runs, Space, small
+from meaning import Runs, Space, places, small
 from policies import Policy, leaves, mapped, seq
 from texts import MOST_ELEMENTS
 
@@ -20,10 +20,11 @@ def history_text(program, records, last, with_tag=True):
     return " ".join(packet_text(program, it, with_tag) for it in (*records, last))
 
 
-def found_lines(program, start, *history):
-    """`start PACKET`, and of a history `history PACKET PACKET ..`, with every field: for each the least value of its range."""
-    least = [packet_text(program, [low for low, _ in x]) for x in (start, *(it for its in history[:1] for it in its), *history[1:])]
-    return [f"start {least[0]}", *([f"history {' '.join(least[1:])}"] if history else [])]
+def found_lines(program, start, records=(), last=None):
+    """`start PACKET`, and of a history `history PACKET PACKET ..`, with every field: the least value of its range."""
+    packets = [start, *records, *([last] if last else [])]
+    first, *others = [packet_text(program, [low for low, _ in x]) for x in packets]
+    return [f"start {first}", f"history {' '.join(others)}"][: len(packets)]
 
 
 def policies(program, *names):
@@ -53,8 +54,11 @@ def check_by_sight(program, policy, links):
 
 
 def check_edges(space, runs):
-    """README, C7: "a packet without tag on a declared port has a history that ends at no edge port; the least one is printed"."""
-    edges = [((a, a), (m, m)) for a, ports in space.program.switches.items() for m in ports if (a, m) not in space.program.links]
+    """README, C7: "a packet without tag on a declared port has a history that ends at no edge port".
+
+    GUIDE 1: "Edge ports are the declared ports at which no link begins".
+    """
+    edges = [((a, a), (m, m)) for a, m in places(space.program) if (a, m) not in space.program.links]
     found = runs.least(space.located(), lambda at, x: {y for y in runs.ends(at, x) if y[:2] not in edges})
     if found:
         raise Refused("C7: off edge", *found_lines(space.program, *found))
@@ -83,8 +87,8 @@ def packet_of(program, text):
 
 
 def check_carried(program, source):
-    """README, C11: a packet without tag at the link's source "has a history of the link's fabric that ends elsewhere than at the
-    packet moved to the port where the link ends"; C12: such a packet "has no history of the link's fabric"."""
+    """README, C11: a packet without tag at the link's source "has a history of the link's fabric that ends elsewhere
+    than at the packet moved to the port where the link ends"; C12: it "has no history of the link's fabric"."""
     (a, m), (b, n, name) = source, program.virtuals[source]
     fabric, where = program.fabrics[name], f"{a}:{m}"
     space, runs = Space(program, fabric, with_ports=True), Runs(fabric)
@@ -106,11 +110,12 @@ def few_elements(policy):
 
 
 def physical(program, policy):
-    """GUIDE 3, README: each literal of a virtual link behind tests of switch and port: the link's fabric in its place."""
+    """README, C13: "the policy with a test of switch and port and the fabric in the place of each literal"."""
 
     def fabric(leaf):
         if leaf[0] != "link":
             return leaf
-        return seq(Policy("test", 0, leaf[1]), Policy("test", 1, leaf[2]), program.fabrics[program.virtuals[leaf[1:3]][2]])
+        _, a, m, _, _ = leaf
+        return seq(Policy("test", 0, a), Policy("test", 1, m), program.fabrics[program.virtuals[a, m][2]])
 
     return few_elements(mapped(policy, fabric))

@@ -14,7 +14,7 @@ class Bucket(NamedTuple):
 
 
 class TableRow(NamedTuple):
-    """A match is (field, value, length of the prefix); the buckets are those of the row or of its group, none for `drop`."""
+    """A match is (field, value, length of the prefix); the buckets are the row's or its group's, none for `drop`."""
 
     priority: int
     matches: list
@@ -30,8 +30,8 @@ def digits_of(largest):
 
 
 def parse_tables(text):
-    """README, faults: `table fault`: a table text breaks a rule of tables; the line of the first number or name at fault; of the
-    last token where no tag is declared."""
+    """README, faults: `table fault`: a table text breaks a rule of tables; the line of the first number or name at
+    fault; of the last token where no tag is declared."""
     tokens = tokens_of(text)
     _, version, *declarations = Reader(tokens).whole("table-text")
     tables = Tables(version)
@@ -56,7 +56,7 @@ class Tables(Program):
         self.version, self.rows = version, {}
 
     def declare(self, declaration):
-        """A table: a number or name that isn't declared or is twice, or a second section of a switch; or another declaration."""
+        """A table: a number that isn't declared or is twice, a second section of a switch; or another declaration."""
         if declaration[0] != "table":
             return super().declare(declaration)
         _, number, *lines = declaration
@@ -117,10 +117,8 @@ class Tables(Program):
 
 
 def emitted(tables, rows, packet):
-    """GUIDE 4: "Of all rows that match a packet, the one with the highest priority acts. If none matches, the packet is dropped".
-
-    README, nk_table: "a tie drops".
-    """
+    """GUIDE 4: "Of all rows that match a packet, the one with the highest priority acts. If none matches, the packet is
+    dropped". README, nk_table: "a tie drops"."""
     matching = [row for row in rows if all(agrees(tables, it, packet) for it in row.matches)]
     highest = max((row.priority for row in matching), default=None)
     acting = [row for row in matching if row.priority == highest]
@@ -135,7 +133,7 @@ def agrees(tables, match, packet):
 
 
 def sent(bucket, packet):
-    """README, nk_table: "a copy goes back by `out in` alone": out of the number of the port at which it came in nothing is sent."""
+    """README, nk_table: "a copy goes back by `out in` alone", by the number of its own port nothing is sent."""
     if bucket.port == packet[1]:
         return []
     copy = packet if bucket.port is None else put(packet, 1, bucket.port)

@@ -36,8 +36,9 @@ def demand(holds, token, words):
 # ------------------------------------------------------------------------------------------------- bytes to tokens
 
 # GUIDE 2: "These words can't be names".
-KEYWORDS = "field tag switch ports link let certificate row start id drop dup tables table group out in virtual fabric by".split()
-# GUIDE 1: "What follows `#` on a line is a comment; spaces and line ends are free"; of the symbols the longest one is taken.
+KEYWORDS = "field tag switch ports link let certificate row start id drop dup".split()
+KEYWORDS += "tables table group out in virtual fabric by".split()
+# GUIDE 1: "What follows `#` on a line is a comment; spaces and line ends are free". The longest symbol is taken.
 LEXEME = re.compile(
     rb"(?P<space>[ \t\r\n]+|\#[^\n]*)|(?P<NAME>[A-Za-z_][A-Za-z0-9_]*)|(?P<NUMBER>[0-9]+)"
     rb"|(?P<symbol>:=|=>|->|\.\.|[+;*~()=:,\[\]/])"
@@ -45,7 +46,7 @@ LEXEME = re.compile(
 
 
 class Token(str):
-    """A word of the text, a number without leading zeros; its kind, `NAME`, `NUMBER` or the word itself; and its line."""
+    """A word, or a number without leading zeros; its kind, `NAME`, `NUMBER` or the word itself; and its line."""
 
     def __new__(cls, word, kind, line):
         token = super().__new__(cls, word)
@@ -141,14 +142,14 @@ class Reader:
         return found if self.place == len(self.tokens) else self.unexpected()
 
     def unexpected(self):
-        """README, faults: `unexpected`: no valid text can continue with this token; at the end, the last token's line, or 1."""
+        """README, faults: "no valid text can continue with this token"; at the end, of "the last token, or 1"."""
         raise Fault(([1] + [it.line for it in self.tokens[: self.place + 1]])[-1], "unexpected")
 
     def can_be(self, items):
         return self.place < len(self.tokens) and self.tokens[self.place].kind in firsts(items)
 
     def read(self, rule):
-        """What a rule makes of its tokens and of what the rules in it make. `(` and `~` are open as long as their rule."""
+        """What a rule makes of its tokens and of what its rules make. `(` and `~` are open as long as their rule."""
         found, opened = [], self.opened
         self.choose(RULES[rule], found)
         self.opened = opened
@@ -300,7 +301,7 @@ def declared(program, declarations):
 
 
 def parse_certified(text):
-    """The program of a text, and the rows of the certificate behind it: positions, none of the start row, and a predicate."""
+    """The program of a text, and the rows of the certificate behind it: predicates by positions, none of the start."""
     declarations, _, (start, _, first), *further = Reader(tokens_of(text)).whole("certified")
     program, rows = declared(Program(), declarations), {}
     for word, *numbers, tree in [(start, first), *further]:

@@ -27,7 +27,7 @@ class Usage(Exception):
 
 
 def command_of(words):
-    """The command and its arguments. `--` is dropped once, and what follows is a value; so are `-` and the empty word."""
+    """The command and its arguments. `--` is dropped once, and what follows is a value; so are `-` and empty words."""
     if not words or words[0] not in COMMANDS or re.search("[\ud800-\udfff]", "".join(words)):
         raise Usage  # DECISIONS, Words: words are UTF-8 texts; the letters named here are those of bytes that are none
     free = words.index("--") if "--" in words else len(words)
@@ -117,7 +117,7 @@ def answer_virtual(text, name):
 
 
 def answer_update(text, old, new, seed, steps, packet):
-    """C1, C2, C3 to C7 of OLD, then of NEW, C8 of both together, C9 and C10. New tags are numbered behind the old ones."""
+    """C1, C2, C3 to C7 of OLD, then of NEW, C8 of both together, C9 and C10. New tags stand behind the old ones."""
     program, *both = chosen(text, old, new)
     sides, tags = [], [0]
     for policy in both:
@@ -141,8 +141,8 @@ def answer_update(text, old, new, seed, steps, packet):
 def sides_of(program, *names):
     """Two policies, or the question of a query and `drop`: C1 of any name, then C14 of the predicates, then C13.
 
-    README: "The question of `apart` is A, the policy and B in sequence. That of `waypoint` is A, then the complement of W,
-    then the policy with the complement of W before each dup .., then the complement of W again, then B".
+    README: "The question of `apart` is A, the policy and B in sequence. That of `waypoint` is A, then the complement of
+    W, then the policy with the complement of W before each dup .., then the complement of W again, then B".
     """
     policy, *others = refusals.policies(program, *names)
     if not others[1:]:
@@ -176,7 +176,7 @@ def answer_check(text, *names):
     return (0 if said == "valid" else 1), [said]
 
 
-# ---------------------------------------------------------------------------- packets through tables, generated networks
+# -------------------------------------------------------------------- packets through tables, generated networks
 
 
 def answer_followed(follow, text, *arguments):
