@@ -146,9 +146,8 @@ class Runs:
     """
 
     def __init__(self, *policies):
-        numbers = count(1)
-        numbered = lambda leaf: Policy("dup", next(numbers)) if leaf == DUP else leaf
-        self.sides = [mapped(parted(it), numbered) for it in policies]
+        dups = (Policy("dup", number) for number in count(1))
+        self.sides = [mapped(parted(it), lambda leaf: next(dups) if leaf == DUP else leaf) for it in policies]
         self.split = len(rests(self.sides[0]))  # the last position of the left side
         self.rests = {number: rest for side in self.sides for number, rest in rests(side).items()}
         self.known = {}
