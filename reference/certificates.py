@@ -19,7 +19,8 @@ class Judge:
         self.everything = tuple((0, largest) for _, largest in program.fields)
 
     def answer(self):
-        """README: "the first row that fails, the start row being row 1, and the first part in which it fails"."""
+        """REFERENCE, Certificates: "the first row that fails, the start row being row 1, and the first part in which it
+        fails"."""
         for number, (positions, predicate) in enumerate(self.rows.items(), 1):
             part = self.failing_part(positions, predicate)
             if part != "valid":
@@ -27,9 +28,9 @@ class Judge:
         return "valid"
 
     def failing_part(self, positions, predicate):
-        """The first part that the row fails. README: "Four things are asked of each row, in this order"."""
+        """The first part that fails. REFERENCE, Certificates: "Four things are asked of each row, in this order"."""
         if not self.runs.rests.keys() >= positions:
-            return "position"  # README: "its numbers are dups of the policies"
+            return "position"  # REFERENCE, Certificates: "its numbers are dups of the policies"
         found, packets = {"valid"}, [self.everything]
         while packets and "start" not in found:
             x = packets.pop()
@@ -44,15 +45,17 @@ class Judge:
     def part_at(self, positions, predicate, x):
         """The first part that the row fails at a packet."""
         if not keeps(predicate, x):
-            return "valid" if positions else "start"  # README: "the start row has all packets"
+            return "valid" if positions else "start"  # REFERENCE, Certificates: "the start row has all packets"
         at = positions or START
         left, right, nexts = self.runs.ends(at, x, 0), self.runs.ends(at, x, 1), self.runs.nexts(at, x)
         tell_apart(left | right)
         tell_apart(nexts)
         if left != right:
-            return "finals"  # README: "both policies end at the same packets without a record"
+            return "finals"  # REFERENCE, Certificates: "both policies end at the same packets without a record"
+        # REFERENCE, Certificates: "some row has exactly the numbers of the dups that record it, and that row's
+        # predicate has the recorded packet".
         met = [numbers in self.rows and keeps(self.rows[numbers], y) for y, numbers in nexts.items()]
-        return "valid" if all(met) else "hop"  # README: "some row has exactly the numbers of the dups .."
+        return "valid" if all(met) else "hop"
 
 
 def tell_apart(packets):

@@ -4,7 +4,7 @@ from network import draws
 
 
 def generated(size, seed):
-    """README, The commands: the text of a generated network of so many switches with its policies."""
+    """README, The commands: "the text of a generated network of SIZE switches with its policies"."""
     drawn = draws(seed)
     homes = {i: 281474000000000 + 1000 * i + next(drawn) % 1000 for i in range(1, size + 1)}
     chords = {}

@@ -54,7 +54,7 @@ class Space:
         return list(product(*[[fixed[f]] if f in fixed else its for f, its in enumerate(self.intervals)]))
 
     def located(self):
-        """GLOSSARY: the packets without tag on a declared port."""
+        """GLOSSARY, start packet: "a located untagged packet in range"; located: "at a declared port"."""
         found = [self.packets({0: (a, a), 1: (m, m), self.program.tag: (0, 0)}) for a, m in places(self.program)]
         return sorted(x for its in found for x in its)
 
@@ -142,7 +142,8 @@ START = frozenset({0})
 class Runs:
     """The runs of one policy, or of two that are compared, from packet to recorded packet.
 
-    GLOSSARY, position: 0 is the start, l is behind dup l. The right policy's dups are numbered on from the left one's.
+    GLOSSARY, position: "0 at the start, l behind the `dup` with the number l"; either_of: "the right one's dups
+    numbered on from the left one's".
     """
 
     def __init__(self, *policies):
@@ -202,7 +203,7 @@ class Runs:
         return None
 
     def first_difference(self, starts, first=START):
-        """README, Done: "the least history that one of them alone has, with its start and its side": 0 or 1."""
+        """PROMISES, nk_cert: "the least history that one of them alone has, with its start and its side": 0 or 1."""
 
         def alone(at, x):
             left, right = self.ends(at, x, 0), self.ends(at, x, 1)

@@ -24,7 +24,8 @@ def hop(tables, rows, records, packet):
 
 
 def trace(tables, hops, packet):
-    """README: "each history with which the packet leaves after at most HOPS link crossings"; the copies that fly on."""
+    """README, The commands: "each history with which the packet leaves after at most HOPS link crossings"; PROMISES,
+    Statuses 0 and 1, by command: "the number of copies that would make one crossing more"."""
     waiting, found, count = [((), packet)], [], 0
     for _ in range(hops + 1):
         went = [hop(tables, tables.rows.get(copy[0], []), records, copy) for records, copy in waiting]
@@ -39,14 +40,16 @@ def trace(tables, hops, packet):
 
 
 def draws(seed):
-    """README, fly: "the draw after x is 48271 * x modulo 2147483647"."""
+    """REFERENCE, Commands: "The draw after x is 48271 * x modulo 2147483647"."""
     while True:
         seed = 48271 * seed % 2147483647
         yield seed
 
 
 def fly(tables, seed, steps, packet):
-    """README, fly: "the copy is that draw modulo the number of copies in flight"; what crosses is appended."""
+    """REFERENCE, Commands: "the copy whose number is the next draw modulo the number of copies, counted from 0".
+    PROMISES, nk_flight: "each packet that is sent for it puts a copy, a history or, where it vanishes, nothing
+    behind the others"."""
     flying, left = [((), packet)], []
     for _, drawn in zip(range(steps), draws(seed)):
         if not flying:
@@ -75,21 +78,23 @@ class Update:
         self.done = {switch: 0 for switch in sorted(self.old.switches)}
 
     def rows(self, switch):
-        """GUIDE 5: "the new rows for tagged packets are added; the rows for packets without a tag are replaced; the old
-        rows for tagged packets are removed". A printed row matches the tag first."""
+        """GUIDE 5: "The new rows for tagged packets are added .. The rows for packets without a tag are replaced .. The
+        old rows for tagged packets are removed". A printed row matches the tag first."""
         old, new = self.old.rows.get(switch, []), self.new.rows.get(switch, [])
         old_tagged, new_tagged = ([row for row in rows if row.matches[0][1]] for rows in (old, new))
         return [old, old + new_tagged, old_tagged + new, new][self.done[switch]]
 
     def may(self, switch):
-        """GUIDE 5: "its second step once all have done the first, and its third once all have done the second and no
-        copy with an old tag is on its way"."""
+        """GUIDE 5: "A switch may do this step once all switches have done the first"; "once all switches have done the
+        second and no copy with an old tag is on its way"."""
         if self.done[switch] == 3 or min(self.done.values()) < self.done[switch]:
             return False
         return self.done[switch] < 2 or all(not 0 < copy[self.old.tag] <= self.old_tags for _, _, copy in self.flying)
 
     def turn(self, drawn, packet):
-        """GUIDE 5: "the packet comes in once more, or one copy is handled, or one switch does its next step"."""
+        """REFERENCE, Commands: "the action whose number is the next draw modulo n, counted from 0 .. First, PACKET
+        comes in. Then, for each copy in flight .. Last, for each switch that may do its next plan step, switches
+        ascending"."""
         steps = [switch for switch in self.done if self.may(switch)]
         action = drawn % (1 + len(self.flying) + len(steps))
         if action == 0:

@@ -21,7 +21,7 @@ def tree_of(space, tested, leaf, fixed):
 
 
 def else_child(parts):
-    """GLOSSARY, else-child: "the child with the most values of a field, on a tie the one of the least value"."""
+    """GLOSSARY, else-child: "the child with the most values of a field; on a tie the child of the least value"."""
     sizes = {}
     for low, high, child in parts:
         sizes[child] = sizes.get(child, 0) + high - low + 1
@@ -61,7 +61,8 @@ def predicate_text(fields, policy, outer=()):
 
 
 def certificate(space, runs):
-    """README: "a row for each set of numbers that runs come to, with exactly the packets at which they do"."""
+    """REFERENCE, Certificates: "a row for each set of numbers that runs come to, with exactly the packets at which they
+    do"."""
     met = {}
     for level in list(runs.levels(space.packets()))[1:]:
         for at, x in level:
@@ -82,7 +83,8 @@ def tag_sets(space, runs):
 
 
 def classes(space, policy, sets):
-    """README: "one tag for all tag sets behind which the same histories are left"; and what tells two tags apart."""
+    """README, The commands: "one tag for all tag sets behind which the same histories are left"; what tells two tags
+    apart."""
     runs = Runs(policy, policy)
     firsts, numbers, aparts = [], [], {}
     for at in sets:
@@ -125,7 +127,8 @@ class Compiled:
         return rows
 
     def tag_rows(self, switch, tag, members):
-        """README, compact: "the first one under which the packet is met there, else its first one"."""
+        """PROMISES, Statuses 0 and 1, by command: "the first one under which the packet is met there, else the class's
+        first one"."""
 
         def leaf(x):
             member = next((at for at in members if x in self.met.get(at, ())), members[0])
@@ -135,7 +138,8 @@ class Compiled:
         return [(tag, *row) for row in self.rows(tree, (), False)]
 
     def buckets(self, at, x):
-        """A bucket for each result; DECISIONS: "Bucket lists are ordered by act and then target"."""
+        """A bucket for each result. DECISIONS, Tables and their texts: "Bucket lists are ordered by act and then
+        target"."""
         results = [(y, 0) for y in self.runs.ends(at, x)]
         results += [(y, self.tags[to]) for y, to in self.runs.nexts(at, x).items() if to in self.tags]
         return tuple(sorted((tuple((f, y[f][0]) for f in self.matched if y[f] != x[f]), tag) for y, tag in results))
@@ -185,7 +189,8 @@ class Compiled:
 
 
 def blocks(low, high, largest):
-    """README, nk_prefix: "from the first value on the largest block of a power of two that begins there and fits"."""
+    """PROMISES, nk_prefix: "from the first value on, it takes the largest block of a power of two that begins there and
+    fits"."""
     digits, found = digits_of(largest), []
     top = 2**digits - 1 if low < high == largest else high
     while low <= high:

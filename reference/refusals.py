@@ -8,7 +8,8 @@ from texts import MOST_ELEMENTS
 
 
 class Refused(Exception):
-    """README, Answers: status 4: `refused CN: WORDS`, and further lines."""
+    """REFERENCE, Answers and statuses: status 4, "the policy, the packet or the query is refused": "`refused CN: ..`",
+    and further lines."""
 
 
 def packet_text(program, packet, with_tag=True):
@@ -41,7 +42,8 @@ def tagged(program):
 
 
 def check_by_sight(program, policy, links):
-    """README: "C2 to C6 are decided by the policy's text alone, also for parts of it that no packet can reach"."""
+    """REFERENCE, Which refusal comes first: "C2 to C6 are decided by the policy's text alone, also for parts of it that
+    no packet can reach"."""
     found = leaves(small(policy))
     if any(it[0] in ("test", "range", "set") and it[1] == program.tag for it in found):
         raise Refused("C3: tag used")
@@ -54,7 +56,8 @@ def check_by_sight(program, policy, links):
 
 
 def check_edges(space, runs):
-    """README, C7: "a packet without tag on a declared port has a history that ends at no edge port".
+    """REFERENCE, Refusals and faults, C7: "A packet without tag on a declared port has a history that ends at no edge
+    port".
 
     GUIDE 1: "Edge ports are the declared ports at which no link begins".
     """
@@ -65,14 +68,16 @@ def check_edges(space, runs):
 
 
 def few(program, count):
-    """README, C8: "the policy needs more tags than the tag has values above 0 ..; N is one more than that"."""
+    """REFERENCE, Refusals and faults, C8: "The policy needs more tags than the tag has values above 0 .. N is one more
+    than the number of those values"."""
     most = program.fields[program.tag][1]
     if count > most:
         raise Refused(f"C8: too many tags, found {most + 1}")
 
 
 def packet_of(program, text):
-    """README, C9: "an item of the packet is wrong or missing, or there is one too many"; C10: "at no declared port"."""
+    """REFERENCE, Refusals and faults, C9: "An item of the packet is wrong or missing, or there is one too many"; C10:
+    "The packet stands at no declared port"."""
     wanted = [f for f in range(len(program.fields)) if f != program.tag]
     items, packet = text.split(","), [0] * len(program.fields)
     for place in range(max(len(wanted), len(items))):
@@ -87,8 +92,9 @@ def packet_of(program, text):
 
 
 def check_carried(program, source):
-    """README, C11: a packet without tag at the link's source "has a history of the link's fabric that ends elsewhere
-    than at the packet moved to the port where the link ends"; C12: it "has no history of the link's fabric"."""
+    """REFERENCE, Refusals and faults, C11: "A packet without tag at port M of switch A, where a virtual link begins,
+    has a history of the link's fabric that ends elsewhere than at the packet moved to the port where the link ends";
+    C12: such a packet "has no history of the link's fabric"."""
     (a, m), (b, n, name) = source, program.virtuals[source]
     fabric, where = program.fabrics[name], f"{a}:{m}"
     space, runs = Space(program, fabric, with_ports=True), Runs(fabric)
@@ -103,14 +109,15 @@ def check_carried(program, source):
 
 
 def few_elements(policy):
-    """README, C13: "more than 1,048,576 elements"."""
+    """REFERENCE, Refusals and faults, C13: "more than 1,048,576 elements"."""
     if policy.size > MOST_ELEMENTS:
         raise Refused("C13: expanded too large")
     return policy
 
 
 def physical(program, policy):
-    """README, C13: "the policy with a test of switch and port and the fabric in the place of each literal"."""
+    """REFERENCE, Refusals and faults, C13: "the policy with a test of switch and port and the fabric in the place of
+    each literal"."""
 
     def fabric(leaf):
         if leaf[0] != "link":

@@ -22,7 +22,7 @@ class TableRow(NamedTuple):
 
 
 def digits_of(largest):
-    """DECISIONS: a field has as many binary digits as its largest value, at least one."""
+    """REFERENCE, Table texts: "A field has as many binary digits as its largest value, at least one"."""
     return max(1, largest.bit_length())
 
 
@@ -30,8 +30,8 @@ def digits_of(largest):
 
 
 def parse_tables(text):
-    """README, faults: `table fault`: a table text breaks a rule of tables; the line of the first number or name at
-    fault; of the last token where no tag is declared."""
+    """REFERENCE, Refusals and faults: "A table text breaks a rule of tables"; "of the first number or name at fault ..
+    of the last token where no tag is declared"."""
     tokens = tokens_of(text)
     _, version, *declarations = Reader(tokens).whole("table-text")
     tables = Tables(version)
@@ -117,8 +117,8 @@ class Tables(Program):
 
 
 def emitted(tables, rows, packet):
-    """GUIDE 4: "Of all rows that match a packet, the one with the highest priority acts. If none matches, the packet is
-    dropped". README, nk_table: "a tie drops"."""
+    """GUIDE 4: "Of all rows that match a packet, the row with the highest priority acts. If no row matches, the packet
+    is dropped". PROMISES, nk_table: "a tie drops"."""
     matching = [row for row in rows if all(agrees(tables, it, packet) for it in row.matches)]
     highest = max((row.priority for row in matching), default=None)
     acting = [row for row in matching if row.priority == highest]
@@ -126,14 +126,14 @@ def emitted(tables, rows, packet):
 
 
 def agrees(tables, match, packet):
-    """GUIDE 4: "A match `f=v/len` is for all values whose first len binary digits are those of v"."""
+    """GUIDE 4: "A match `f=v/len`, a *prefix*, is for all values whose first len binary digits are those of v"."""
     f, value, length = match
     rest = digits_of(tables.fields[f][1]) - length
     return packet[f] >> rest == value >> rest
 
 
 def sent(bucket, packet):
-    """README, nk_table: "a copy goes back by `out in` alone", by the number of its own port nothing is sent."""
+    """PROMISES, nk_table: "a copy goes back by `out in` alone", by the number of its own port nothing is sent."""
     if bucket.port == packet[1]:
         return []
     copy = packet if bucket.port is None else put(packet, 1, bucket.port)

@@ -12,15 +12,15 @@ from policies import DROP, DUP, ID, Policy, mapped
 
 sys.setrecursionlimit(20000)
 
-LARGEST = 281_474_976_710_655  # README, faults: `number too large`: a number is above 281,474,976,710,655
-LARGEST_PORT = 65_535  # README, faults: `value out of range`: .. or above 65,535 for switches and ports
-MOST_FIELDS = 16  # README, faults: `too many fields`: sixteen fields are declared above
-MOST_DEEP = 256  # README, faults: `too deep`: more than 256 `(` and `~` are open at once; or a policy is .. deep
-MOST_ELEMENTS = 1_048_576  # README, faults: `too large`: a policy .. has more than 1,048,576 elements
+LARGEST = 281_474_976_710_655  # REFERENCE, Refusals and faults: "A number is above 281,474,976,710,655"
+LARGEST_PORT = 65_535  # REFERENCE, Refusals and faults: "A number is .. above 65,535 for switches and ports"
+MOST_FIELDS = 16  # REFERENCE, Refusals and faults: "Sixteen fields are declared above"
+MOST_DEEP = 256  # REFERENCE, Limits: "`(` and `~` that are open at once, depth of a policy with its names written out"
+MOST_ELEMENTS = 1_048_576  # REFERENCE, Refusals and faults: "A policy .. has more than 1,048,576 elements"
 
 
 class Fault(Exception):
-    """README, Answers: status 3, the text has a fault: `line N: WORDS`."""
+    """REFERENCE, Answers and statuses: status 3, "the text has a fault": "`line N: ..`"."""
 
     def __init__(self, line, words):
         super().__init__(line, words)
@@ -35,10 +35,11 @@ def demand(holds, token, words):
 
 # ------------------------------------------------------------------------------------------------- bytes to tokens
 
-# GUIDE 2: "These words can't be names".
+# REFERENCE, Program texts: "These words can't be names".
 KEYWORDS = "field tag switch ports link let certificate row start id drop dup".split()
 KEYWORDS += "tables table group out in virtual fabric by".split()
-# GUIDE 1: "What follows `#` on a line is a comment; spaces and line ends are free". The longest symbol is taken.
+# REFERENCE, Program texts: "Spaces, tabs, carriage returns, line feeds and comments stand between tokens; a comment
+# goes from `#` to the end of the line"; "each lexeme is as long as it can be".
 LEXEME = re.compile(
     rb"(?P<space>[ \t\r\n]+|\#[^\n]*)|(?P<NAME>[A-Za-z_][A-Za-z0-9_]*)|(?P<NUMBER>[0-9]+)"
     rb"|(?P<symbol>:=|=>|->|\.\.|[+;*~()=:,\[\]/])"
@@ -142,7 +143,8 @@ class Reader:
         return found if self.place == len(self.tokens) else self.unexpected()
 
     def unexpected(self):
-        """README, faults: "no valid text can continue with this token"; at the end, of "the last token, or 1"."""
+        """REFERENCE, Refusals and faults: "No valid text can continue with this token"; "at the end of the text, of the
+        last token, or 1"."""
         raise Fault(([1] + [it.line for it in self.tokens[: self.place + 1]])[-1], "unexpected")
 
     def can_be(self, items):
@@ -236,7 +238,8 @@ class Program:
         return port in self.switches.get(switch, ())
 
     def declare(self, declaration):
-        """One more declaration, or its first fault in the order of README, faults."""
+        """One more declaration, or its first fault. DECISIONS, Readings: "A link's faults come in the order of its
+        checks"; "The faults of a virtual link come in the order of a link's"."""
         match declaration:
             case ["field", name, largest]:
                 demand(self.find(name) is None, name, "field twice")
@@ -257,7 +260,7 @@ class Program:
             case ["virtual", ends, "by", name]:
                 self.add_link(self.virtuals, *ends, name)
                 demand(name in self.fabrics, name, "unknown name")
-            case [word, name, "=", tree]:  # GUIDE 3: a fabric is a policy whose name is known to virtual links alone
+            case [word, name, "=", tree]:  # GUIDE 3: "Only virtual links know the names of fabrics"
                 policies = self.lets if word == "let" else self.fabrics
                 demand(name not in policies, name, "let twice")
                 policies[name] = policy = mapped(tree, lambda leaf: self.written(leaf, self.lets))

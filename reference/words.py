@@ -17,13 +17,14 @@ from refusals import Refused, found_lines, history_text
 from tables import parse_tables
 from texts import LARGEST_PORT, Fault, parse_certified, parse_program
 
-MOST_BYTES = 16_777_216  # README, Answers: status 8: the text has more than 16,777,216 bytes
-# README, The commands; GUIDE 8: a number out of its range is a usage fault.
+MOST_BYTES = 16_777_216  # REFERENCE, Answers and statuses: status 8, "the text has more than 16,777,216 bytes"
+# REFERENCE, Commands: "a number of link crossings, 0 to 65,535", and so on; Refusals and faults, usage: "a number is
+# out of its range".
 HOPS, STEPS, SIZE, SEED = (0, LARGEST_PORT), (0, 1_000_000), (2, 1_000), (1, 2_147_483_646)
 
 
 class Usage(Exception):
-    """README, Answers: status 2: the words are no command."""
+    """REFERENCE, Answers and statuses: status 2, "the words are no command"."""
 
 
 def command_of(words):
@@ -141,8 +142,9 @@ def answer_update(text, old, new, seed, steps, packet):
 def sides_of(program, *names):
     """Two policies, or the question of a query and `drop`: C1 of any name, then C14 of the predicates, then C13.
 
-    README: "The question of `apart` is A, the policy and B in sequence. That of `waypoint` is A, then the complement of
-    W, then the policy with the complement of W before each dup .., then the complement of W again, then B".
+    REFERENCE, Queries: "The question of `apart` is A, the policy and B in sequence"; "The question of `waypoint` is A,
+    then the complement of W, then the policy with the complement of W before each dup, then the complement of W again,
+    then B".
     """
     policy, *others = refusals.policies(program, *names)
     if not others[1:]:
